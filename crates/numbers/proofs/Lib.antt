@@ -1,0 +1,12 @@
+pub mod DoubleLaws
+pub mod IntLaws
+pub mod IntMag
+pub mod IntQuot
+pub mod IntSums
+pub mod OrderLaws
+pub mod PointLaws
+pub mod Shift
+pub mod SignedOrder
+pub mod SizeLaws
+pub mod UintLaws
+pub mod WholeLaws

@@ -1,0 +1,48 @@
+-- The laws of arithmetic on Uint: what a caller cites, so that no proof above opens a definition. Assumes nothing.
+use mathlib.Core.Path.{_≡_, refl}
+use mathlib.Core.Bool.{Bool, true, false, cond}
+use Prim.Native.Nat.{ℕ, _^_, _≤_, _<_}
+use lib.Dec.{ltb}
+use borrow.Author.Tests.{lt-ltb, le-ltb, ltb-false}
+use Rattle.numbers.specs.declared.error.ArithmeticError.{ArithmeticError}
+use Rattle.numbers.specs.declared.error.ArithmeticError.the-variants.{Overflow, DivisionByZero, RemainderByZero}
+use Rattle.numbers.specs.declared.uint.UintAnswer.{UintAnswer}
+use Rattle.numbers.specs.declared.uint.UintAnswer.the-variants.{Value, Error}
+use Rattle.numbers.specs.Uint.{answer, divOf, remOf}
+
+-- ---- in range and out of range
+
+pub answer-in : (n : ℕ) → n < 2 ^ 64 → answer n ≡ Value n
+unfolding answer
+answer-in n h = rw (lt-ltb n (2 ^ 64) h)
+
+pub answer-out : (n : ℕ) → 2 ^ 64 ≤ n → answer n ≡ Error Overflow
+unfolding answer
+answer-out n h = rw (le-ltb n (2 ^ 64) h)
+
+-- the other way round: what the answer says of the exact result
+pub value-is : (p n : ℕ) → Value p ≡ answer n → p ≡ n
+unfolding answer
+value-is p n e = go (ltb n (2 ^ 64)) e
+  where
+    go : (t : Bool) → Value p ≡ cond t (Value n) (Error Overflow) → p ≡ n
+    go true h = cc
+    go false h = cc
+
+pub error-is : (e : ArithmeticError) (n : ℕ) → Error e ≡ answer n → 2 ^ 64 ≤ n
+unfolding answer
+error-is e n h = go (ltb n (2 ^ 64)) (ltb-false n (2 ^ 64)) h
+  where
+    go : (t : Bool) → (t ≡ false → 2 ^ 64 ≤ n) → Error e ≡ cond t (Value n) (Error Overflow) → 2 ^ 64 ≤ n
+    go true k h = let z : _≡_ {A = Bool} true false = cc in k (cc)
+    go false k h = k refl
+
+-- ---- a zero divisor
+
+pub div-zero : (a : ℕ) → divOf a 0 ≡ Error DivisionByZero
+unfolding divOf
+div-zero a = refl
+
+pub rem-zero : (a : ℕ) → remOf a 0 ≡ Error RemainderByZero
+unfolding remOf
+rem-zero a = refl

@@ -1,0 +1,22 @@
+-- `int::positive` meets its contract. Assumes nothing.
+use mathlib.Core.Path.{_≡_, sym}
+use native.Mathlib.Omega.{arith}
+use lib.IntN.{pos}
+use mir.Syntax.{w64}
+use mir.ValLaws.{toZ-pos}
+use borrow.Author.Needs.{needs}
+use Rattle.numbers.proofs.IntLaws.{answer-in, answer-out}
+use Rattle.numbers.proofs.int.positive.Statement.{statement}
+use Rattle.numbers.proofs.int.positive.Tie as tie
+
+cast-t4 : tie.Need-cast-t4
+cast-t4 c = search needs
+
+returns : tie.Need-returns
+returns c = rw (toZ-pos w64 (c .before .args .size) (c .if1 .taken)) (sym (answer-in (pos (c .before .args .size)) (c .if1 .taken)))
+
+returns-2 : tie.Need-returns-2
+returns-2 c = sym (answer-out (pos (c .before .args .size)) (c .if1 .left))
+
+pub positive-spec : {M : Type 1} → statement M
+positive-spec = tie.close (tie.spec cast-t4 returns returns-2)

@@ -1,0 +1,76 @@
+-- `int::sub` meets its contract: the arithmetic is `IntSums`'s. Assumes nothing.
+use mathlib.Core.Path.{_≡_, sym}
+use mathlib.Core.Bool.{true, false}
+use lib.IntN.{pos, _+ℤ_, _-ℤ_}
+use lib.Signed.{ltZ}
+use mir.Syntax.{w64}
+use mir.Val.{SFits}
+use mir.ValLaws.{toZ-ofZ}
+use borrow.Author.Needs.{sfits-of}
+use Rattle.numbers.specs.Int.{subOf}
+use Rattle.numbers.proofs.IntLaws.{answer-in, answer-out}
+use Rattle.numbers.proofs.IntSums.{MIN, MAX, max-add, min-add, sub-high, sub-ok-high, sub-low, sub-ok-low}
+use Rattle.numbers.proofs.int.sub.Statement.{statement}
+use Rattle.numbers.proofs.int.sub.Tie as tie
+
+-- the tests, over ℤ
+negative : (c : tie.Then1) → ltZ (c .before .args .b) (pos 0) ≡ true
+negative c = rw (toZ-ofZ w64 (c .before .args .b) (c .before .fits .b)) at (c .if1 .taken)
+
+positive : (c : tie.Else1) → ltZ (c .before .args .b) (pos 0) ≡ false
+positive c = rw (toZ-ofZ w64 (c .before .args .b) (c .before .fits .b)) at (c .if1 .left)
+
+limit1 : (c : tie.Then1) → SFits w64 (MAX +ℤ c .before .args .b)
+limit1 c = let s = c .before in sfits-of (max-add (s .args .a) (s .args .b) (s .fits .a .sfits) (s .fits .b .sfits) (negative c))
+
+limit2 : (c : tie.Else1) → SFits w64 (MIN +ℤ c .before .args .b)
+limit2 c = let s = c .before in sfits-of (min-add (s .args .a) (s .args .b) (s .fits .a .sfits) (s .fits .b .sfits) (positive c))
+
+out1 : (c : tie.Then2) → ltZ (MAX +ℤ c .before .before .args .b) (c .before .before .args .a) ≡ true
+out1 c = let s = c .before .before in simp (toZ-ofZ w64 (s .args .b) (s .fits .b), toZ-ofZ w64 (s .args .a) (s .fits .a), toZ-ofZ w64 (MAX +ℤ s .args .b) (limit1 (c .before))) at (c .if2 .taken)
+
+in1 : (c : tie.Else2) → ltZ (MAX +ℤ c .before .before .args .b) (c .before .before .args .a) ≡ false
+in1 c = let s = c .before .before in simp (toZ-ofZ w64 (s .args .b) (s .fits .b), toZ-ofZ w64 (s .args .a) (s .fits .a), toZ-ofZ w64 (MAX +ℤ s .args .b) (limit1 (c .before))) at (c .if2 .left)
+
+out2 : (c : tie.Then3) → ltZ (c .before .before .args .a) (MIN +ℤ c .before .before .args .b) ≡ true
+out2 c = let s = c .before .before in simp (toZ-ofZ w64 (s .args .b) (s .fits .b), toZ-ofZ w64 (s .args .a) (s .fits .a), toZ-ofZ w64 (MIN +ℤ s .args .b) (limit2 (c .before))) at (c .if3 .taken)
+
+in2 : (c : tie.Else3) → ltZ (c .before .before .args .a) (MIN +ℤ c .before .before .args .b) ≡ false
+in2 c = let s = c .before .before in simp (toZ-ofZ w64 (s .args .b) (s .fits .b), toZ-ofZ w64 (s .args .a) (s .fits .a), toZ-ofZ w64 (MIN +ℤ s .args .b) (limit2 (c .before))) at (c .if3 .left)
+
+fits1 : (c : tie.Else2) → SFits w64 (c .before .before .args .a -ℤ c .before .before .args .b)
+fits1 c = let s = c .before .before in sfits-of (sub-ok-high (s .args .a) (s .args .b) (s .fits .a .sfits) (s .fits .b .sfits) (negative (c .before)) (in1 c))
+
+fits2 : (c : tie.Else3) → SFits w64 (c .before .before .args .a -ℤ c .before .before .args .b)
+fits2 c = let s = c .before .before in sfits-of (sub-ok-low (s .args .a) (s .args .b) (s .fits .a .sfits) (s .fits .b .sfits) (positive (c .before)) (in2 c))
+
+add-if2 : tie.Need-add-if2
+add-if2 c = rw (toZ-ofZ w64 (c .before .args .b) (c .before .fits .b)) (limit1 c)
+
+sub-t9 : tie.Need-sub-t9
+sub-t9 c = let s = c .before .before in rw (toZ-ofZ w64 (s .args .a) (s .fits .a), toZ-ofZ w64 (s .args .b) (s .fits .b)) (fits1 c)
+
+add-if3 : tie.Need-add-if3
+add-if3 c = rw (toZ-ofZ w64 (c .before .args .b) (c .before .fits .b)) (limit2 c)
+
+sub-t14 : tie.Need-sub-t14
+sub-t14 c = let s = c .before .before in rw (toZ-ofZ w64 (s .args .a) (s .fits .a), toZ-ofZ w64 (s .args .b) (s .fits .b)) (fits2 c)
+
+returns : tie.Need-returns
+unfolding subOf
+returns c = let s = c .before .before in sym (answer-out _ (sub-high (s .args .a) (s .args .b) (s .fits .a .sfits) (s .fits .b .sfits) (negative (c .before)) (out1 c)))
+
+returns-2 : tie.Need-returns-2
+unfolding subOf
+returns-2 c = let s = c .before .before in simp (toZ-ofZ w64 (s .args .a) (s .fits .a), toZ-ofZ w64 (s .args .b) (s .fits .b), toZ-ofZ w64 (s .args .a -ℤ s .args .b) (fits1 c)) (sym (answer-in _ (fits1 c .sfits)))
+
+returns-3 : tie.Need-returns-3
+unfolding subOf
+returns-3 c = let s = c .before .before in sym (answer-out _ (sub-low (s .args .a) (s .args .b) (s .fits .a .sfits) (s .fits .b .sfits) (positive (c .before)) (out2 c)))
+
+returns-4 : tie.Need-returns-4
+unfolding subOf
+returns-4 c = let s = c .before .before in simp (toZ-ofZ w64 (s .args .a) (s .fits .a), toZ-ofZ w64 (s .args .b) (s .fits .b), toZ-ofZ w64 (s .args .a -ℤ s .args .b) (fits2 c)) (sym (answer-in _ (fits2 c .sfits)))
+
+pub sub-spec : {M : Type 1} → statement M
+sub-spec = tie.close (tie.spec add-if2 sub-t9 add-if3 sub-t14 returns returns-2 returns-3 returns-4)

@@ -1,0 +1,97 @@
+// Double: 64 bits, and arithmetic on the float that they stand for.
+// The logic's floats have one NaN, without bits, so a NaN with bits of its own is a case of its own.
+ghost use mathlib.Core.Path.{_≡_};
+ghost use lib.Ieee.{binary64, toBits, ofBits};
+ghost use Rattle.numbers.specs.Double.{bitsOf, doubleOf, addOf, subOf, mulOf, divOf, negOf};
+
+pub enum Double {
+    // Every number and infinity. (A float NaN here stands for the NaN that arithmetic gives.)
+    Plain(f64),
+    // The bits of a NaN.
+    Nan(u64),
+}
+
+// The NaN that arithmetic gives.
+const ARITHMETIC_NAN: u64 = 0x7FF8_0000_0000_0000;
+
+pub fn from_bits(bits: u64) -> Double
+    ensures { λ r. ⌜ r ≡ doubleOf bits ⌝ }
+{
+    if 0x7FF0_0000_0000_0000 < bits % 0x8000_0000_0000_0000 {
+        Double::Nan(bits)
+    } else {
+        Double::Plain(f64::from_bits(bits))
+    }
+}
+
+pub fn to_bits(x: Double) -> u64
+    ensures { λ r. ⌜ r ≡ bitsOf x ⌝ }
+{
+    match x {
+        Double::Plain(f) => {
+            if f != f {
+                ARITHMETIC_NAN
+            } else {
+                f64::to_bits(f)
+            }
+        }
+        Double::Nan(bits) => bits,
+    }
+}
+
+// The float that a Double stands for, whatever bits a NaN has.
+fn float_of(x: Double) -> f64
+    ensures { λ r. ⌜ r ≡ ofBits binary64 (bitsOf x) ⌝ }
+{
+    match x {
+        Double::Plain(f) => f,
+        Double::Nan(bits) => {
+            if 0x7FF0_0000_0000_0000 < bits % 0x8000_0000_0000_0000 {
+                0.0 / 0.0
+            } else {
+                f64::from_bits(bits)
+            }
+        }
+    }
+}
+
+// The Double of a float that arithmetic gave.
+fn double_of(f: f64) -> Double
+    ensures { λ r. ⌜ r ≡ doubleOf (toBits binary64 f) ⌝ }
+{
+    if f != f {
+        Double::Nan(ARITHMETIC_NAN)
+    } else {
+        Double::Plain(f)
+    }
+}
+
+pub fn add(x: Double, y: Double) -> Double
+    ensures { λ r. ⌜ r ≡ addOf x y ⌝ }
+{
+    double_of(float_of(x) + float_of(y))
+}
+
+pub fn sub(x: Double, y: Double) -> Double
+    ensures { λ r. ⌜ r ≡ subOf x y ⌝ }
+{
+    double_of(float_of(x) - float_of(y))
+}
+
+pub fn mul(x: Double, y: Double) -> Double
+    ensures { λ r. ⌜ r ≡ mulOf x y ⌝ }
+{
+    double_of(float_of(x) * float_of(y))
+}
+
+pub fn div(x: Double, y: Double) -> Double
+    ensures { λ r. ⌜ r ≡ divOf x y ⌝ }
+{
+    double_of(float_of(x) / float_of(y))
+}
+
+pub fn neg(x: Double) -> Double
+    ensures { λ r. ⌜ r ≡ negOf x ⌝ }
+{
+    double_of(-float_of(x))
+}

@@ -1,0 +1,145 @@
+// Checked arithmetic on Int, an `i64`.
+ghost use mathlib.Core.Path.{_≡_};
+ghost use lib.IntN.{pos, negℤ, natAbs};
+ghost use Rattle.numbers.specs.Int.{answer, addOf, subOf, mulOf, negOf, divOf, remOf};
+use crate::error::ArithmeticError;
+use crate::uint::UintAnswer;
+
+pub enum IntAnswer {
+    Value(i64),
+    Error(ArithmeticError),
+}
+
+const MIN: i64 = -9223372036854775808;
+
+const MAX: i64 = 9223372036854775807;
+
+pub fn add(a: i64, b: i64) -> IntAnswer
+    ensures { λ r. ⌜ r ≡ addOf a b ⌝ }
+{
+    if b < 0 {
+        if a < MIN - b {
+            IntAnswer::Error(ArithmeticError::Overflow)
+        } else {
+            IntAnswer::Value(a + b)
+        }
+    } else {
+        if MAX - b < a {
+            IntAnswer::Error(ArithmeticError::Overflow)
+        } else {
+            IntAnswer::Value(a + b)
+        }
+    }
+}
+
+pub fn sub(a: i64, b: i64) -> IntAnswer
+    ensures { λ r. ⌜ r ≡ subOf a b ⌝ }
+{
+    if b < 0 {
+        if MAX + b < a {
+            IntAnswer::Error(ArithmeticError::Overflow)
+        } else {
+            IntAnswer::Value(a - b)
+        }
+    } else {
+        if a < MIN + b {
+            IntAnswer::Error(ArithmeticError::Overflow)
+        } else {
+            IntAnswer::Value(a - b)
+        }
+    }
+}
+
+pub fn neg(a: i64) -> IntAnswer
+    ensures { λ r. ⌜ r ≡ negOf a ⌝ }
+{
+    if a == MIN {
+        IntAnswer::Error(ArithmeticError::Overflow)
+    } else {
+        IntAnswer::Value(-a)
+    }
+}
+
+// The size of a number, without its sign: -2 ^ 63 has one too.
+pub fn magnitude(a: i64) -> u64
+    ensures { λ r. ⌜ r ≡ natAbs a ⌝ }
+{
+    if a < 0 {
+        ((-(a + 1)) as u64) + 1
+    } else {
+        a as u64
+    }
+}
+
+// The answer for the exact result `size`, and for -`size`.
+fn positive(size: u64) -> IntAnswer
+    ensures { λ r. ⌜ r ≡ answer (pos size) ⌝ }
+{
+    if size < 9223372036854775808 {
+        IntAnswer::Value(size as i64)
+    } else {
+        IntAnswer::Error(ArithmeticError::Overflow)
+    }
+}
+
+fn negative(size: u64) -> IntAnswer
+    ensures { λ r. ⌜ r ≡ answer (negℤ (pos size)) ⌝ }
+{
+    if size == 0 {
+        IntAnswer::Value(0)
+    } else if size <= 9223372036854775808 {
+        IntAnswer::Value(-((size - 1) as i64) - 1)
+    } else {
+        IntAnswer::Error(ArithmeticError::Overflow)
+    }
+}
+
+// The sizes are multiplied, then the sign is put back.
+pub fn mul(a: i64, b: i64) -> IntAnswer
+    ensures { λ r. ⌜ r ≡ mulOf a b ⌝ }
+{
+    let UintAnswer::Value(size) = crate::uint::mul(magnitude(a), magnitude(b)) else {
+        return IntAnswer::Error(ArithmeticError::Overflow);
+    };
+    if a < 0 {
+        if b < 0 {
+            positive(size)
+        } else {
+            negative(size)
+        }
+    } else {
+        if b < 0 {
+            negative(size)
+        } else {
+            positive(size)
+        }
+    }
+}
+
+pub fn div(a: i64, b: i64) -> IntAnswer
+    ensures { λ r. ⌜ r ≡ divOf a b ⌝ }
+{
+    if b == 0 {
+        IntAnswer::Error(ArithmeticError::DivisionByZero)
+    } else if b == -1 {
+        neg(a)
+    } else {
+        IntAnswer::Value(a / b)
+    }
+}
+
+pub fn rem(a: i64, b: i64) -> IntAnswer
+    ensures { λ r. ⌜ r ≡ remOf a b ⌝ }
+{
+    if b == 0 {
+        IntAnswer::Error(ArithmeticError::RemainderByZero)
+    } else if b == -1 {
+        if a == MIN {
+            IntAnswer::Error(ArithmeticError::Overflow)
+        } else {
+            IntAnswer::Value(0)
+        }
+    } else {
+        IntAnswer::Value(a % b)
+    }
+}
