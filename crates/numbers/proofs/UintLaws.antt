@@ -3,12 +3,12 @@ use mathlib.Core.Path.{_≡_, refl}
 use mathlib.Core.Bool.{Bool, true, false, cond}
 use Prim.Native.Nat.{ℕ, _^_, _≤_, _<_}
 use lib.Dec.{ltb}
-use borrow.Author.Tests.{lt-ltb, le-ltb, ltb-false}
+use borrow.Author.Tests.{lt-ltb, le-ltb, ltb-false, eq-eqb, ne-eqb}
 use Rattle.numbers.specs.declared.error.ArithmeticError.{ArithmeticError}
-use Rattle.numbers.specs.declared.error.ArithmeticError.the-variants.{Overflow, DivisionByZero, RemainderByZero}
+use Rattle.numbers.specs.declared.error.ArithmeticError.the-variants.{Overflow}
 use Rattle.numbers.specs.declared.uint.UintAnswer.{UintAnswer}
 use Rattle.numbers.specs.declared.uint.UintAnswer.the-variants.{Value, Error}
-use Rattle.numbers.specs.Uint.{answer, divOf, remOf}
+use Rattle.numbers.specs.Uint.{answer, unlessZero}
 
 -- ---- in range and out of range
 
@@ -34,15 +34,15 @@ unfolding answer
 error-is e n h = go (ltb n (2 ^ 64)) (ltb-false n (2 ^ 64)) h
   where
     go : (t : Bool) → (t ≡ false → 2 ^ 64 ≤ n) → Error e ≡ cond t (Value n) (Error Overflow) → 2 ^ 64 ≤ n
-    go true k h = let z : _≡_ {A = Bool} true false = cc in k (cc)
+    go true k h = k (cc)
     go false k h = k refl
 
--- ---- a zero divisor
+-- ---- a zero divisor, and any other
 
-pub div-zero : (a : ℕ) → divOf a 0 ≡ Error DivisionByZero
-unfolding divOf
-div-zero a = refl
+pub zero-divisor : (b : ℕ) (e : ArithmeticError) (n : ℕ) → b ≡ 0 → unlessZero b e n ≡ Error e
+unfolding unlessZero
+zero-divisor b e n h = rw (eq-eqb b 0 h)
 
-pub rem-zero : (a : ℕ) → remOf a 0 ≡ Error RemainderByZero
-unfolding remOf
-rem-zero a = refl
+pub some-divisor : (b : ℕ) (e : ArithmeticError) (n : ℕ) → (b ≡ 0 → ⊥) → unlessZero b e n ≡ Value n
+unfolding unlessZero
+some-divisor b e n h = rw (ne-eqb b 0 h)

@@ -2,6 +2,7 @@
 use mathlib.Core.Bool.{cond}
 use Prim.Native.Nat.{ℕ, _+_, _-_, _*_, _/_, _%_, _^_}
 use lib.Dec.{leb, ltb, eqb}
+use Rattle.numbers.specs.declared.error.ArithmeticError.{ArithmeticError}
 use Rattle.numbers.specs.declared.error.ArithmeticError.the-variants.{Overflow, DivisionByZero, RemainderByZero}
 use Rattle.numbers.specs.declared.uint.UintAnswer.{UintAnswer}
 use Rattle.numbers.specs.declared.uint.UintAnswer.the-variants.{Value, Error}
@@ -19,8 +20,12 @@ subOf a b = cond (leb b a) (Value (a - b)) (Error Overflow)
 unfoldable pub mulOf : ℕ → ℕ → UintAnswer
 mulOf a b = answer (a * b)
 
+-- the exact result n, unless the divisor b is 0
+unfoldable pub unlessZero : ℕ → ArithmeticError → ℕ → UintAnswer
+unlessZero b e n = cond (eqb b 0) (Error e) (Value n)
+
 unfoldable pub divOf : ℕ → ℕ → UintAnswer
-divOf a b = cond (eqb b 0) (Error DivisionByZero) (Value (a / b))
+divOf a b = unlessZero b DivisionByZero (a / b)
 
 unfoldable pub remOf : ℕ → ℕ → UintAnswer
-remOf a b = cond (eqb b 0) (Error RemainderByZero) (Value (a % b))
+remOf a b = unlessZero b RemainderByZero (a % b)

@@ -61,7 +61,7 @@ pub fn neg(a: i64) -> IntAnswer
 }
 
 // The size of a number, without its sign: -2 ^ 63 has one too.
-pub fn magnitude(a: i64) -> u64
+pub(crate) fn magnitude(a: i64) -> u64
     ensures { λ r. ⌜ r ≡ natAbs a ⌝ }
 {
     if a < 0 {
