@@ -14,10 +14,15 @@ pub enum Double {
 // The NaN that arithmetic gives.
 const ARITHMETIC_NAN: u64 = 0x7FF8_0000_0000_0000;
 
+// Without the sign, a NaN's bits lie above those of the infinity.
+pub(crate) const INFINITY_BITS: u64 = 0x7FF0_0000_0000_0000;
+
+pub(crate) const SIGN_BIT: u64 = 0x8000_0000_0000_0000;
+
 pub fn from_bits(bits: u64) -> Double
     ensures { λ r. ⌜ r ≡ doubleOf bits ⌝ }
 {
-    if 0x7FF0_0000_0000_0000 < bits % 0x8000_0000_0000_0000 {
+    if INFINITY_BITS < bits % SIGN_BIT {
         Double::Nan(bits)
     } else {
         Double::Plain(f64::from_bits(bits))
@@ -35,7 +40,7 @@ pub fn to_bits(x: Double) -> u64
                 f64::to_bits(f)
             }
         }
-        Double::Nan(bits) => bits,
+        Double::Nan(pattern) => pattern,
     }
 }
 
@@ -45,11 +50,11 @@ fn float_of(x: Double) -> f64
 {
     match x {
         Double::Plain(f) => f,
-        Double::Nan(bits) => {
-            if 0x7FF0_0000_0000_0000 < bits % 0x8000_0000_0000_0000 {
+        Double::Nan(pattern) => {
+            if INFINITY_BITS < pattern % SIGN_BIT {
                 0.0 / 0.0
             } else {
-                f64::from_bits(bits)
+                f64::from_bits(pattern)
             }
         }
     }

@@ -7,6 +7,8 @@ ghost use Rattle.numbers.specs.Double.{sizeOf, pointOf};
 ghost use Rattle.numbers.specs.Order.{sizeOrder, signedOrder, orderOf, wholePoint, numberPoint, isEqual, flipped};
 ghost use Rattle.numbers.specs.Size.{cut};
 use crate::double::Double;
+use crate::double::INFINITY_BITS;
+use crate::double::SIGN_BIT;
 
 pub enum Number {
     Int(i64),
@@ -22,9 +24,8 @@ pub enum Order {
     Unordered,
 }
 
-const INFINITY_BITS: u64 = 0x7FF0_0000_0000_0000;
-
-const SIGN_BIT: u64 = 0x8000_0000_0000_0000;
+// The weight of the leading digit, which the bits of a normal Double leave out.
+const HIDDEN_DIGIT: u64 = 0x10_0000_0000_0000;
 
 fn flip(order: Order) -> Order
     ensures { λ r. ⌜ r ≡ flipped order ⌝ }
@@ -90,15 +91,15 @@ enum Size {
 fn size_of(bits: u64) -> Size
     ensures { λ r. ⌜ r ≡ cut (sizeOf bits) ⌝ }
 {
-    let exponent = bits % 0x8000_0000_0000_0000 / 0x10_0000_0000_0000;
-    let digits = bits % 0x10_0000_0000_0000;
+    let exponent = bits % SIGN_BIT / HIDDEN_DIGIT;
+    let digits = bits % HIDDEN_DIGIT;
     if exponent == 0 {
         return Size::Parts(0, digits != 0);
     }
     if exponent < 1023 {
         return Size::Parts(0, true);
     }
-    let significand = digits + 0x10_0000_0000_0000;
+    let significand = digits + HIDDEN_DIGIT;
     if exponent < 1075 {
         let shift = 1075 - exponent;
         let whole = significand >> shift;
