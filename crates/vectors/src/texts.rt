@@ -1,0 +1,36 @@
+// A text looked through, or two compared.
+use crate::answer::Answer;
+use crate::hex;
+use check::same;
+use numbers::order::Order;
+use text::bytes::TextOrder;
+
+fn of_order(order: TextOrder) -> Answer {
+    match order {
+        TextOrder::Less => Answer::Order(Order::Less),
+        TextOrder::Equal => Answer::Order(Order::Equal),
+        TextOrder::Greater => Answer::Order(Order::Greater),
+    }
+}
+
+// What is asked of the texts that the words spell; the second word is empty where there is one text.
+pub fn answer(name: &[u8], first: &[u8], second: &[u8]) -> Answer {
+    let mut left = [0u8; 256];
+    let mut right = [0u8; 256];
+    let count = hex::bytes(first, &mut left);
+    let other = hex::bytes(second, &mut right);
+    if !hex::is_whole(first, count) || !hex::is_whole(second, other) {
+        return Answer::Unreadable;
+    }
+    if same(name, b"valid") {
+        Answer::Truth(text::utf8::well_formed(&left[..count]))
+    } else if same(name, b"points") {
+        Answer::Count(text::utf8::code_points(&left[..count]))
+    } else if same(name, b"order") {
+        of_order(text::bytes::compare(&left[..count], &right[..other]))
+    } else if same(name, b"equal") {
+        Answer::Truth(text::bytes::equal(&left[..count], &right[..other]))
+    } else {
+        Answer::Unreadable
+    }
+}
