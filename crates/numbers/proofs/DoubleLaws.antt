@@ -5,7 +5,7 @@ use Prim.Native.Nat.{ℕ, _%_, _^_, _≤_, _<_}
 use lib.Dec.{T}
 use lib.Ieee as Ieee
 use lib.Ieee.{Float, nan, inf, fin, binary64, toBits, ofBits, nanBits, fits, ne, div}
-use lib.Ieee.Bits.{nanBits-above, nanBits-is, toBits-ofBits, ofBits-toBits}
+use lib.Ieee.Bits.{ofBits-fits, nanBits-above, nanBits-is, toBits-ofBits, ofBits-toBits}
 use lib.Ieee.Compare.{differs-from-itself, nan-differs}
 use borrow.Author.Tests.{lt-ltb, le-ltb}
 use Rattle.numbers.specs.declared.double.Double.{Double}
@@ -81,11 +81,25 @@ bits-back b h = go (isNan b) (λ (n : isNan b ≡ false). toBits-ofBits binary64
     go true k = refl
     go false k = k refl
 
--- A Double spelled in the one way: a float that is no NaN, or the bits of a NaN. `doubleOf` gives no other.
+-- A Double spelled in the one way: a float that is no NaN, or the bits of a NaN.
 abbrev pub Proper : Double → Type 0
 Proper (Plain x) = T (fits binary64 x) × (ne x x ≡ false)
 Proper (Nan b) = isNan b ≡ true
 
+-- `doubleOf` gives no other, so no function of this crate does.
+pub proper : (b : ℕ) → Proper (doubleOf b)
+unfolding doubleOf Ieee.isNan
+proper b = go (isNan b) refl
+  where
+    same : isNan b ≡ false → (t : Bool) → (t ≡ true → ofBits binary64 b ≡ nan) → t ≡ false
+    same e true k = absurd (true≢false (ap Ieee.isNan (sym (k refl)) ∙ sym (nanBits-is binary64 b) ∙ nan-is b ∙ e))
+    same e false k = refl
+
+    go : (t : Bool) → isNan b ≡ t → Proper (cond t (Nan b) (Plain (ofBits binary64 b)))
+    go true e = e
+    go false e = (ofBits-fits binary64 b, same e (ne (ofBits binary64 b) (ofBits binary64 b)) (differs (ofBits binary64 b)))
+
+-- From a Double so spelled to bits and back changes nothing.
 pub double-back : (d : Double) → Proper d → doubleOf (bitsOf d) ≡ d
 double-back (Plain x) p = double-of-plain x (p .0) (p .1)
 double-back (Nan b) p = unfold doubleOf in rw p

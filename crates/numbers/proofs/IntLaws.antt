@@ -1,16 +1,14 @@
 -- The laws of arithmetic on Int: what a caller cites, so that no proof above opens a definition. Assumes nothing.
-use mathlib.Core.Path.{_≡_, refl, sym, ap, _∙_}
+use mathlib.Core.Path.{_≡_, refl, _∙_}
 use mathlib.Core.Bool.{true, false}
-use Prim.Native.Nat.{ℕ, zero, suc, _+_, _*_, _/_, _%_, _^_, _≤_, _<_}
-use native.Mathlib.Nat.{div-add-mod', mod-lt}
+use Prim.Native.Nat.{_+_, _*_, _^_, _≤_, _<_}
 use native.Mathlib.Omega.{arith}
-use lib.IntN.{ℤ, pos, negsuc, negℤ, natAbs, _+ℤ_, _*ℤ_}
+use lib.IntN.{ℤ, pos, negsuc, negℤ, _+ℤ_, _-ℤ_, _*ℤ_}
 use lib.Signed.{mag, quotZ, remZ}
 use borrow.Author.Tests.{lt-ltb, le-ltb}
 use Rattle.numbers.specs.declared.error.ArithmeticError.the-variants.{Overflow, DivisionByZero, RemainderByZero}
-use Rattle.numbers.specs.declared.int.IntAnswer.{IntAnswer}
 use Rattle.numbers.specs.declared.int.IntAnswer.the-variants.{Value, Error}
-use Rattle.numbers.specs.Int.{inRange, isZero, answer, divOf, remOf}
+use Rattle.numbers.specs.Int.{inRange, isZero, answer, addOf, subOf, mulOf, negOf, divOf, remOf}
 
 -- ---- in range and out of range: `mag` is n for n and for -(n + 1)
 
@@ -29,6 +27,24 @@ answer-in z h = rw (in-range z h)
 pub answer-out : (z : ℤ) → 2 ^ 63 ≤ mag z → answer z ≡ Error Overflow
 unfolding answer
 answer-out z h = rw (out-of-range z h)
+
+-- ---- each operation by the laws above
+
+pub add-answer : (a b : ℤ) → addOf a b ≡ answer (a +ℤ b)
+unfolding addOf
+add-answer a b = refl
+
+pub sub-answer : (a b : ℤ) → subOf a b ≡ answer (a -ℤ b)
+unfolding subOf
+sub-answer a b = refl
+
+pub mul-answer : (a b : ℤ) → mulOf a b ≡ answer (a *ℤ b)
+unfolding mulOf
+mul-answer a b = refl
+
+pub neg-answer : (a : ℤ) → negOf a ≡ answer (negℤ a)
+unfolding negOf
+neg-answer a = refl
 
 -- ---- a zero divisor comes before the range
 
@@ -53,3 +69,10 @@ rem-in a b z h = rw (z, in-range (quotZ a b) h)
 pub rem-out : (a b : ℤ) → isZero b ≡ false → 2 ^ 63 ≤ mag (quotZ a b) → remOf a b ≡ Error Overflow
 unfolding remOf
 rem-out a b z h = rw (z, out-of-range (quotZ a b) h)
+
+-- -2 ^ 63 / -1 and -2 ^ 63 % -1 are out of range
+pub min-div : divOf (negsuc 9223372036854775807) (negsuc 0) ≡ Error Overflow
+min-div = div-answer (negsuc 9223372036854775807) (negsuc 0) refl ∙ answer-out _ (omega arith)
+
+pub min-rem : remOf (negsuc 9223372036854775807) (negsuc 0) ≡ Error Overflow
+min-rem = rem-out (negsuc 9223372036854775807) (negsuc 0) refl (omega arith)

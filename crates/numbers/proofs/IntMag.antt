@@ -4,12 +4,12 @@ use mathlib.Core.Bool.{true, false, true≢false}
 use Prim.Native.Nat.{ℕ, zero, suc, _+_, _-_, _*_, _^_, _≤_, _<_}
 use native.Mathlib.Omega.{arith}
 use native.Mathlib.Numerals.{add-one}
-use lib.IntN.{ℤ, pos, negsuc, negℤ, sucℤ, predℤ, natAbs, _+ℤ_, _-ℤ_, _*ℤ_, +ℤ-one, -ℤ-one, +ℤ-idl}
+use lib.IntN.{ℤ, pos, negsuc, negℤ, sucℤ, predℤ, natAbs, _*ℤ_}
 use lib.Signed.{mag, ltZ}
-use borrow.Author.Tests.{ltb-true, ltb-false}
+use borrow.Author.Tests.{ltb-true}
 use mir.Syntax.{w64}
 use mir.Val.{SFits, toZ, ofZ}
-use mir.ValLaws.{toZ-ofZ, toZ-pos}
+use mir.ValLaws.{toZ-ofZ}
 use borrow.Author.Needs.{sfits-of}
 
 not-below : (n : ℕ) → n < 0 → ⊥
@@ -32,10 +32,6 @@ abs-negative (negsuc n) t = sym (add-one n)
 pub is-positive : (a : ℤ) → ltZ a (pos 0) ≡ false → a ≡ pos (natAbs a)
 is-positive (pos n) t = refl
 is-positive (negsuc n) t = absurd (true≢false t)
-
-pub is-negative : (a : ℤ) → ltZ a (pos 0) ≡ true → a ≡ negℤ (pos (natAbs a))
-is-negative (pos n) t = absurd (not-below n (ltb-true n 0 t))
-is-negative (negsuc n) t = refl
 
 pub abs-le : (a : ℤ) → mag a < 2 ^ 63 → natAbs a ≤ 2 ^ 63
 abs-le (pos n) h = omega arith

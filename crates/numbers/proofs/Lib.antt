@@ -1,3 +1,4 @@
+-- Laws. For callers: IntLaws, UintLaws, DivisionLaws, DoubleLaws, RoundingLaws, OrderLaws, WholeLaws. The others are steps to those.
 pub mod BitsOne
 pub mod DivisionLaws
 pub mod DoubleLaws

@@ -1,21 +1,18 @@
 -- The size that lib.Ieee's rounding keeps is the nearest that 53 digits hold, at a tie the even one. Assumes nothing.
 use mathlib.Core.Path.{_≡_, refl, sym, ap, _∙_, subst}
 use mathlib.Core.Logic.{_⊎_, inl, inr, ⊎-elim}
-use mathlib.Core.Bool.{Bool, true, false, not, cond, _&&_, Bool·beq}
+use mathlib.Core.Bool.{Bool, true, false, not}
 use Prim.Native.Nat.{ℕ, zero, suc, _+_, _-_, _*_, _/_, _%_, _^_, _≤_, _<_, compare, Ordering, Ordering·lt, Ordering·eq, Ordering·gt}
-use native.Mathlib.Nat.{le-refl, le-trans, le-of-eq, lt-of-lt-of-le, lt-of-le-of-lt, eq-or-lt-of-le, mul-comm, mul-assoc, mul-right-comm, mul-le-mul-right, mul-le-mul-left, mul-lt-mul-of-pos-right, mul-pos, suc-mul, div-add-mod', mod-lt, le-div-iff-mul-le, div-div-eq-div-mul, eq-zero-or-pos, lt-irrefl}
+use native.Mathlib.Nat.{le-trans, le-of-eq, lt-of-lt-of-le, lt-of-le-of-lt, eq-or-lt-of-le, mul-comm, mul-assoc, mul-le-mul-right, mul-lt-mul-of-pos-right, mul-pos, suc-mul, div-add-mod', mod-lt, le-div-iff-mul-le, div-div-eq-div-mul, eq-zero-or-pos}
 use native.Mathlib.Omega.{arith}
-use lib.Dec.{T, isLe, isEq, ltb, eqb, leb→le, nleb→lt, eqb→eq, eqb-refl, lit<, lit≤, lt→ltb, ltb→lt, nltb→le}
+use lib.Dec.{T, isLe, isEq, ltb, eqb, leb→le, nleb→lt, eqb→eq, eqb-refl, lit<, ltb→lt, nltb→le}
 use lib.Arith.{lt-of-le-ne}
-use lib.IntN.{ℤ}
 use lib.Pow.{pow-pos, pow-mono, pow-add}
-use lib.Ieee.{Float, nan, inf, fin, binary64, nearest, size, round, units, odd, unlike, up, down, mul, div, add, sum}
+use lib.Ieee.{nearest, size}
 use lib.Ieee.Digits.{size-reaches, back}
-use lib.Ieee.Exact.{HasValue, units-val}
-use lib.Ieee.Fits.{round-is, nearest-le, kept-lt, down-pos, up-pos}
+use lib.Ieee.Fits.{nearest-le, kept-lt}
 use lib.Ieee.Nearest.{closest, nearest-ge}
 use lib.Ieee.Order.{drop, kept}
-use borrow.Author.Tests.{lt-leb, le-ltb, ne-eqb}
 use Rattle.numbers.specs.Rounding.{apart, EvenDigit, NearestEven}
 
 -- ---- what `compare` says
@@ -45,8 +42,11 @@ low-only a W r b P e h k t = ⊎-elim (λ (x : P + b ≤ W). omega arith) (λ (x
 high-only : (a W r b P : ℕ) → a ≡ W + r → r < b → b < r * 2 → (P + b ≤ W + b) ⊎ (W + b + b ≤ P) → apart a P ≡ apart a (W + b) → ⊥
 high-only a W r b P e l h k t = ⊎-elim (λ (x : P + b ≤ W + b). omega arith) (λ (x : W + b + b ≤ P). omega arith) k
 
+pub shift : (k : ℕ) → 53 + k ≡ 52 + suc k
+shift k = omega arith
+
 -- ---- multiples of b
-split : (m w : ℕ) → (m ≤ w) ⊎ (suc w ≤ m)
+pub split : (m w : ℕ) → (m ≤ w) ⊎ (suc w ≤ m)
 split m w = go (ltb w m) (ltb→lt w m) (nltb→le w m)
   where
     go : (t : Bool) → (T t → w < m) → (T (not t) → m ≤ w) → (m ≤ w) ⊎ (suc w ≤ m)
@@ -165,9 +165,6 @@ module _ (n den : ℕ) (D : 0 < den) where
       (λ (e : c ≡ 2 ^ 53). (2 ^ 52, suc K, lit< tt, ap (λ (x : ℕ). x * 2 ^ K) e ∙ sym (pow-add 2 53 K) ∙ ap (λ (x : ℕ). 2 ^ x) (shift K) ∙ pow-add 2 52 (suc K)))
       (λ (h : c < 2 ^ 53). (c, K, h, refl))
       (eq-or-lt-of-le c-le)
-    where
-      shift : (k : ℕ) → 53 + k ≡ 52 + suc k
-      shift k = omega arith
 
   near-by : (q k : ℕ) → q < 2 ^ 53 → apart n (c * 2 ^ K * den) ≤ apart n (q * 2 ^ k * den)
   near-by q k h =

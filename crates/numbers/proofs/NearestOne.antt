@@ -1,21 +1,14 @@
 -- No second size is nearest with ties to even: `NearestEven` settles the rounded size. Assumes nothing.
 use mathlib.Core.Path.{_≡_, refl, sym, ap, _∙_, subst}
-use mathlib.Core.Logic.{_⊎_, inl, inr, ⊎-elim}
-use mathlib.Core.Bool.{Bool, true, false, not}
-use Prim.Native.Nat.{ℕ, zero, suc, _+_, _-_, _*_, _/_, _%_, _^_, _≤_, _<_}
-use native.Mathlib.Nat.{le-trans, le-of-eq, le-antisymm, lt-of-lt-of-le, lt-of-le-of-lt, lt-irrefl, eq-or-lt-of-le, mul-assoc, mul-right-comm, mul-le-mul-right, mul-lt-mul-of-pos-right, le-of-mul-le-mul-right}
+use mathlib.Core.Logic.{_⊎_, inr, ⊎-elim}
+use Prim.Native.Nat.{ℕ, suc, _+_, _-_, _*_, _/_, _%_, _^_, _≤_, _<_}
+use native.Mathlib.Nat.{le-trans, le-of-eq, le-antisymm, lt-of-lt-of-le, lt-irrefl, eq-or-lt-of-le, mul-assoc, mul-right-comm, mul-le-mul-right, mul-lt-mul-of-pos-right, le-of-mul-le-mul-right}
 use native.Mathlib.Omega.{arith}
-use lib.Dec.{T, ltb, ltb→lt, nltb→le, lit<, lit≤}
+use lib.Dec.{lit<, lit≤}
 use lib.Pow.{pow-pos, pow-mono, pow-add}
 use lib.Ieee.Digits.{back}
+use Rattle.numbers.proofs.Nearest.{split, shift}
 use Rattle.numbers.specs.Rounding.{apart, EvenDigit, NearestEven}
-
-split : (m w : ℕ) → (m ≤ w) ⊎ (w < m)
-split m w = go (ltb w m) (ltb→lt w m) (nltb→le w m)
-  where
-    go : (t : Bool) → (T t → w < m) → (T (not t) → m ≤ w) → (m ≤ w) ⊎ (w < m)
-    go true h k = inr (h tt)
-    go false h k = inl (k tt)
 
 -- an even size with its digits in their places, below 2 ^ 53
 abbrev Placed : ℕ → Type 0
@@ -28,9 +21,6 @@ placed g (m, k, e, l, p) =
     (λ (h : m * 2 < 2 ^ 53). (m * 2, k, e, twice m, h, p))
     (eq-or-lt-of-le l)
   where
-    shift : (k : ℕ) → 53 + k ≡ 52 + suc k
-    shift k = omega arith
-
     twice : (m : ℕ) → m * 2 % 2 ≡ 0
     twice m = omega arith
 

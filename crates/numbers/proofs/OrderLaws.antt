@@ -3,16 +3,13 @@
 use mathlib.Core.Path.{_≡_, refl, sym, ap, _∙_, subst}
 use mathlib.Core.Logic.{_⊎_, inl, inr, ⊎-elim}
 use mathlib.Core.Bool.{Bool, true, false}
-use Prim.Native.Nat.{ℕ, zero, suc, _+_, _*_, _^_, _≤_, _<_}
-use native.Mathlib.Nat.{mul-lt-mul-of-pos-right, add-mul, mul-pos}
+use Prim.Native.Nat.{ℕ, suc, _+_, _<_}
 use native.Mathlib.Omega.{arith}
-use lib.IntN.{ℤ, pos, negsuc}
-use lib.Pow.{pow-pos}
 use Rattle.numbers.specs.declared.order.Order.{Order}
 use Rattle.numbers.specs.declared.order.Order.the-variants.{Less, Equal, Greater, Unordered}
 use Rattle.numbers.specs.Double.{Point, nan, infinite, finite}
-use Rattle.numbers.specs.Order.{signedOrder, orderOf, wholePoint, intPoint, uintPoint, flipped}
-use Rattle.numbers.proofs.SignedOrder.{Says, SaysSigned, signed-says, signed-is}
+use Rattle.numbers.specs.Order.{signedOrder, orderOf, flipped}
+use Rattle.numbers.proofs.SignedOrder.{SaysSigned, signed-says, signed-is}
 
 -- ---- signed sizes
 
@@ -126,7 +123,7 @@ nan-right (finite s a) = refl
 
 -- ---- a point is no number, or sized beside any M above its size
 
-abbrev size : Point → ℕ
+abbrev pub size : Point → ℕ
 size nan = 0
 size (infinite s) = 0
 size (finite s a) = a
@@ -245,3 +242,31 @@ unordered-nan x y e =
     never false a true b h = h
     never true a false b h = h
     never true a true b h = h
+
+abbrev NotEqual : Order → Type 0
+NotEqual Less = Unit {0}
+NotEqual Equal = ⊥
+NotEqual Greater = Unit {0}
+NotEqual Unordered = Unit {0}
+
+equal-sizes : (s : Bool) (a : ℕ) (t : Bool) (b : ℕ) → SaysSigned Equal s a t b → (finite s a ≡ finite t b) ⊎ ((a ≡ 0) × (b ≡ 0))
+equal-sizes false a false b h = inl (ap (finite false) h)
+equal-sizes false a true b h = inr (omega arith, omega arith)
+equal-sizes true a false b h = inr (omega arith, omega arith)
+equal-sizes true a true b h = inl (ap (finite true) (sym h))
+
+-- Numbers that are equal, of whichever kinds, are one point: only the two zeros are two.
+pub equal-points : (x y : Point) → orderOf x y ≡ Equal → (x ≡ y) ⊎ ((size x ≡ 0) × (size y ≡ 0))
+unfolding orderOf
+equal-points nan y e = absurd (subst NotEqual e tt)
+equal-points (infinite s) nan e = absurd (subst NotEqual e tt)
+equal-points (infinite false) (infinite false) e = inl refl
+equal-points (infinite false) (infinite true) e = absurd (subst NotEqual e tt)
+equal-points (infinite true) (infinite false) e = absurd (subst NotEqual e tt)
+equal-points (infinite true) (infinite true) e = inl refl
+equal-points (infinite false) (finite t b) e = absurd (subst NotEqual e tt)
+equal-points (infinite true) (finite t b) e = absurd (subst NotEqual e tt)
+equal-points (finite s a) nan e = absurd (subst NotEqual e tt)
+equal-points (finite s a) (infinite false) e = absurd (subst NotEqual e tt)
+equal-points (finite s a) (infinite true) e = absurd (subst NotEqual e tt)
+equal-points (finite s a) (finite t b) e = equal-sizes s a t b (subst (λ (o : Order). SaysSigned o s a t b) e (signed-says s a t b))

@@ -7,11 +7,10 @@ use native.Mathlib.Nat.{mul-one, mod-lt, lt-of-lt-of-le, le-trans, le-of-eq, mul
 use native.Mathlib.Omega.{arith}
 use lib.Dec.{ltb, eqb, lit<, lit≤}
 use lib.Pow.{pow-pos, pow-mono, pow-add, shl-lt}
-use borrow.Author.Tests.{lt-ltb, le-ltb, eq-eqb, ne-eqb, ltb-true, ltb-false, eqb-true, eqb-false}
-use Rattle.numbers.specs.declared.order.Order.{Order}
-use Rattle.numbers.specs.declared.order.Order.the-variants.{Less, Equal, Greater, Unordered}
-use Rattle.numbers.specs.Double.{Point, nan, infinite, finite, negative, exponent, digits, units, sizeOf, pointOf, isNan}
+use borrow.Author.Tests.{eq-eqb, ne-eqb, ltb-true, ltb-false, eqb-true, eqb-false}
+use Rattle.numbers.specs.Double.{nan, infinite, finite, negative, exponent, digits, units, sizeOf, pointOf, isNan}
 use Rattle.numbers.specs.Order.{sizeOrder, signedOrder, orderOf, wholePoint, flipped}
+use Rattle.numbers.proofs.Nearest.{shift}
 use Rattle.numbers.proofs.SignedOrder.{signed-map, unlike-map, some, size-swap}
 use Rattle.numbers.proofs.OrderLaws.{Sized, order-sized}
 
@@ -35,9 +34,6 @@ units-below : (x t : ℕ) → t < 2 ^ 52 → units x t < 2 ^ 52 * 2 ^ x
 unfolding units
 units-below zero t h = lt-of-lt-of-le h (le-of-eq (sym (mul-one (2 ^ 52))))
 units-below (suc x) t h = lt-of-lt-of-le (shl-lt 53 x (omega arith)) (le-of-eq (ap (λ (n : ℕ). 2 ^ n) (shift x) ∙ pow-add 2 52 (suc x)))
-  where
-    shift : (x : ℕ) → 53 + x ≡ 52 + suc x
-    shift x = omega arith
 
 units-above : (x t : ℕ) → 2 ^ 52 * 2 ^ x ≤ units (suc x) t
 unfolding units

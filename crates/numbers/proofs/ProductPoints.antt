@@ -1,9 +1,8 @@
 -- lib.Ieee's product and quotient are the `Product` and `Quotient` of specs/Rounding.antt. Assumes nothing.
 use mathlib.Core.Path.{_≡_, refl, sym, ap, _∙_, subst}
-use mathlib.Core.Bool.{Bool, true, false, cond}
-use Prim.Native.Nat.{ℕ, zero, suc, _*_, _^_, _<_, zero-le, suc-le-suc}
+use mathlib.Core.Bool.{Bool, true, false}
+use Prim.Native.Nat.{ℕ, zero, suc, _*_, _<_, zero-le, suc-le-suc}
 use native.Mathlib.Nat.{mul-comm, mul-assoc, mul-right-comm, mul-pos, zero-mul, lt-irrefl}
-use native.Mathlib.Omega.{arith}
 use lib.Dec.{eqb}
 use lib.IntN.{ℤ, pos}
 use lib.Pow.{pow-pos}
@@ -12,7 +11,7 @@ use lib.Ieee.{Float, inf, fin, binary64, mul, div, up, down}
 use lib.Ieee.Fits.{up-pos, down-pos}
 use borrow.Author.Tests.{eq-eqb, ne-eqb}
 use Rattle.numbers.specs.Double.{Point, nan, infinite, finite}
-use Rattle.numbers.specs.Rounding.{Rounded, unlike, Product, Quotient}
+use Rattle.numbers.specs.Rounding.{unlike, Product, Quotient}
 use Rattle.numbers.proofs.RoundPoints.{U, round-points}
 use Rattle.numbers.proofs.Stands.{Stands}
 

@@ -1,18 +1,18 @@
 -- The arithmetic that the contracts cite is the one that specs/Rounding.antt states, and there is no second answer. Assumes nothing.
 use mathlib.Core.Path.{_≡_, refl, sym, ap, _∙_, subst}
 use mathlib.Core.Bool.{Bool, true, false}
-use Prim.Native.Nat.{ℕ, zero, suc, _*_, _^_, _<_, zero-le, suc-le-suc}
+use Prim.Native.Nat.{ℕ, zero, suc, _^_, _<_, zero-le, suc-le-suc}
 use lib.Dec.{T}
-use lib.IntN.{natAbs, _+ℤ_}
 use lib.Pow.{pow-pos}
 use lib.Ieee as Ieee
 use lib.Ieee.{Float, inf, fin, binary64, toBits, ofBits, fits, add, sub, mul, div, neg}
 use lib.Ieee.Bits.{toBits-lt, ofBits-fits}
 use lib.Ieee.Fits.{add-fits, sub-fits, mul-fits, div-fits, neg-fits}
-use Rattle.numbers.specs.Double.{Point, nan, infinite, finite, pointOf, isNan, arithmeticNan, addBits, subBits, mulBits, divBits, negBits}
+use Rattle.numbers.specs.declared.double.Double.{Double}
+use Rattle.numbers.specs.Double.{bitsOf, addOf, subOf, mulOf, divOf, negOf, Point, nan, infinite, finite, pointOf, isNan, addBits, subBits, mulBits, divBits, negBits}
 use Rattle.numbers.specs.Rounding.{orInfinite, Rounded, Sum, negated, Difference, Product, Quotient, Negation, Answer}
 use Rattle.numbers.proofs.BitsOne.{bits-one}
-use Rattle.numbers.proofs.DoubleLaws.{nan-bits}
+use Rattle.numbers.proofs.DoubleLaws.{nan-bits, bits-back}
 use Rattle.numbers.proofs.NearestOne.{one-nearest}
 use Rattle.numbers.proofs.PointLaws.{nan-point}
 use Rattle.numbers.proofs.ProductPoints.{mul-points, div-points}
@@ -138,3 +138,40 @@ quotient-one (finite s a) (finite t (suc b)) = rounded-one _ _ (suc b) (suc-le-s
 
 pub negation-one : (x : Point) → One (Negation x)
 negation-one x = equal-one (negated x)
+
+-- ---- so each operation's answer is the only one, and the bits of a Double's answer are it
+
+pub add-only : (p q b : ℕ) → Answer (Sum (pointOf p) (pointOf q)) b → b ≡ addBits p q
+add-only p q b given = one-answer _ (sum-one (pointOf p) (pointOf q)) b (addBits p q) given (add-right p q)
+
+pub sub-only : (p q b : ℕ) → Answer (Difference (pointOf p) (pointOf q)) b → b ≡ subBits p q
+sub-only p q b given = one-answer _ (difference-one (pointOf p) (pointOf q)) b (subBits p q) given (sub-right p q)
+
+pub mul-only : (p q b : ℕ) → Answer (Product (pointOf p) (pointOf q)) b → b ≡ mulBits p q
+mul-only p q b given = one-answer _ (product-one (pointOf p) (pointOf q)) b (mulBits p q) given (mul-right p q)
+
+pub div-only : (p q b : ℕ) → Answer (Quotient (pointOf p) (pointOf q)) b → b ≡ divBits p q
+div-only p q b given = one-answer _ (quotient-one (pointOf p) (pointOf q)) b (divBits p q) given (div-right p q)
+
+pub neg-only : (p b : ℕ) → Answer (Negation (pointOf p)) b → b ≡ negBits p
+neg-only p b given = one-answer _ (negation-one (pointOf p)) b (negBits p) given (neg-right p)
+
+pub add-bits : (x y : Double) → bitsOf (addOf x y) ≡ addBits (bitsOf x) (bitsOf y)
+unfolding addOf
+add-bits x y = bits-back (addBits (bitsOf x) (bitsOf y)) (add-right (bitsOf x) (bitsOf y) .fits)
+
+pub sub-bits : (x y : Double) → bitsOf (subOf x y) ≡ subBits (bitsOf x) (bitsOf y)
+unfolding subOf
+sub-bits x y = bits-back (subBits (bitsOf x) (bitsOf y)) (sub-right (bitsOf x) (bitsOf y) .fits)
+
+pub mul-bits : (x y : Double) → bitsOf (mulOf x y) ≡ mulBits (bitsOf x) (bitsOf y)
+unfolding mulOf
+mul-bits x y = bits-back (mulBits (bitsOf x) (bitsOf y)) (mul-right (bitsOf x) (bitsOf y) .fits)
+
+pub div-bits : (x y : Double) → bitsOf (divOf x y) ≡ divBits (bitsOf x) (bitsOf y)
+unfolding divOf
+div-bits x y = bits-back (divBits (bitsOf x) (bitsOf y)) (div-right (bitsOf x) (bitsOf y) .fits)
+
+pub neg-bits : (x : Double) → bitsOf (negOf x) ≡ negBits (bitsOf x)
+unfolding negOf
+neg-bits x = bits-back (negBits (bitsOf x)) (neg-right (bitsOf x) .fits)

@@ -2,7 +2,7 @@
 use mathlib.Core.Path.{_≡_, refl, sym, ap, _∙_, subst}
 use mathlib.Core.Bool.{Bool, true, false, not, cond}
 use Prim.Native.Nat.{ℕ, zero, suc, _+_, _-_, _*_, _/_, _%_, _^_, _≤_, _<_, zero-le, suc-le-suc}
-use native.Mathlib.Nat.{zero-mul, zero-add, add-zero, add-comm, add-mul, mul-assoc, mul-pos, mul-le-mul, mul-le-mul-right, le-trans, le-of-eq, le-refl, lt-of-lt-of-le, lt-of-le-of-lt, mod-lt, mod-eq-of-lt, div-add-mod', mul-lt-mul-of-pos-right, div-le-self, le-of-lt, lt-irrefl, le-div-iff-mul-le, div-lt-iff-lt-mul}
+use native.Mathlib.Nat.{zero-mul, zero-add, add-zero, add-comm, add-mul, mul-assoc, mul-pos, mul-le-mul, le-trans, le-of-eq, lt-of-lt-of-le, lt-of-le-of-lt, mod-lt, mod-eq-of-lt, div-add-mod', mul-lt-mul-of-pos-right, div-le-self, lt-irrefl, le-div-iff-mul-le, div-lt-iff-lt-mul}
 use native.Mathlib.Omega.{arith}
 use lib.Dec.{ltb, eqb, lit<, lit≤}
 use lib.Arith.{digits-lt, digits-div, digits-mod}
@@ -11,7 +11,7 @@ use borrow.Author.Tests.{lt-ltb, le-ltb, eq-eqb, ne-eqb, eqb-true, eqb-false, lt
 use Rattle.numbers.specs.declared.order.Size.{Size}
 use Rattle.numbers.specs.declared.order.Size.the-variants.{Parts, Huge}
 use Rattle.numbers.specs.Size.{cut}
-use Rattle.numbers.specs.Double.{units, sizeOf}
+use Rattle.numbers.specs.Double.{units}
 
 -- ---- `cut`, over any unit D
 module _ (D : ℕ) where

@@ -1,11 +1,9 @@
 -- A float of the kit's logic stands for a point: `Stands x r` says which, and the point of a float's bits is that one. Assumes nothing.
 use mathlib.Core.Path.{_≡_, refl, sym, ap, _∙_, subst}
 use mathlib.Core.Bool.{Bool, true, false, cond}
-use Prim.Native.Nat.{ℕ, zero, suc, _+_, _*_, _/_, _%_, _^_, _≤_, _<_}
+use Prim.Native.Nat.{ℕ, zero, suc, _+_, _*_, _/_, _%_, _^_}
 use native.Mathlib.Nat.{mul-one, eq-of-mul-eq-mul-right}
 use lib.Dec.{T, leb, eqb}
-use lib.IntN.{ℤ, pos, negsuc}
-use lib.Pow.{pow-pos}
 use lib.Ieee as Ieee
 use lib.Ieee.{Float, inf, fin, binary64, toBits, ofBits, ofFields, fits, odd, up, down}
 use lib.Ieee.Bits.{ofBits-toBits}

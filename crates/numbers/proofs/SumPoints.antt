@@ -1,11 +1,11 @@
 -- lib.Ieee's sum is the `Sum` of specs/Rounding.antt, the sign of an exact 0 included. Assumes nothing.
 use mathlib.Core.Path.{_≡_, refl, sym, ap, _∙_, subst}
 use mathlib.Core.Bool.{Bool, true, false, not, _&&_, cond, Bool·beq}
-use Prim.Native.Nat.{ℕ, zero, suc, _+_, _-_, _*_, _^_, _≤_, _<_}
+use Prim.Native.Nat.{ℕ, zero, suc, _+_, _-_, _*_, _≤_, _<_}
 use native.Mathlib.Nat.{mul-one, mul-comm, mul-assoc, mul-right-comm, mul-pos, mul-lt-mul-of-pos-right, mul-le-mul-right, le-of-mul-le-mul-right, lt-of-mul-lt-mul-right, add-mul, lt-of-lt-of-le, lt-of-le-of-lt, le-trans, le-of-eq}
 use native.Mathlib.Omega.{arith}
 use lib.Dec.{ltb}
-use lib.IntN.{ℤ, pos, negsuc, negℤ, natAbs, _+ℤ_, +ℤ-comm, negℤ-+ℤ}
+use lib.IntN.{ℤ, pos, negℤ, natAbs, _+ℤ_, +ℤ-comm, negℤ-+ℤ}
 use lib.Pow.{pow-pos}
 use lib.Ieee as Ieee
 use lib.Ieee.{Float, inf, fin, binary64, round, sum, add, sub, neg, up, down}

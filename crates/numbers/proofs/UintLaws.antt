@@ -1,14 +1,13 @@
 -- The laws of arithmetic on Uint: what a caller cites, so that no proof above opens a definition. Assumes nothing.
 use mathlib.Core.Path.{_≡_, refl}
 use mathlib.Core.Bool.{Bool, true, false, cond}
-use Prim.Native.Nat.{ℕ, _^_, _≤_, _<_}
+use Prim.Native.Nat.{ℕ, _+_, _-_, _*_, _/_, _%_, _^_, _≤_, _<_}
 use lib.Dec.{ltb}
-use borrow.Author.Tests.{lt-ltb, le-ltb, ltb-false, eq-eqb, ne-eqb}
+use borrow.Author.Tests.{lt-ltb, le-ltb, ltb-false, le-leb, lt-leb, eq-eqb, ne-eqb}
 use Rattle.numbers.specs.declared.error.ArithmeticError.{ArithmeticError}
-use Rattle.numbers.specs.declared.error.ArithmeticError.the-variants.{Overflow}
-use Rattle.numbers.specs.declared.uint.UintAnswer.{UintAnswer}
+use Rattle.numbers.specs.declared.error.ArithmeticError.the-variants.{Overflow, DivisionByZero, RemainderByZero}
 use Rattle.numbers.specs.declared.uint.UintAnswer.the-variants.{Value, Error}
-use Rattle.numbers.specs.Uint.{answer, unlessZero}
+use Rattle.numbers.specs.Uint.{answer, addOf, subOf, mulOf, unlessZero, divOf, remOf}
 
 -- ---- in range and out of range
 
@@ -36,6 +35,32 @@ error-is e n h = go (ltb n (2 ^ 64)) (ltb-false n (2 ^ 64)) h
     go : (t : Bool) → (t ≡ false → 2 ^ 64 ≤ n) → Error e ≡ cond t (Value n) (Error Overflow) → 2 ^ 64 ≤ n
     go true k h = k (cc)
     go false k h = k refl
+
+-- ---- each operation by the laws above and below
+
+pub add-answer : (a b : ℕ) → addOf a b ≡ answer (a + b)
+unfolding addOf
+add-answer a b = refl
+
+pub mul-answer : (a b : ℕ) → mulOf a b ≡ answer (a * b)
+unfolding mulOf
+mul-answer a b = refl
+
+pub sub-in : (a b : ℕ) → b ≤ a → subOf a b ≡ Value (a - b)
+unfolding subOf
+sub-in a b h = rw (le-leb b a h)
+
+pub sub-out : (a b : ℕ) → a < b → subOf a b ≡ Error Overflow
+unfolding subOf
+sub-out a b h = rw (lt-leb b a h)
+
+pub div-answer : (a b : ℕ) → divOf a b ≡ unlessZero b DivisionByZero (a / b)
+unfolding divOf
+div-answer a b = refl
+
+pub rem-answer : (a b : ℕ) → remOf a b ≡ unlessZero b RemainderByZero (a % b)
+unfolding remOf
+rem-answer a b = refl
 
 -- ---- a zero divisor, and any other
 

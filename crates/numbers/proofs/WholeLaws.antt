@@ -1,7 +1,7 @@
 -- Whole numbers on the number line: they compare as signed sizes, and Int and Uint are equal exactly if they are one number. Assumes nothing.
-use mathlib.Core.Path.{_≡_, refl, sym, ap, _∙_, subst}
+use mathlib.Core.Path.{_≡_, refl, sym, ap, _∙_}
 use mathlib.Core.Bool.{Bool, true, false, true≢false}
-use Prim.Native.Nat.{ℕ, zero, suc, _+_, _*_, _^_, _≤_, _<_}
+use Prim.Native.Nat.{ℕ, suc, _+_, _*_, _^_}
 use native.Mathlib.Nat.{mul-lt-mul-of-pos-right, zero-mul}
 use native.Mathlib.Omega.{arith}
 use lib.IntN.{ℤ, pos, negsuc, natAbs}
@@ -32,16 +32,19 @@ equal-says s a t b e = go (signedOrder s a t b) (signed-says s a t b) e
     go Greater h e = absurd (true≢false (sym e))
     go Unordered h e = absurd (true≢false (sym e))
 
--- An Int equals an Uint exactly if it is that number.
+no-sum : (a b : ℕ) → suc a + b ≡ 0 → ⊥
+no-sum a b h = omega arith
+
+no-other : (a b : ℕ) → a + suc b ≡ 0 → ⊥
+no-other a b h = omega arith
+
+-- An Int equals a Uint exactly if it is that number.
 pub int-uint-equal : (n : ℕ) → orderOf (intPoint (pos n)) (uintPoint n) ≡ Equal
 int-uint-equal n = whole-order false n false n ∙ signed-is Equal false n false n refl
 
 pub int-uint-only : (z : ℤ) (n : ℕ) → isEqual (orderOf (intPoint z) (uintPoint n)) ≡ true → z ≡ pos n
 int-uint-only (pos m) n e = ap pos (equal-says false m false n (ap isEqual (sym (whole-order false m false n)) ∙ e))
-int-uint-only (negsuc m) n e = absurd (no (suc m) n (equal-says true (suc m) false n (ap isEqual (sym (whole-order true (suc m) false n)) ∙ e)) (omega arith))
-  where
-    no : (a b : ℕ) → a + b ≡ 0 → 0 < a → ⊥
-    no a b h k = omega arith
+int-uint-only (negsuc m) n e = absurd (no-sum m n (equal-says true (suc m) false n (ap isEqual (sym (whole-order true (suc m) false n)) ∙ e)))
 
 -- Two Ints, and two Uints, are equal exactly if they are the same.
 pub uint-only : (m n : ℕ) → isEqual (orderOf (uintPoint m) (uintPoint n)) ≡ true → m ≡ n
@@ -49,14 +52,8 @@ uint-only m n e = equal-says false m false n (ap isEqual (sym (whole-order false
 
 pub int-only : (a b : ℤ) → isEqual (orderOf (intPoint a) (intPoint b)) ≡ true → a ≡ b
 int-only (pos a) (pos b) e = ap pos (equal-says false a false b (ap isEqual (sym (whole-order false a false b)) ∙ e))
-int-only (pos a) (negsuc b) e = absurd (no a (suc b) (equal-says false a true (suc b) (ap isEqual (sym (whole-order false a true (suc b))) ∙ e)) (omega arith))
-  where
-    no : (a b : ℕ) → a + b ≡ 0 → 0 < b → ⊥
-    no a b h k = omega arith
-int-only (negsuc a) (pos b) e = absurd (no (suc a) b (equal-says true (suc a) false b (ap isEqual (sym (whole-order true (suc a) false b)) ∙ e)) (omega arith))
-  where
-    no : (a b : ℕ) → a + b ≡ 0 → 0 < a → ⊥
-    no a b h k = omega arith
+int-only (pos a) (negsuc b) e = absurd (no-other a b (equal-says false a true (suc b) (ap isEqual (sym (whole-order false a true (suc b))) ∙ e)))
+int-only (negsuc a) (pos b) e = absurd (no-sum a b (equal-says true (suc a) false b (ap isEqual (sym (whole-order true (suc a) false b)) ∙ e)))
 int-only (negsuc a) (negsuc b) e = ap negsuc (same a b (equal-says true (suc a) true (suc b) (ap isEqual (sym (whole-order true (suc a) true (suc b))) ∙ e)))
   where
     same : (a b : ℕ) → suc b ≡ suc a → a ≡ b

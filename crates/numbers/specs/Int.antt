@@ -1,7 +1,7 @@
 -- What arithmetic on Int answers: the exact result over ℤ where 64 bits hold it, and else which error.
 -- `pos n` is n, and `negsuc n` is -(n + 1).
 use mathlib.Core.Bool.{Bool, false, cond}
-use Prim.Native.Nat.{ℕ, _^_}
+use Prim.Native.Nat.{_^_}
 use lib.IntN.{ℤ, pos, negsuc, negℤ, _+ℤ_, _-ℤ_, _*ℤ_}
 use lib.Signed.{quotZ, remZ}
 use lib.Dec.{ltb, eqb}

@@ -14,39 +14,43 @@ const MIN: i64 = -9223372036854775808;
 
 const MAX: i64 = 9223372036854775807;
 
+// Where the exact result is not in range.
+fn overflow() -> IntAnswer
+    ensures { λ r. ⌜ r ≡ IntAnswer.Error ArithmeticError.Overflow ⌝ }
+{
+    IntAnswer::Error(ArithmeticError::Overflow)
+}
+
 pub fn add(a: i64, b: i64) -> IntAnswer
     ensures { λ r. ⌜ r ≡ addOf a b ⌝ }
 {
     if b < 0 {
         if a < MIN - b {
-            IntAnswer::Error(ArithmeticError::Overflow)
+            overflow()
         } else {
             IntAnswer::Value(a + b)
         }
     } else {
         if MAX - b < a {
-            IntAnswer::Error(ArithmeticError::Overflow)
+            overflow()
         } else {
             IntAnswer::Value(a + b)
         }
     }
 }
 
+// The negation is added. -2 ^ 63 alone has none: what is below 0 can do without it.
 pub fn sub(a: i64, b: i64) -> IntAnswer
     ensures { λ r. ⌜ r ≡ subOf a b ⌝ }
 {
-    if b < 0 {
-        if MAX + b < a {
-            IntAnswer::Error(ArithmeticError::Overflow)
-        } else {
+    if b == MIN {
+        if a < 0 {
             IntAnswer::Value(a - b)
+        } else {
+            overflow()
         }
     } else {
-        if a < MIN + b {
-            IntAnswer::Error(ArithmeticError::Overflow)
-        } else {
-            IntAnswer::Value(a - b)
-        }
+        add(a, -b)
     }
 }
 
@@ -54,7 +58,7 @@ pub fn neg(a: i64) -> IntAnswer
     ensures { λ r. ⌜ r ≡ negOf a ⌝ }
 {
     if a == MIN {
-        IntAnswer::Error(ArithmeticError::Overflow)
+        overflow()
     } else {
         IntAnswer::Value(-a)
     }
@@ -71,14 +75,16 @@ pub(crate) fn magnitude(a: i64) -> u64
     }
 }
 
+const SIZE_OF_MIN: u64 = 9223372036854775808;
+
 // The answer for the exact result `size`, and for -`size`.
 fn positive(size: u64) -> IntAnswer
     ensures { λ r. ⌜ r ≡ answer (pos size) ⌝ }
 {
-    if size < 9223372036854775808 {
+    if size < SIZE_OF_MIN {
         IntAnswer::Value(size as i64)
     } else {
-        IntAnswer::Error(ArithmeticError::Overflow)
+        overflow()
     }
 }
 
@@ -87,10 +93,10 @@ fn negative(size: u64) -> IntAnswer
 {
     if size == 0 {
         IntAnswer::Value(0)
-    } else if size <= 9223372036854775808 {
+    } else if size <= SIZE_OF_MIN {
         IntAnswer::Value(-((size - 1) as i64) - 1)
     } else {
-        IntAnswer::Error(ArithmeticError::Overflow)
+        overflow()
     }
 }
 
@@ -99,7 +105,7 @@ pub fn mul(a: i64, b: i64) -> IntAnswer
     ensures { λ r. ⌜ r ≡ mulOf a b ⌝ }
 {
     let UintAnswer::Value(size) = crate::uint::mul(magnitude(a), magnitude(b)) else {
-        return IntAnswer::Error(ArithmeticError::Overflow);
+        return overflow();
     };
     if a < 0 {
         if b < 0 {
@@ -135,7 +141,7 @@ pub fn rem(a: i64, b: i64) -> IntAnswer
         IntAnswer::Error(ArithmeticError::RemainderByZero)
     } else if b == -1 {
         if a == MIN {
-            IntAnswer::Error(ArithmeticError::Overflow)
+            overflow()
         } else {
             IntAnswer::Value(0)
         }

@@ -27,6 +27,13 @@ pub enum Order {
 // The weight of the leading digit, which the bits of a normal Double leave out.
 const HIDDEN_DIGIT: u64 = 0x10_0000_0000_0000;
 
+// The exponents of 1, of the first Doubles that are all whole (2 ^ 52), and of the first beyond every integer (2 ^ 64).
+const EXPONENT_OF_ONE: u64 = 1023;
+
+const ALL_WHOLE: u64 = 1075;
+
+const BEYOND_INTEGERS: u64 = 1087;
+
 fn flip(order: Order) -> Order
     ensures { λ r. ⌜ r ≡ flipped order ⌝ }
 {
@@ -51,7 +58,7 @@ fn sizes(a: u64, b: u64) -> Order
 }
 
 // Two sizes of unlike signs, the first below zero or not: two zeros are equal.
-fn unlike(below: bool, a: u64, b: u64) -> Order
+fn across_zero(below: bool, a: u64, b: u64) -> Order
     ensures { λ r. ⌜ r ≡ signedOrder below a (not below) b ⌝ }
 {
     if a == 0 {
@@ -63,18 +70,18 @@ fn unlike(below: bool, a: u64, b: u64) -> Order
 }
 
 // Two sizes with their signs, `left` of the first and `right` of the second.
-fn signed(left: bool, a: u64, right: bool, b: u64) -> Order
+fn signed_sizes(left: bool, a: u64, right: bool, b: u64) -> Order
     ensures { λ r. ⌜ r ≡ signedOrder left a right b ⌝ }
 {
     if left {
         if right {
             sizes(b, a)
         } else {
-            unlike(true, a, b)
+            across_zero(true, a, b)
         }
     } else {
         if right {
-            unlike(false, a, b)
+            across_zero(false, a, b)
         } else {
             sizes(a, b)
         }
@@ -96,17 +103,17 @@ fn size_of(bits: u64) -> Size
     if exponent == 0 {
         return Size::Parts(0, digits != 0);
     }
-    if exponent < 1023 {
+    if exponent < EXPONENT_OF_ONE {
         return Size::Parts(0, true);
     }
     let significand = digits + HIDDEN_DIGIT;
-    if exponent < 1075 {
-        let shift = 1075 - exponent;
+    if exponent < ALL_WHOLE {
+        let shift = ALL_WHOLE - exponent;
         let whole = significand >> shift;
         return Size::Parts(whole, whole << shift != significand);
     }
-    if exponent < 1087 {
-        return Size::Parts(significand << (exponent - 1075), false);
+    if exponent < BEYOND_INTEGERS {
+        return Size::Parts(significand << (exponent - ALL_WHOLE), false);
     }
     Size::Huge
 }
@@ -130,7 +137,7 @@ fn against(whole: u64, bits: u64) -> Order
 }
 
 // A whole number with its sign against a Double.
-fn whole_bits(below: bool, size: u64, bits: u64) -> Order
+fn whole_double(below: bool, size: u64, bits: u64) -> Order
     ensures { λ r. ⌜ r ≡ orderOf (wholePoint below size) (pointOf bits) ⌝ }
 {
     let unsigned = bits % SIGN_BIT;
@@ -141,11 +148,11 @@ fn whole_bits(below: bool, size: u64, bits: u64) -> Order
         if below {
             flip(against(size, bits))
         } else {
-            unlike(false, size, unsigned)
+            across_zero(false, size, unsigned)
         }
     } else {
         if below {
-            unlike(true, size, unsigned)
+            across_zero(true, size, unsigned)
         } else {
             against(size, bits)
         }
@@ -153,7 +160,7 @@ fn whole_bits(below: bool, size: u64, bits: u64) -> Order
 }
 
 // Two Doubles: without their signs, the larger has the larger bits.
-fn bits_bits(left: u64, right: u64) -> Order
+fn double_double(left: u64, right: u64) -> Order
     ensures { λ r. ⌜ r ≡ orderOf (pointOf left) (pointOf right) ⌝ }
 {
     let a = left % SIGN_BIT;
@@ -164,7 +171,7 @@ fn bits_bits(left: u64, right: u64) -> Order
     if INFINITY_BITS < b {
         return Order::Unordered;
     }
-    signed(SIGN_BIT <= left, a, SIGN_BIT <= right, b)
+    signed_sizes(SIGN_BIT <= left, a, SIGN_BIT <= right, b)
 }
 
 // A whole number with its sign against a number of any kind.
@@ -172,20 +179,20 @@ fn from_whole(below: bool, size: u64, other: Number) -> Order
     ensures { λ r. ⌜ r ≡ orderOf (wholePoint below size) (numberPoint other) ⌝ }
 {
     match other {
-        Number::Int(z) => signed(below, size, z < 0, crate::int::magnitude(z)),
-        Number::Uint(n) => signed(below, size, false, n),
-        Number::Double(d) => whole_bits(below, size, crate::double::to_bits(d)),
+        Number::Int(z) => signed_sizes(below, size, z < 0, crate::int::magnitude(z)),
+        Number::Uint(n) => signed_sizes(below, size, false, n),
+        Number::Double(d) => whole_double(below, size, crate::double::to_bits(d)),
     }
 }
 
 // A Double against a number of any kind.
-fn from_bits(bits: u64, other: Number) -> Order
+fn from_double(bits: u64, other: Number) -> Order
     ensures { λ r. ⌜ r ≡ orderOf (pointOf bits) (numberPoint other) ⌝ }
 {
     match other {
-        Number::Int(z) => flip(whole_bits(z < 0, crate::int::magnitude(z), bits)),
-        Number::Uint(n) => flip(whole_bits(false, n, bits)),
-        Number::Double(d) => bits_bits(bits, crate::double::to_bits(d)),
+        Number::Int(z) => flip(whole_double(z < 0, crate::int::magnitude(z), bits)),
+        Number::Uint(n) => flip(whole_double(false, n, bits)),
+        Number::Double(d) => double_double(bits, crate::double::to_bits(d)),
     }
 }
 
@@ -195,7 +202,7 @@ pub fn compare(a: Number, b: Number) -> Order
     match a {
         Number::Int(z) => from_whole(z < 0, crate::int::magnitude(z), b),
         Number::Uint(n) => from_whole(false, n, b),
-        Number::Double(d) => from_bits(crate::double::to_bits(d), b),
+        Number::Double(d) => from_double(crate::double::to_bits(d), b),
     }
 }
 

@@ -10,11 +10,18 @@ pub enum UintAnswer {
 
 const MAX: u64 = 18446744073709551615;
 
+// Where the exact result is not in range.
+fn overflow() -> UintAnswer
+    ensures { λ r. ⌜ r ≡ UintAnswer.Error ArithmeticError.Overflow ⌝ }
+{
+    UintAnswer::Error(ArithmeticError::Overflow)
+}
+
 pub fn add(a: u64, b: u64) -> UintAnswer
     ensures { λ r. ⌜ r ≡ addOf a b ⌝ }
 {
     if MAX - b < a {
-        UintAnswer::Error(ArithmeticError::Overflow)
+        overflow()
     } else {
         UintAnswer::Value(a + b)
     }
@@ -26,7 +33,7 @@ pub fn sub(a: u64, b: u64) -> UintAnswer
     if b <= a {
         UintAnswer::Value(a - b)
     } else {
-        UintAnswer::Error(ArithmeticError::Overflow)
+        overflow()
     }
 }
 
@@ -37,7 +44,7 @@ pub fn mul(a: u64, b: u64) -> UintAnswer
         return UintAnswer::Value(0);
     }
     if MAX / b < a {
-        UintAnswer::Error(ArithmeticError::Overflow)
+        overflow()
     } else {
         UintAnswer::Value(a * b)
     }

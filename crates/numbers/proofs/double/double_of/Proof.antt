@@ -1,5 +1,5 @@
 -- `double::double_of` meets its contract. Assumes nothing.
-use mathlib.Core.Path.{_≡_, sym}
+use mathlib.Core.Path.{sym}
 use denote.Floats.{passes}
 use Rattle.numbers.proofs.DoubleLaws.{double-of-nan, double-of-plain}
 use Rattle.numbers.proofs.double.double_of.Statement.{statement}

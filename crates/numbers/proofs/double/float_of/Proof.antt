@@ -1,5 +1,5 @@
 -- `double::float_of` meets its contract. Assumes nothing.
-use mathlib.Core.Path.{_≡_, sym, ap, _∙_}
+use mathlib.Core.Path.{sym, ap, _∙_}
 use lib.Ieee.{binary64, ofBits}
 use lib.Ieee.Bits.{ofBits-toBits}
 use denote.Floats.{passes}

@@ -1,5 +1,5 @@
 -- `double::mul` meets its contract. Assumes nothing.
-use mathlib.Core.Path.{_≡_, ap, _∙_}
+use mathlib.Core.Path.{_∙_}
 use lib.Ieee as Ieee
 use lib.Ieee.{binary64, toBits}
 use borrow.Author.Needs.{needs}

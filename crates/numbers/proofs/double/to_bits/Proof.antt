@@ -1,5 +1,5 @@
 -- `double::to_bits` meets its contract. Assumes nothing.
-use mathlib.Core.Path.{_≡_, sym, ap, _∙_}
+use mathlib.Core.Path.{sym, ap, _∙_}
 use lib.Ieee.{binary64, toBits}
 use borrow.Author.Needs.{needs}
 use Rattle.numbers.specs.Double.{bitsOf}

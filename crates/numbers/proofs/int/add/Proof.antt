@@ -1,12 +1,12 @@
 -- `int::add` meets its contract: the arithmetic is `IntSums`'s. Assumes nothing.
-use mathlib.Core.Path.{_≡_, sym}
+use mathlib.Core.Path.{_≡_, sym, _∙_}
 use mathlib.Core.Bool.{true, false}
 use lib.IntN.{pos, _+ℤ_, _-ℤ_}
 use lib.Signed.{ltZ}
 use mir.Syntax.{w64}
 use mir.Val.{SFits}
 use mir.ValLaws.{toZ-ofZ}
-use borrow.Author.Needs.{sfits-of}
+use borrow.Author.Needs.{needs, sfits-of}
 use Rattle.numbers.specs.Int.{addOf}
 use Rattle.numbers.proofs.IntLaws.{answer-in, answer-out}
 use Rattle.numbers.proofs.IntSums.{MIN, MAX, min-sub, max-sub, add-low, add-ok-low, add-high, add-ok-high}
@@ -44,21 +44,27 @@ fits1 c = let s = c .before .before in sfits-of (add-ok-low (s .args .a) (s .arg
 fits2 : (c : tie.Else3) → SFits w64 (c .before .before .args .a +ℤ c .before .before .args .b)
 fits2 c = let s = c .before .before in sfits-of (add-ok-high (s .args .a) (s .args .b) (s .fits .a .sfits) (s .fits .b .sfits) (positive (c .before)) (in2 c))
 
+overflow-requires : tie.Need-overflow-requires
+overflow-requires c κs = search needs
+
+overflow-requires-2 : tie.Need-overflow-requires-2
+overflow-requires-2 c κs = search needs
+
 sub-if2 : tie.Need-sub-if2
 sub-if2 c = rw (toZ-ofZ w64 (c .before .args .b) (c .before .fits .b)) (limit1 c)
 
-add-t9 : tie.Need-add-t9
-add-t9 c = let s = c .before .before in rw (toZ-ofZ w64 (s .args .a) (s .fits .a), toZ-ofZ w64 (s .args .b) (s .fits .b)) (fits1 c)
+add-t8 : tie.Need-add-t8
+add-t8 c = let s = c .before .before in rw (toZ-ofZ w64 (s .args .a) (s .fits .a), toZ-ofZ w64 (s .args .b) (s .fits .b)) (fits1 c)
 
 sub-if3 : tie.Need-sub-if3
 sub-if3 c = rw (toZ-ofZ w64 (c .before .args .b) (c .before .fits .b)) (limit2 c)
 
-add-t14 : tie.Need-add-t14
-add-t14 c = let s = c .before .before in rw (toZ-ofZ w64 (s .args .a) (s .fits .a), toZ-ofZ w64 (s .args .b) (s .fits .b)) (fits2 c)
+add-t12 : tie.Need-add-t12
+add-t12 c = let s = c .before .before in rw (toZ-ofZ w64 (s .args .a) (s .fits .a), toZ-ofZ w64 (s .args .b) (s .fits .b)) (fits2 c)
 
 returns : tie.Need-returns
 unfolding addOf
-returns c = let s = c .before .before in sym (answer-out _ (add-low (s .args .a) (s .args .b) (s .fits .a .sfits) (s .fits .b .sfits) (negative (c .before)) (out1 c)))
+returns c = let s = c .before .before .before in c .overflow .ensures ∙ sym (answer-out _ (add-low (s .args .a) (s .args .b) (s .fits .a .sfits) (s .fits .b .sfits) (negative (c .before .before)) (out1 (c .before))))
 
 returns-2 : tie.Need-returns-2
 unfolding addOf
@@ -66,11 +72,23 @@ returns-2 c = let s = c .before .before in simp (toZ-ofZ w64 (s .args .a) (s .fi
 
 returns-3 : tie.Need-returns-3
 unfolding addOf
-returns-3 c = let s = c .before .before in sym (answer-out _ (add-high (s .args .a) (s .args .b) (s .fits .a .sfits) (s .fits .b .sfits) (positive (c .before)) (out2 c)))
+returns-3 c = let s = c .before .before .before in c .overflow2 .ensures ∙ sym (answer-out _ (add-high (s .args .a) (s .args .b) (s .fits .a .sfits) (s .fits .b .sfits) (positive (c .before .before)) (out2 (c .before))))
 
 returns-4 : tie.Need-returns-4
 unfolding addOf
 returns-4 c = let s = c .before .before in simp (toZ-ofZ w64 (s .args .a) (s .fits .a), toZ-ofZ w64 (s .args .b) (s .fits .b), toZ-ofZ w64 (s .args .a +ℤ s .args .b) (fits2 c)) (sym (answer-in _ (fits2 c .sfits)))
 
 pub add-spec : {M : Type 1} → statement M
-add-spec = tie.close (tie.spec sub-if2 add-t9 sub-if3 add-t14 returns returns-2 returns-3 returns-4)
+add-spec =
+    tie.close
+    (tie.spec
+    sub-if2
+    overflow-requires
+    add-t8
+    sub-if3
+    overflow-requires-2
+    add-t12
+    returns
+    returns-2
+    returns-3
+    returns-4)

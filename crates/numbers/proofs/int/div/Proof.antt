@@ -1,7 +1,7 @@
 -- `int::div` meets its contract. Assumes nothing.
-use mathlib.Core.Path.{_≡_, refl, sym}
+use mathlib.Core.Path.{refl, sym}
 use native.Mathlib.Omega.{arith}
-use lib.IntN.{ℤ, negsuc, negℤ}
+use lib.IntN.{negsuc}
 use lib.Signed.{quotZ}
 use mir.Syntax.{w64}
 use mir.Val.{SFits}

@@ -1,10 +1,9 @@
 -- `int::mul` meets its contract: the magnitudes are multiplied, and the sign is put back. Assumes nothing.
 use mathlib.Core.Path.{_≡_, sym, ap, _∙_}
 use mathlib.Core.Bool.{true, false}
-use Prim.Native.Nat.{ℕ, _*_, _^_, _≤_, _<_, zero, suc}
-use native.Mathlib.Omega.{arith}
-use lib.IntN.{ℤ, pos, negsuc, negℤ, natAbs, _*ℤ_}
-use lib.Signed.{ltZ, mag}
+use Prim.Native.Nat.{ℕ, _*_}
+use lib.IntN.{pos, negℤ, natAbs}
+use lib.Signed.{ltZ}
 use mir.Syntax.{w64}
 use mir.ValLaws.{toZ-ofZ}
 use borrow.Author.Needs.{needs}
@@ -38,10 +37,17 @@ enum-known-size c = search needs
 enum-told : tie.Need-enum-told
 enum-told c = search needs
 
+overflow-requires : tie.Need-overflow-requires
+overflow-requires c κs = search needs
+
 returns : tie.Need-returns
 unfolding mulOf umulOf
-returns c = let s = c .before .before .before .before .before in
-    sym (answer-out _ (mul-out (s .args .a) (s .args .b) (rw (size-a (c .before .before .before .before), size-b (c .before .before .before)) at (error-is _ _ (sym (c .enum-told .given .1) ∙ c .before .before .mul .ensures)))))
+returns c =
+    let t = c .before in
+    let m = t .before .before in
+    let s = m .before .before .before in
+    c .overflow .ensures
+    ∙ sym (answer-out _ (mul-out (s .args .a) (s .args .b) (rw (size-a (m .before .before), size-b (m .before)) at (error-is _ _ (sym (t .enum-told .given .1) ∙ m .mul .ensures)))))
 
 positive-requires : tie.Need-positive-requires
 positive-requires c κs = search needs
@@ -105,6 +111,7 @@ mul-spec =
     mul-requires
     enum-known-size
     enum-told
+    overflow-requires
     returns
     positive-requires
     negative-requires

@@ -1,14 +1,12 @@
 -- `int::negative` meets its contract. Assumes nothing.
-use mathlib.Core.Path.{_≡_, sym, ap, _∙_, subst}
-use Prim.Native.Nat.{ℕ, _-_, _^_, _<_, _≤_, zero, suc}
+use mathlib.Core.Path.{_≡_, sym, _∙_}
+use Prim.Native.Nat.{ℕ, _-_, _^_, _<_}
 use native.Mathlib.Omega.{arith}
-use lib.IntN.{ℤ, pos, negsuc, negℤ, predℤ, _-ℤ_, +ℤ-idl, -ℤ-one}
-use lib.Signed.{mag}
+use lib.IntN.{pos, negsuc, negℤ, _-ℤ_, +ℤ-idl, -ℤ-one}
 use mir.Syntax.{w64}
-use mir.Val.{SFits, toZ, ofZ}
+use mir.Val.{toZ, ofZ}
 use mir.ValLaws.{toZ-pos, toZ-ofZ}
 use borrow.Author.Needs.{needs, sfits-of}
-use Rattle.numbers.specs.Int.{answer}
 use Rattle.numbers.proofs.IntLaws.{answer-in, answer-out}
 use Rattle.numbers.proofs.IntMag.{pred-neg, neg-in, neg-suc}
 use Rattle.numbers.proofs.int.negative.Statement.{statement}
@@ -16,6 +14,9 @@ use Rattle.numbers.proofs.int.negative.Tie as tie
 
 minus : (k : ℕ) → k < 2 ^ 63 → toZ w64 (ofZ w64 (pos 0 -ℤ toZ w64 k)) ≡ negℤ (pos k)
 minus k h = rw (toZ-pos w64 k h, +ℤ-idl (negℤ (pos k))) (toZ-ofZ w64 (negℤ (pos k)) (neg-in k h))
+
+overflow-requires : tie.Need-overflow-requires
+overflow-requires c κs = search needs
 
 sub-t6 : tie.Need-sub-t6
 sub-t6 c = search needs
@@ -46,9 +47,10 @@ returns-2 c =
 
 returns-3 : tie.Need-returns-3
 returns-3 c =
-    let m = c .before .before .args .size in
-    let p : 0 < m = omega (arith, c .if2 .left) in
-    sym (answer-out (negℤ (pos m)) (rw (neg-suc m p) (omega (arith, c .if2 .left))))
+    let e = c .before in
+    let m = e .before .before .args .size in
+    let p : 0 < m = omega (arith, e .if2 .left) in
+    c .overflow .ensures ∙ sym (answer-out (negℤ (pos m)) (rw (neg-suc m p) (omega (arith, e .if2 .left))))
 
 pub negative-spec : {M : Type 1} → statement M
-negative-spec = tie.close (tie.spec sub-t6 cast-t7 sub-t8 sub-t9 returns returns-2 returns-3)
+negative-spec = tie.close (tie.spec sub-t6 cast-t7 sub-t8 sub-t9 overflow-requires returns returns-2 returns-3)

@@ -1,76 +1,64 @@
--- `int::sub` meets its contract: the arithmetic is `IntSums`'s. Assumes nothing.
-use mathlib.Core.Path.{_≡_, sym}
-use mathlib.Core.Bool.{true, false}
-use lib.IntN.{pos, _+ℤ_, _-ℤ_}
+-- `int::sub` meets its contract: a difference is the sum with the negation, which -2 ^ 63 alone has not. Assumes nothing.
+use mathlib.Core.Path.{_≡_, sym, ap, _∙_}
+use mathlib.Core.Bool.{true}
+use lib.IntN.{pos, negℤ, _+ℤ_, _-ℤ_, +ℤ-idl}
 use lib.Signed.{ltZ}
 use mir.Syntax.{w64}
 use mir.Val.{SFits}
 use mir.ValLaws.{toZ-ofZ}
-use borrow.Author.Needs.{sfits-of}
-use Rattle.numbers.specs.Int.{subOf}
+use borrow.Author.Needs.{needs, sfits-of}
+use Rattle.numbers.specs.Int.{addOf, subOf}
 use Rattle.numbers.proofs.IntLaws.{answer-in, answer-out}
-use Rattle.numbers.proofs.IntSums.{MIN, MAX, max-add, min-add, sub-high, sub-ok-high, sub-low, sub-ok-low}
+use Rattle.numbers.proofs.IntMag.{is-min, neg-ok}
+use Rattle.numbers.proofs.IntSums.{MIN, less-min-ok, less-min-out}
 use Rattle.numbers.proofs.int.sub.Statement.{statement}
 use Rattle.numbers.proofs.int.sub.Tie as tie
 
--- the tests, over ℤ
-negative : (c : tie.Then1) → ltZ (c .before .args .b) (pos 0) ≡ true
-negative c = rw (toZ-ofZ w64 (c .before .args .b) (c .before .fits .b)) at (c .if1 .taken)
+overflow-requires : tie.Need-overflow-requires
+overflow-requires c κs = search needs
 
-positive : (c : tie.Else1) → ltZ (c .before .args .b) (pos 0) ≡ false
-positive c = rw (toZ-ofZ w64 (c .before .args .b) (c .before .fits .b)) at (c .if1 .left)
+add-requires : tie.Need-add-requires
+add-requires c κs = search needs
 
-limit1 : (c : tie.Then1) → SFits w64 (MAX +ℤ c .before .args .b)
-limit1 c = let s = c .before in sfits-of (max-add (s .args .a) (s .args .b) (s .fits .a .sfits) (s .fits .b .sfits) (negative c))
+-- the divisions of the code, over ℤ
+minimum : (c : tie.Then1) → c .before .args .b ≡ MIN
+minimum c = is-min (c .before .args .b) (c .before .fits .b) (c .if1 .taken)
 
-limit2 : (c : tie.Else1) → SFits w64 (MIN +ℤ c .before .args .b)
-limit2 c = let s = c .before in sfits-of (min-add (s .args .a) (s .args .b) (s .fits .a .sfits) (s .fits .b .sfits) (positive c))
+below : (c : tie.Then2) → ltZ (c .before .before .args .a) (pos 0) ≡ true
+below c = let s = c .before .before in rw (toZ-ofZ w64 (s .args .a) (s .fits .a)) at (c .if2 .taken)
 
-out1 : (c : tie.Then2) → ltZ (MAX +ℤ c .before .before .args .b) (c .before .before .args .a) ≡ true
-out1 c = let s = c .before .before in simp (toZ-ofZ w64 (s .args .b) (s .fits .b), toZ-ofZ w64 (s .args .a) (s .fits .a), toZ-ofZ w64 (MAX +ℤ s .args .b) (limit1 (c .before))) at (c .if2 .taken)
+fits : (c : tie.Then2) → SFits w64 (c .before .before .args .a -ℤ MIN)
+fits c = let s = c .before .before in sfits-of (less-min-ok (s .args .a) (s .fits .a .sfits) (below c))
 
-in1 : (c : tie.Else2) → ltZ (MAX +ℤ c .before .before .args .b) (c .before .before .args .a) ≡ false
-in1 c = let s = c .before .before in simp (toZ-ofZ w64 (s .args .b) (s .fits .b), toZ-ofZ w64 (s .args .a) (s .fits .a), toZ-ofZ w64 (MAX +ℤ s .args .b) (limit1 (c .before))) at (c .if2 .left)
+negation : (c : tie.Else1) → SFits w64 (negℤ (c .before .args .b))
+negation c = sfits-of (neg-ok (c .before .args .b) (c .before .fits .b) (c .if1 .left))
 
-out2 : (c : tie.Then3) → ltZ (c .before .before .args .a) (MIN +ℤ c .before .before .args .b) ≡ true
-out2 c = let s = c .before .before in simp (toZ-ofZ w64 (s .args .b) (s .fits .b), toZ-ofZ w64 (s .args .a) (s .fits .a), toZ-ofZ w64 (MIN +ℤ s .args .b) (limit2 (c .before))) at (c .if3 .taken)
+sub-t7 : tie.Need-sub-t7
+sub-t7 c = let s = c .before .before in rw (toZ-ofZ w64 (s .args .a) (s .fits .a), toZ-ofZ w64 (s .args .b) (s .fits .b), minimum (c .before)) (fits c)
 
-in2 : (c : tie.Else3) → ltZ (c .before .before .args .a) (MIN +ℤ c .before .before .args .b) ≡ false
-in2 c = let s = c .before .before in simp (toZ-ofZ w64 (s .args .b) (s .fits .b), toZ-ofZ w64 (s .args .a) (s .fits .a), toZ-ofZ w64 (MIN +ℤ s .args .b) (limit2 (c .before))) at (c .if3 .left)
-
-fits1 : (c : tie.Else2) → SFits w64 (c .before .before .args .a -ℤ c .before .before .args .b)
-fits1 c = let s = c .before .before in sfits-of (sub-ok-high (s .args .a) (s .args .b) (s .fits .a .sfits) (s .fits .b .sfits) (negative (c .before)) (in1 c))
-
-fits2 : (c : tie.Else3) → SFits w64 (c .before .before .args .a -ℤ c .before .before .args .b)
-fits2 c = let s = c .before .before in sfits-of (sub-ok-low (s .args .a) (s .args .b) (s .fits .a .sfits) (s .fits .b .sfits) (positive (c .before)) (in2 c))
-
-add-if2 : tie.Need-add-if2
-add-if2 c = rw (toZ-ofZ w64 (c .before .args .b) (c .before .fits .b)) (limit1 c)
-
-sub-t9 : tie.Need-sub-t9
-sub-t9 c = let s = c .before .before in rw (toZ-ofZ w64 (s .args .a) (s .fits .a), toZ-ofZ w64 (s .args .b) (s .fits .b)) (fits1 c)
-
-add-if3 : tie.Need-add-if3
-add-if3 c = rw (toZ-ofZ w64 (c .before .args .b) (c .before .fits .b)) (limit2 c)
-
-sub-t14 : tie.Need-sub-t14
-sub-t14 c = let s = c .before .before in rw (toZ-ofZ w64 (s .args .a) (s .fits .a), toZ-ofZ w64 (s .args .b) (s .fits .b)) (fits2 c)
+sub-add : tie.Need-sub-add
+sub-add c = rw (toZ-ofZ w64 (c .before .args .b) (c .before .fits .b), +ℤ-idl (negℤ (c .before .args .b))) (negation c)
 
 returns : tie.Need-returns
 unfolding subOf
-returns c = let s = c .before .before in sym (answer-out _ (sub-high (s .args .a) (s .args .b) (s .fits .a .sfits) (s .fits .b .sfits) (negative (c .before)) (out1 c)))
+returns c =
+    let s = c .before .before in
+    rw (toZ-ofZ w64 (s .args .a) (s .fits .a), toZ-ofZ w64 (s .args .b) (s .fits .b), minimum (c .before), toZ-ofZ w64 (s .args .a -ℤ MIN) (fits c)) (sym (answer-in _ (fits c .sfits)))
 
 returns-2 : tie.Need-returns-2
 unfolding subOf
-returns-2 c = let s = c .before .before in simp (toZ-ofZ w64 (s .args .a) (s .fits .a), toZ-ofZ w64 (s .args .b) (s .fits .b), toZ-ofZ w64 (s .args .a -ℤ s .args .b) (fits1 c)) (sym (answer-in _ (fits1 c .sfits)))
+returns-2 c =
+    let e = c .before in
+    let s = e .before .before in
+    c .overflow .ensures
+    ∙ sym (ap (subOf (s .args .a)) (minimum (e .before)) ∙ answer-out _ (less-min-out (s .args .a) (s .fits .a .sfits) (rw (toZ-ofZ w64 (s .args .a) (s .fits .a)) at (e .if2 .left))))
 
 returns-3 : tie.Need-returns-3
-unfolding subOf
-returns-3 c = let s = c .before .before in sym (answer-out _ (sub-low (s .args .a) (s .args .b) (s .fits .a .sfits) (s .fits .b .sfits) (positive (c .before)) (out2 c)))
-
-returns-4 : tie.Need-returns-4
-unfolding subOf
-returns-4 c = let s = c .before .before in simp (toZ-ofZ w64 (s .args .a) (s .fits .a), toZ-ofZ w64 (s .args .b) (s .fits .b), toZ-ofZ w64 (s .args .a -ℤ s .args .b) (fits2 c)) (sym (answer-in _ (fits2 c .sfits)))
+unfolding addOf subOf
+returns-3 c =
+    let s = c .before .before in
+    rw (toZ-ofZ w64 (s .args .a) (s .fits .a), toZ-ofZ w64 (s .args .b) (s .fits .b), +ℤ-idl (negℤ (s .args .b)), toZ-ofZ w64 (negℤ (s .args .b)) (negation (c .before))) at (c .add .ensures)
 
 pub sub-spec : {M : Type 1} → statement M
-sub-spec = tie.close (tie.spec add-if2 sub-t9 add-if3 sub-t14 returns returns-2 returns-3 returns-4)
+sub-spec =
+    tie.close (tie.spec sub-t7 overflow-requires sub-add add-requires returns returns-2 returns-3)

@@ -1,9 +1,8 @@
 -- `order::compare` meets its contract. Assumes nothing.
-use mathlib.Core.Path.{_≡_, sym, ap, _∙_}
-use lib.IntN.{ℤ}
+use mathlib.Core.Path.{sym, ap, _∙_}
 use borrow.Author.Needs.{needs, sfits-of}
 use Rattle.numbers.specs.declared.order.Number.{Number}
-use Rattle.numbers.specs.Double.{pointOf, bitsOf}
+use Rattle.numbers.specs.Double.{pointOf}
 use Rattle.numbers.specs.Order.{orderOf, wholePoint, numberPoint}
 use Rattle.numbers.proofs.WholeLaws.{int-below, int-size}
 use Rattle.numbers.proofs.order.compare.Statement.{statement}
@@ -30,8 +29,8 @@ enum-known-a-3 c = search needs
 to-bits-requires : tie.Need-to-bits-requires
 to-bits-requires c κs = search needs
 
-from-bits-requires : tie.Need-from-bits-requires
-from-bits-requires c κs = search needs
+from-double-requires : tie.Need-from-double-requires
+from-double-requires c κs = search needs
 
 returns : tie.Need-returns
 returns c =
@@ -54,7 +53,7 @@ returns-3 : tie.Need-returns-3
 returns-3 c =
     let arm = c .before .before .before in
     let s = arm .before .before in
-    c .from-bits .ensures
+    c .from-double .ensures
     ∙ (λ i. orderOf (pointOf (c .before .to-bits .ensures i)) (numberPoint (s .args .b)))
     ∙ ap (λ (v : Number). orderOf (numberPoint v) (numberPoint (s .args .b))) (sym (arm .a3 .given .1))
 
@@ -69,7 +68,7 @@ compare-spec =
     from-whole-requires-2
     enum-known-a-3
     to-bits-requires
-    from-bits-requires
+    from-double-requires
     returns
     returns-2
     returns-3)

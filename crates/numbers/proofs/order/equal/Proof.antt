@@ -1,5 +1,5 @@
 -- `order::equal` meets its contract. Assumes nothing.
-use mathlib.Core.Path.{_≡_, sym, ap, _∙_}
+use mathlib.Core.Path.{sym, ap, _∙_}
 use Rattle.numbers.specs.Order.{isEqual}
 use borrow.Author.Needs.{needs}
 use Rattle.numbers.proofs.order.equal.Statement.{statement}

@@ -1,5 +1,5 @@
 -- `order::sizes` meets its contract. Assumes nothing.
-use mathlib.Core.Path.{_≡_, sym}
+use mathlib.Core.Path.{sym}
 use native.Mathlib.Omega.{arith}
 use Rattle.numbers.proofs.SignedOrder.{size-less, size-equal, size-greater}
 use Rattle.numbers.proofs.order.sizes.Statement.{statement}

@@ -1,5 +1,5 @@
 -- `uint::mul` meets its contract: the product is in range exactly if a is at most the largest `u64` over b. Assumes nothing.
-use mathlib.Core.Path.{_≡_, sym}
+use mathlib.Core.Path.{sym, _∙_}
 use Prim.Native.Nat.{ℕ, _*_, _/_, _^_, _≤_, _<_}
 use native.Mathlib.Nat.{le-div-iff-mul-le, div-lt-iff-lt-mul, mul-zero}
 use native.Mathlib.Omega.{arith}
@@ -19,19 +19,22 @@ returns : tie.Need-returns
 unfolding mulOf
 returns c = rw (c .if1 .taken, mul-zero) (sym (answer-in 0 (omega arith)))
 
+overflow-requires : tie.Need-overflow-requires
+overflow-requires c κs = search needs
+
 div-if2 : tie.Need-div-if2
 div-if2 c = search needs
 
-mul-t7 : tie.Need-mul-t7
-mul-t7 c = record { fits = fit _ _ (omega (arith, c .before .if1 .left)) (c .if2 .left) }
+mul-t6 : tie.Need-mul-t6
+mul-t6 c = record { fits = fit _ _ (omega (arith, c .before .if1 .left)) (c .if2 .left) }
 
 returns-2 : tie.Need-returns-2
 unfolding mulOf
-returns-2 c = sym (answer-out _ (wrap _ _ (omega (arith, c .before .if1 .left)) (c .if2 .taken)))
+returns-2 c = c .overflow .ensures ∙ sym (answer-out _ (wrap _ _ (omega (arith, c .before .before .if1 .left)) (c .before .if2 .taken)))
 
 returns-3 : tie.Need-returns-3
 unfolding mulOf
 returns-3 c = sym (answer-in _ (fit _ _ (omega (arith, c .before .if1 .left)) (c .if2 .left)))
 
 pub mul-spec : {M : Type 1} → statement M
-mul-spec = tie.close (tie.spec returns div-if2 mul-t7 returns-2 returns-3)
+mul-spec = tie.close (tie.spec returns div-if2 overflow-requires mul-t6 returns-2 returns-3)

@@ -1,16 +1,16 @@
--- `order::bits_bits` meets its contract. Assumes nothing.
-use mathlib.Core.Path.{_≡_, sym, ap, _∙_}
+-- `order::double_double` meets its contract. Assumes nothing.
+use mathlib.Core.Path.{sym, ap, _∙_}
 use Rattle.numbers.specs.Double.{Point, pointOf}
 use Rattle.numbers.specs.Order.{orderOf}
 use Rattle.numbers.proofs.DoubleLaws.{nan-test, no-nan-test}
 use Rattle.numbers.proofs.OrderLaws.{nan-left, nan-right}
 use Rattle.numbers.proofs.PointLaws.{nan-point, bits-order}
 use borrow.Author.Needs.{needs}
-use Rattle.numbers.proofs.order.bits_bits.Statement.{statement}
-use Rattle.numbers.proofs.order.bits_bits.Tie as tie
+use Rattle.numbers.proofs.order.double_double.Statement.{statement}
+use Rattle.numbers.proofs.order.double_double.Tie as tie
 
-signed-requires : tie.Need-signed-requires
-signed-requires c κs = search needs
+signed-sizes-requires : tie.Need-signed-sizes-requires
+signed-sizes-requires c κs = search needs
 
 returns : tie.Need-returns
 returns c = let s = c .before in sym (ap (λ (x : Point). orderOf x (pointOf (s .args .right))) (nan-point _ (nan-test _ (c .if1 .taken))) ∙ nan-left _)
@@ -19,7 +19,7 @@ returns-2 : tie.Need-returns-2
 returns-2 c = let s = c .before .before in sym (ap (orderOf (pointOf (s .args .left))) (nan-point _ (nan-test _ (c .if2 .taken))) ∙ nan-right _)
 
 returns-3 : tie.Need-returns-3
-returns-3 c = c .signed .ensures ∙ sym (bits-order _ _ (no-nan-test _ (c .before .before .if1 .left)) (no-nan-test _ (c .before .if2 .left)))
+returns-3 c = c .signed-sizes .ensures ∙ sym (bits-order _ _ (no-nan-test _ (c .before .before .if1 .left)) (no-nan-test _ (c .before .if2 .left)))
 
-pub bits-bits-spec : {M : Type 1} → statement M
-bits-bits-spec = tie.close (tie.spec returns returns-2 signed-requires returns-3)
+pub double-double-spec : {M : Type 1} → statement M
+double-double-spec = tie.close (tie.spec returns returns-2 signed-sizes-requires returns-3)

@@ -1,6 +1,6 @@
--- `order::whole_bits` meets its contract. Assumes nothing.
+-- `order::whole_double` meets its contract. Assumes nothing.
 use mathlib.Core.Path.{_≡_, sym, ap, _∙_}
-use mathlib.Core.Bool.{Bool, true, false, not}
+use mathlib.Core.Bool.{Bool, true, false}
 use Prim.Native.Nat.{ℕ}
 use borrow.Author.Tests.{le-leb, lt-leb}
 use Rattle.numbers.specs.Double.{pointOf}
@@ -9,8 +9,8 @@ use Rattle.numbers.proofs.DoubleLaws.{nan-test, no-nan-test}
 use Rattle.numbers.proofs.OrderLaws.{nan-right}
 use Rattle.numbers.proofs.PointLaws.{nan-point, whole-above, whole-below, whole-unlike}
 use borrow.Author.Needs.{needs}
-use Rattle.numbers.proofs.order.whole_bits.Statement.{statement}
-use Rattle.numbers.proofs.order.whole_bits.Tie as tie
+use Rattle.numbers.proofs.order.whole_double.Statement.{statement}
+use Rattle.numbers.proofs.order.whole_double.Tie as tie
 
 against-requires : tie.Need-against-requires
 against-requires c κs = search needs
@@ -18,11 +18,11 @@ against-requires c κs = search needs
 flip-requires : tie.Need-flip-requires
 flip-requires c κs = search needs
 
-unlike-requires : tie.Need-unlike-requires
-unlike-requires c κs = search needs
+across-zero-requires : tie.Need-across-zero-requires
+across-zero-requires c κs = search needs
 
-unlike-requires-2 : tie.Need-unlike-requires-2
-unlike-requires-2 c κs = search needs
+across-zero-requires-2 : tie.Need-across-zero-requires-2
+across-zero-requires-2 c κs = search needs
 
 against-requires-2 : tie.Need-against-requires-2
 against-requires-2 c κs = search needs
@@ -50,7 +50,7 @@ returns-3 c =
     let t = c .before in
     let e = t .before .before in
     let s = e .before in
-    c .unlike .ensures
+    c .across-zero .ensures
     ∙ sym (whole-unlike _ _ (s .fits .size .fits) (no-nan-test _ (e .if1 .left)) false (le-leb _ _ (t .before .if2 .taken)))
     ∙ signed-whole _ false _ _ (t .if3 .left)
 
@@ -59,7 +59,7 @@ returns-4 c =
     let t = c .before in
     let e = t .before .before in
     let s = e .before in
-    c .unlike2 .ensures
+    c .across-zero2 .ensures
     ∙ sym (whole-unlike _ _ (s .fits .size .fits) (no-nan-test _ (e .if1 .left)) true (lt-leb _ _ (t .before .if2 .left)))
     ∙ signed-whole _ true _ _ (t .if4 .taken)
 
@@ -72,15 +72,15 @@ returns-5 c =
     ∙ sym (whole-above _ _ (s .fits .size .fits) (no-nan-test _ (e .if1 .left)) (lt-leb _ _ (t .before .if2 .left)))
     ∙ signed-whole _ false _ _ (t .if4 .left)
 
-pub whole-bits-spec : {M : Type 1} → statement M
-whole-bits-spec =
+pub whole-double-spec : {M : Type 1} → statement M
+whole-double-spec =
     tie.close
     (tie.spec
     returns
     against-requires
     flip-requires
-    unlike-requires
-    unlike-requires-2
+    across-zero-requires
+    across-zero-requires-2
     against-requires-2
     returns-2
     returns-3

@@ -1,13 +1,13 @@
--- `order::unlike` meets its contract. Assumes nothing.
-use mathlib.Core.Path.{_≡_, sym, ap, _∙_}
-use mathlib.Core.Bool.{Bool, not, cond}
+-- `order::across_zero` meets its contract. Assumes nothing.
+use mathlib.Core.Path.{sym, ap, _∙_}
+use mathlib.Core.Bool.{Bool, cond}
 use mathlib.Core.Logic.{⊎-elim}
-use Prim.Native.Nat.{ℕ, _+_, _<_}
+use Prim.Native.Nat.{_+_, _<_}
 use native.Mathlib.Omega.{arith}
 use Rattle.numbers.specs.declared.order.Order.the-variants.{Less, Greater}
 use Rattle.numbers.proofs.SignedOrder.{unlike-zero, unlike-some}
-use Rattle.numbers.proofs.order.unlike.Statement.{statement}
-use Rattle.numbers.proofs.order.unlike.Tie as tie
+use Rattle.numbers.proofs.order.across_zero.Statement.{statement}
+use Rattle.numbers.proofs.order.across_zero.Tie as tie
 
 returns : tie.Need-returns
 returns c = sym (unlike-zero _ _ _ (c .before .if1 .taken) (c .if2 .taken))
@@ -22,5 +22,5 @@ returns-2 c = sym (unlike-some _ _ _ (some (c .before)) ∙ ap (λ (t : Bool). c
 returns-3 : tie.Need-returns-3
 returns-3 c = sym (unlike-some _ _ _ (some (c .before)) ∙ ap (λ (t : Bool). cond t Less Greater) (c .if3 .left))
 
-pub unlike-spec : {M : Type 1} → statement M
-unlike-spec = tie.close (tie.spec returns returns-2 returns-3)
+pub across-zero-spec : {M : Type 1} → statement M
+across-zero-spec = tie.close (tie.spec returns returns-2 returns-3)
