@@ -1,0 +1,1 @@
+// The theorems on the definition of evaluation. There is no code here.

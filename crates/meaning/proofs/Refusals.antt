@@ -1,0 +1,67 @@
+-- Tables that are refused, and some that nearly are: the number and the place. Assumes nothing.
+use mathlib.Core.Path.{_≡_, refl}
+use mathlib.Core.List.{List, [], _∷_}
+use Rattle.meaning.specs.Value.{string, bytes, scalar, map, empty}
+use Rattle.meaning.proofs.Sample.{Row, row, Hold, counts, ample, gives, refuses, String, Bytes}
+use Rattle.meaning.proofs.Compute.{compute}
+
+-- tables by their bytes
+unfoldable pub refusals : List Row
+refusals =
+    -- no table at all
+    row [] [] [] ample
+    (refuses 1 0)
+    -- an operand behind its parent's end, of an unknown kind
+    ∷ row (8 ∷ 4 ∷ 0 ∷ 1 ∷ 255 ∷ []) [] [] ample
+    (refuses 2 4)
+    -- an operand behind its parent's end, of a known kind
+    ∷ row (8 ∷ 4 ∷ 0 ∷ 1 ∷ 0 ∷ []) [] [] ample
+    (refuses 3 4)
+    -- an operand at the table's end
+    ∷ row (8 ∷ 4 ∷ 0 ∷ 1 ∷ []) [] [] ample
+    (refuses 3 4)
+    -- an extent smaller than the head
+    ∷ row (8 ∷ 3 ∷ 0 ∷ 1 ∷ 1 ∷ 4 ∷ 0 ∷ 1 ∷ []) [] [] ample
+    (refuses 3 0)
+    -- a second operand that cannot fit is missed where it would begin
+    ∷ row (9 ∷ 7 ∷ 0 ∷ 1 ∷ 0 ∷ 3 ∷ 0 ∷ []) [] [] ample
+    (refuses 3 7)
+    -- an extent larger than the sum of the parts
+    ∷ row (8 ∷ 8 ∷ 0 ∷ 1 ∷ 0 ∷ 3 ∷ 0 ∷ 0 ∷ []) [] [] ample
+    (refuses 3 0)
+    -- a fault in an operand comes before that
+    ∷ row (8 ∷ 9 ∷ 0 ∷ 1 ∷ 1 ∷ 4 ∷ 0 ∷ 5 ∷ 0 ∷ []) [] [] ample
+    (refuses 5 4)
+    -- an unknown function
+    ∷ row (16 ∷ 5 ∷ 0 ∷ 7 ∷ 0 ∷ []) [] [] ample
+    (refuses 5 0)
+    -- an empty span behind the text's end
+    ∷ row (5 ∷ 7 ∷ 0 ∷ 1 ∷ 0 ∷ 0 ∷ 0 ∷ []) [] [] ample
+    (refuses 5 0)
+    -- an empty span at the text's end
+    ∷ row (5 ∷ 7 ∷ 0 ∷ 1 ∷ 0 ∷ 0 ∷ 0 ∷ []) (97 ∷ []) [] ample
+    (gives (scalar (string [])) (counts 1 0 0) [] [])
+    -- a name above 127
+    ∷ row (7 ∷ 4 ∷ 0 ∷ 128 ∷ []) [] [] ample
+    (refuses 5 0)
+    -- a mark as the root
+    ∷ row (14 ∷ 6 ∷ 0 ∷ 0 ∷ 3 ∷ 0 ∷ []) [] [] ample
+    (refuses 6 0)
+    -- a mark as a map's key
+    ∷ row (13 ∷ 14 ∷ 0 ∷ 1 ∷ 0 ∷ 14 ∷ 6 ∷ 0 ∷ 0 ∷ 3 ∷ 0 ∷ 0 ∷ 3 ∷ 0 ∷ []) [] [] ample
+    (refuses 6 5)
+    -- a String that is not UTF-8
+    ∷ row (5 ∷ 7 ∷ 0 ∷ 0 ∷ 0 ∷ 1 ∷ 0 ∷ []) (255 ∷ []) [] ample
+    (refuses 5 0)
+    -- Bytes that are not UTF-8
+    ∷ row (6 ∷ 7 ∷ 0 ∷ 0 ∷ 0 ∷ 1 ∷ 0 ∷ []) (255 ∷ []) [] ample
+    (gives (scalar (bytes (255 ∷ []))) (counts 1 0 0) [] [])
+    -- a byte after the root
+    ∷ row (0 ∷ 3 ∷ 0 ∷ 0 ∷ []) [] [] ample
+    (refuses 7 3)
+    ∷ []
+
+-- Each is refused for the reason and at the place that the order of the tests gives, or read.
+pub refusals-hold : Hold refusals
+unfolding compute refusals
+refusals-hold = refl

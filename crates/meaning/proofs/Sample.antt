@@ -1,0 +1,251 @@
+-- Notation for worked examples: tables spelled record by record, their extents worked out, and answers as a reader would say them.
+use Prim.Native.Nat.{ℕ, zero, suc, _+_, _-_, _/_, _%_, _^_}
+use mathlib.Core.Path.{_≡_}
+use mathlib.Core.List.{List, [], _∷_, _++_, map}
+use mathlib.Core.Bool.{Bool}
+use lib.IntN.{ℤ}
+use lib.ListN.{length, replicate}
+use Rattle.meaning.specs.Limits.{Counts, mostSteps, mostCells, mostBytes}
+use Rattle.meaning.specs.Errors.{Exhausted, errorNumber, refusalNumber}
+use Rattle.meaning.specs.Value.{bool, int, Value, scalar, list, Values, nil, cons}
+use Rattle.meaning.specs.Limited.{Outcome, value, error, exhausted, Rooms, zeroCell, holding}
+use Rattle.meaning.specs.Bindings.{BindingRoom}
+use Rattle.meaning.specs.Answer.{Answer, refusal, ran, Answered, answerOf}
+
+-- ---- records
+
+-- n as so many bytes, the lowest first
+unfoldable pub little : ℕ → ℕ → List ℕ
+little zero n = []
+little (suc k) n = n % 256 ∷ little k (n / 256)
+
+-- a kind byte, the extent, the fields, the operands
+unfoldable pub spelled : ℕ → List ℕ → List ℕ → List ℕ
+spelled kind fields operands = kind ∷ (little 2 (3 + length fields + length operands) ++ (fields ++ operands))
+
+unfoldable pub joined : List (List ℕ) → List ℕ
+joined [] = []
+joined (x ∷ xs) = x ++ joined xs
+
+abbrev pub Null : List ℕ
+Null = spelled 0 [] []
+
+abbrev pub True : List ℕ
+True = spelled 1 (1 ∷ []) []
+
+abbrev pub False : List ℕ
+False = spelled 1 (0 ∷ []) []
+
+abbrev pub Int : ℕ → List ℕ
+Int n = spelled 2 (little 8 n) []
+
+-- -(n + 1)
+abbrev pub Below : ℕ → List ℕ
+Below n = spelled 2 (little 8 (2 ^ 64 - suc n)) []
+
+abbrev pub Uint : ℕ → List ℕ
+Uint n = spelled 3 (little 8 n) []
+
+abbrev pub Double : ℕ → List ℕ
+Double bits = spelled 4 (little 8 bits) []
+
+-- a span of the text: offset, length
+abbrev pub String : ℕ → ℕ → List ℕ
+String at n = spelled 5 (little 2 at ++ little 2 n) []
+
+abbrev pub Bytes : ℕ → ℕ → List ℕ
+Bytes at n = spelled 6 (little 2 at ++ little 2 n) []
+
+abbrev pub Name : ℕ → List ℕ
+Name n = spelled 7 (n ∷ []) []
+
+abbrev pub Not : List ℕ → List ℕ
+Not e = spelled 8 (1 ∷ []) e
+
+abbrev pub NotStrictlyFalse : List ℕ → List ℕ
+NotStrictlyFalse e = spelled 8 (3 ∷ []) e
+
+abbrev pub Or : List ℕ → List ℕ → List ℕ
+Or e f = spelled 9 (1 ∷ []) (e ++ f)
+
+abbrev pub And : List ℕ → List ℕ → List ℕ
+And e f = spelled 9 (2 ∷ []) (e ++ f)
+
+abbrev pub Equals : List ℕ → List ℕ → List ℕ
+Equals e f = spelled 9 (3 ∷ []) (e ++ f)
+
+abbrev pub Differs : List ℕ → List ℕ → List ℕ
+Differs e f = spelled 9 (4 ∷ []) (e ++ f)
+
+abbrev pub Index : List ℕ → List ℕ → List ℕ
+Index e f = spelled 9 (5 ∷ []) (e ++ f)
+
+abbrev pub OptIndex : List ℕ → List ℕ → List ℕ
+OptIndex e f = spelled 9 (6 ∷ []) (e ++ f)
+
+abbrev pub OptSelect : List ℕ → List ℕ → List ℕ
+OptSelect e f = spelled 9 (7 ∷ []) (e ++ f)
+
+abbrev pub Plus : List ℕ → List ℕ → List ℕ
+Plus e f = spelled 9 (8 ∷ []) (e ++ f)
+
+abbrev pub Minus : List ℕ → List ℕ → List ℕ
+Minus e f = spelled 9 (9 ∷ []) (e ++ f)
+
+abbrev pub Over : List ℕ → List ℕ → List ℕ
+Over e f = spelled 9 (10 ∷ []) (e ++ f)
+
+abbrev pub Times : List ℕ → List ℕ → List ℕ
+Times e f = spelled 9 (11 ∷ []) (e ++ f)
+
+abbrev pub Rem : List ℕ → List ℕ → List ℕ
+Rem e f = spelled 9 (12 ∷ []) (e ++ f)
+
+abbrev pub Less : List ℕ → List ℕ → List ℕ
+Less e f = spelled 9 (13 ∷ []) (e ++ f)
+
+abbrev pub AtMost : List ℕ → List ℕ → List ℕ
+AtMost e f = spelled 9 (14 ∷ []) (e ++ f)
+
+abbrev pub More : List ℕ → List ℕ → List ℕ
+More e f = spelled 9 (15 ∷ []) (e ++ f)
+
+abbrev pub AtLeast : List ℕ → List ℕ → List ℕ
+AtLeast e f = spelled 9 (16 ∷ []) (e ++ f)
+
+abbrev pub In : List ℕ → List ℕ → List ℕ
+In e f = spelled 9 (17 ∷ []) (e ++ f)
+
+abbrev pub If : List ℕ → List ℕ → List ℕ → List ℕ
+If c e f = spelled 10 [] (c ++ e ++ f)
+
+abbrev pub Select : List ℕ → ℕ → ℕ → List ℕ
+Select e at n = spelled 11 (0 ∷ (little 2 at ++ little 2 n)) e
+
+abbrev pub Has : List ℕ → ℕ → ℕ → List ℕ
+Has e at n = spelled 11 (1 ∷ (little 2 at ++ little 2 n)) e
+
+abbrev pub ListOf : List (List ℕ) → List ℕ
+ListOf es = spelled 12 (little 2 (length es)) (joined es)
+
+-- key, value, key, value
+abbrev pub MapOf : List (List ℕ) → List ℕ
+MapOf es = spelled 13 (little 2 (length es / 2)) (joined es)
+
+abbrev pub Mark : List ℕ → List ℕ
+Mark e = spelled 14 [] e
+
+-- accumulator, item; range, init, condition, step, result
+abbrev pub Fold : ℕ → ℕ → List ℕ → List ℕ → List ℕ → List ℕ → List ℕ → List ℕ
+Fold a i range init condition step result = spelled 15 (a ∷ i ∷ []) (range ++ init ++ condition ++ step ++ result)
+
+abbrev pub Size : List ℕ → List ℕ
+Size e = spelled 16 (1 ∷ []) e
+
+abbrev pub Some : List ℕ → List ℕ
+Some e = spelled 16 (2 ∷ []) e
+
+abbrev pub HasValue : List ℕ → List ℕ
+HasValue e = spelled 16 (4 ∷ []) e
+
+abbrev pub ValueOf : List ℕ → List ℕ
+ValueOf e = spelled 16 (5 ∷ []) e
+
+abbrev pub None : List ℕ
+None = spelled 16 (3 ∷ []) []
+
+abbrev pub OrValue : List ℕ → List ℕ → List ℕ
+OrValue e f = spelled 16 (6 ∷ []) (e ++ f)
+
+-- ---- values
+
+abbrev pub truth : Bool → Value
+truth b = scalar (bool b)
+
+abbrev pub number : ℤ → Value
+number z = scalar (int z)
+
+unfoldable pub valuesOf : List Value → Values
+valuesOf [] = nil
+valuesOf (v ∷ vs) = cons v (valuesOf vs)
+
+abbrev pub elements : List Value → Value
+elements vs = list (valuesOf vs)
+
+-- ---- answers
+
+-- a value with its counts, the cells' values and the text; an error's number and place; what ran out; a refusal's number and place
+pub data Shown : Type 0 where
+  gives : Value → Counts → List Value → List ℕ → Shown
+  fails : ℕ → ℕ → Counts → Shown
+  exhausts : Exhausted → Counts → Shown
+  refuses : ℕ → ℕ → Shown
+
+-- the whole answer that this says, rooms included: zeros below the counts where it is no value, and nothing after a refusal
+pub record Seen : Type 0 where
+  pub shown : Shown
+  pub rooms : Rooms
+
+abbrev pub zeros : Counts → Rooms
+zeros c = record { cells = replicate (c .cells) zeroCell; bytes = replicate (c .bytes) 0 }
+
+abbrev pub expected : Shown → Seen
+expected (gives v c cells text) = record { shown = gives v c cells text; rooms = record { cells = map holding cells; bytes = text } }
+expected (fails n p c) = record { shown = fails n p c; rooms = zeros c }
+expected (exhausts x c) = record { shown = exhausts x c; rooms = zeros c }
+expected (refuses n p) = record { shown = refuses n p; rooms = record { cells = []; bytes = [] } }
+
+-- what an answer shows; cells and text of a value are those that are expected, the rooms are its own
+abbrev pub outcomeShown : List Value → List ℕ → Outcome → Shown
+outcomeShown cells text (value v c) = gives v c cells text
+outcomeShown cells text (error e c) = fails (errorNumber (e .error)) (e .place) c
+outcomeShown cells text (exhausted x c) = exhausts x c
+
+abbrev pub answerShown : List Value → List ℕ → Answer → Shown
+answerShown cells text (refusal r p) = refuses (refusalNumber r) p
+answerShown cells text (ran o) = outcomeShown cells text o
+
+abbrev pub cellsIn : Shown → List Value
+cellsIn (gives v c cells text) = cells
+cellsIn (fails n p c) = []
+cellsIn (exhausts x c) = []
+cellsIn (refuses n p) = []
+
+abbrev pub textIn : Shown → List ℕ
+textIn (gives v c cells text) = text
+textIn (fails n p c) = []
+textIn (exhausts x c) = []
+textIn (refuses n p) = []
+
+abbrev pub seen : Shown → Answered → Seen
+seen s a = record { shown = answerShown (cellsIn s) (textIn s) (a .answer); rooms = a .rooms }
+
+-- ---- rows
+
+abbrev pub counts : ℕ → ℕ → ℕ → Counts
+counts s c b = record { steps = s; cells = c; bytes = b }
+
+-- all that can be lent
+abbrev pub ample : Counts
+ample = counts mostSteps mostCells mostBytes
+
+-- a table, its text, what is bound, what is lent, and the answer that must come
+pub record Row : Type 0 where
+  pub table : List ℕ
+  pub text : List ℕ
+  pub bound : List (ℕ × Value)
+  pub lent : Counts
+  pub answer : Shown
+
+abbrev pub row : List ℕ → List ℕ → List (ℕ × Value) → Counts → Shown → Row
+row table text bound lent answer = record { table = table; text = text; bound = bound; lent = lent; answer = answer }
+
+abbrev pub roomOf : List (ℕ × Value) → BindingRoom
+roomOf bound = record { bound = bound; usedCells = 0; usedBytes = 0 }
+
+abbrev pub answered : Row → Seen
+answered r = seen (r .answer) (answerOf (r .table) (r .text) (roomOf (r .bound)) (r .lent))
+
+-- every row's answer is the one that must come
+abbrev pub Hold : List Row → Type 0
+Hold rows = map answered rows ≡ map (λ r. expected (r .answer)) rows
