@@ -22,7 +22,7 @@ from typing import Iterable
 REPOSITORY = Path(__file__).resolve().parents[2]
 SCRATCH = REPOSITORY / "target" / "rows"
 MOST_STEPS = 3_000  # longer runs take the checker too long
-MOST_CHARACTERS = 30_000  # of a case's line
+MOST_CHARACTERS = 20_000  # of a case's line: beyond that the checker meets its own step limit
 
 KIT = """-- Bindings brought in one after the other, and what each answers.
 use Prim.Native.Nat.{ℕ}

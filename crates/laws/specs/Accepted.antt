@@ -1,0 +1,35 @@
+-- Binding rooms that come about: an empty one, and what becomes of one of these by bringing in a binding. And what a value in one is.
+use Prim.Native.Nat.{ℕ, _+_, _≤_}
+use mathlib.Core.Path.{_≡_}
+use mathlib.Core.List.{List, [], _∷_}
+use mathlib.Core.Option.{some}
+use Rattle.meaning.specs.Limits.{mostCells, mostBytes}
+use Rattle.meaning.specs.Value.{Value}
+use Rattle.meaning.specs.Comprehension.{Scope}
+use Rattle.meaning.specs.Heads.{got}
+use Rattle.meaning.specs.Bindings.{cellsOf, bytesOf, BindingRoom, emptyRoom, bring}
+use Rattle.meaning.specs.WellFormed.{AllBytes, WellFormed}
+
+-- on so many lent cells and bytes; tables and texts are bytes
+pub data Accepted (lentCells lentBytes : ℕ) : BindingRoom → Type 0 where
+  fresh : Accepted lentCells lentBytes emptyRoom
+  brought : {room next : BindingRoom} (number : ℕ) (table text : List ℕ) → Accepted lentCells lentBytes room → AllBytes table → AllBytes text
+      → bring lentCells lentBytes room number table text ≡ got next → Accepted lentCells lentBytes next
+
+-- well formed, and no larger than a binding room
+pub record BoundValue (v : Value) : Type 0 where
+  pub formed : WellFormed v
+  pub cellsFit : cellsOf v ≤ mostCells
+  pub bytesFit : bytesOf v ≤ mostBytes
+
+abbrev pub BoundScope : Scope → Type 0
+BoundScope s = (n : ℕ) (v : Value) → s n ≡ some v → BoundValue v
+
+-- what all the values of a room take together
+abbrev pub cellsTaken : List (ℕ × Value) → ℕ
+cellsTaken [] = 0
+cellsTaken (b ∷ bs) = cellsTaken bs + cellsOf (b .1)
+
+abbrev pub bytesTaken : List (ℕ × Value) → ℕ
+bytesTaken [] = 0
+bytesTaken (b ∷ bs) = bytesTaken bs + bytesOf (b .1)
