@@ -6,6 +6,21 @@ pub mod Congruence
 pub mod Seen
 pub mod Agreement
 pub mod Bystanders
+-- exhaustion comes exactly at the first charge that would pass its limit, and every table gets one answer
+pub mod Spending
+pub mod Exhausted
+pub mod Filled
+pub mod Answers
+-- nothing turns exhaustion into another answer
+pub mod Opening
+pub mod BegunOperands
+pub mod BegunParts
+pub mod BegunItems
+pub mod Begun
+pub mod LookWritten
+pub mod BegunCovers
+pub mod BegunExamples
+pub mod NotBegun
 -- the values that can occur are well formed: what is kept, and by which rule
 pub mod SoundNumbers
 pub mod MatchingKeys

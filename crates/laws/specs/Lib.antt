@@ -1,3 +1,7 @@
 -- What the theorems speak of, beside the definition of evaluation itself.
+-- charges added up, and which operands a record begins
+pub mod Charges
+pub mod Begins
+-- expressions and rooms that are formed as they should be
 pub mod Formed
 pub mod Accepted

@@ -1,0 +1,143 @@
+-- Every table gets one answer: a refusal, a value, an error or exhaustion. With it, the counts stay within the limits in force, and the
+-- rooms hold as many cells and bytes as the counts say. Rests on Exhausted. Assumes nothing.
+use Prim.Native.Nat.{ℕ}
+use mathlib.Core.Path.{_≡_, refl, sym, _∙_, ap, subst}
+use mathlib.Core.Logic.{inl, inr}
+use mathlib.Core.List.{List, []}
+use native.Mathlib.Omega.{arith}
+use Rattle.meaning.specs.Limits.{Counts, mostSteps, mostCells, mostBytes, nothingYet, cut}
+use Rattle.meaning.specs.Errors.{Refusal, ErrorAt, Exhausted}
+use Rattle.meaning.specs.Value.{Value}
+use Rattle.meaning.specs.Expr.{Expr}
+use Rattle.meaning.specs.Run.{Result, Eval}
+use Rattle.meaning.specs.Meaning.{run}
+use Rattle.meaning.specs.Limited.{Outcome, value, error, exhausted, limited, built, cleared, roomsAfter}
+use Rattle.meaning.specs.Heads.{Got, got, refused}
+use Rattle.meaning.specs.Table.{readTable}
+use Rattle.meaning.specs.Bindings.{BindingRoom, scopeOf}
+use Rattle.meaning.specs.Answer.{Answer, refusal, ran, Answered, answerRun, answerRead, answerOf}
+use Rattle.laws.specs.Charges.{total, AtMost, Within, Stops, countsOf}
+use Rattle.laws.proofs.Exhausted.{Fate, fate, exhausted-exactly, value-exactly, error-exactly, counts-at-most}
+use Rattle.laws.proofs.Filled.{Fills, rooms-of-run}
+
+-- ---- the four answers
+
+pub data Ending : Type 0 where
+  isRefused givesValue givesError isExhausted : Ending
+
+-- what the answer to a table is in each case, with the rooms afterwards, and what it rests on
+abbrev pub Answers : (table text : List ℕ) → BindingRoom → Counts → Ending → Type 0
+Answers table text room lent isRefused =
+    (r : Refusal) × (p : ℕ) ×
+    (readTable table text ≡ refused r p) ×
+    (answerOf table text room lent ≡ record { answer = refusal r p; rooms = record { cells = []; bytes = [] } })
+Answers table text room lent givesValue =
+    (e : Expr) × (v : Value) ×
+    (readTable table text ≡ got e) ×
+    (run e (scopeOf room) .1 ≡ Result.value v) ×
+    Within (cut lent) (run e (scopeOf room) .0) ×
+    (answerOf table text room lent ≡
+    record { answer = ran (value v (total (run e (scopeOf room) .0))); rooms = built (run e (scopeOf room) .0) })
+Answers table text room lent givesError =
+    (e : Expr) × (v : ErrorAt) ×
+    (readTable table text ≡ got e) ×
+    (run e (scopeOf room) .1 ≡ Result.error v) ×
+    Within (cut lent) (run e (scopeOf room) .0) ×
+    (answerOf table text room lent ≡
+    record { answer = ran (error v (total (run e (scopeOf room) .0))); rooms = cleared (total (run e (scopeOf room) .0)) })
+Answers table text room lent isExhausted =
+    (e : Expr) × (x : Exhausted) × (c : Counts) ×
+    (readTable table text ≡ got e) ×
+    Stops (cut lent) (run e (scopeOf room) .0) x c ×
+    (answerOf table text room lent ≡ record { answer = ran (exhausted x c); rooms = cleared c })
+
+-- the counts of an answer; a refusal counts nothing
+abbrev pub countsIn : Answer → Counts
+countsIn (refusal r p) = nothingYet
+countsIn (ran o) = countsOf o
+
+-- ---- exactly one of them
+
+abbrev endingOf : Answer → Ending
+endingOf (refusal r p) = isRefused
+endingOf (ran (value v c)) = givesValue
+endingOf (ran (error e c)) = givesError
+endingOf (ran (exhausted x c)) = isExhausted
+
+module _ (table text : List ℕ) (room : BindingRoom) (lent : Counts) where
+  ending-of : (k : Ending) → Answers table text room lent k → k ≡ endingOf (answerOf table text room lent .answer)
+  ending-of isRefused a = sym (ap (λ (x : Answered). endingOf (x .answer)) (a .3))
+  ending-of givesValue a = sym (ap (λ (x : Answered). endingOf (x .answer)) (a .5))
+  ending-of givesError a = sym (ap (λ (x : Answered). endingOf (x .answer)) (a .5))
+  ending-of isExhausted a = sym (ap (λ (x : Answered). endingOf (x .answer)) (a .5))
+
+  -- A table that is not accepted is refused, with the reader's number and place, and the rooms are as they were lent.
+  pub refused-answer : (r : Refusal) (p : ℕ) → readTable table text ≡ refused r p →
+      answerOf table text room lent ≡ record { answer = refusal r p; rooms = record { cells = []; bytes = [] } }
+  unfolding answerOf answerRead
+  refused-answer r p e = ap (answerRead (cut lent) (scopeOf room)) e
+
+  -- One that is accepted is run.
+  pub accepted-answer : (e : Expr) → readTable table text ≡ got e → answerOf table text room lent ≡ answerRun (cut lent) (run e (scopeOf room))
+  unfolding answerOf answerRead
+  accepted-answer e q = ap (answerRead (cut lent) (scopeOf room)) q
+
+  answer-of-run : (e : Expr) → readTable table text ≡ got e → (o : Outcome) → limited (cut lent) (run e (scopeOf room)) ≡ o →
+      answerOf table text room lent ≡ record { answer = ran o; rooms = roomsAfter (run e (scopeOf room) .0) o }
+  unfolding answerRun
+  answer-of-run e q o h = accepted-answer e q ∙ (λ i. record { answer = ran (h i); rooms = roomsAfter (run e (scopeOf room) .0) (h i) })
+
+  answers : (g : Got Expr) → readTable table text ≡ g → (k : Ending) × Answers table text room lent k
+  unfolding roomsAfter
+  answers (refused r p) e = (isRefused, (r, p, e, refused-answer r p e))
+  answers (got e) q = go (r .1) refl (fate (cut lent) (r .0))
+    where
+      r : Eval Value
+      r = run e (scopeOf room)
+
+      go : (x : Result ErrorAt Value) → r .1 ≡ x → Fate (cut lent) (r .0) →
+          (k : Ending) × Answers table text room lent k
+      go (Result.value v) h (inl w) =
+          (givesValue, (e, v, q, h, w, answer-of-run e q (value v (total (r .0))) (value-exactly (cut lent) r v (total (r .0)) .1 (h, w, refl))))
+      go (Result.error v) h (inl w) =
+          (givesError, (e, v, q, h, w, answer-of-run e q (error v (total (r .0))) (error-exactly (cut lent) r v (total (r .0)) .1 (h, w, refl))))
+      go x h (inr s) =
+          let a = answer-of-run e q (exhausted (s .0) (s .1)) (exhausted-exactly (cut lent) r (s .0) (s .1) .1 (s .2)) in
+          (isExhausted, (e, s .0, s .1, q, s .2, a))
+
+  -- Every table, with every text, binding room and limits, gets one of the four answers, and no other.
+  pub one-answer : (k : Ending) × Answers table text room lent k × ((j : Ending) → Answers table text room lent j → j ≡ k)
+  one-answer = let a = answers (readTable table text) refl in (a .0, a .1, λ j b. ending-of j b ∙ sym (ending-of (a .0) (a .1)))
+
+  -- ---- counts
+
+  -- The counts of an answer are at most the limits in force ..
+  pub answer-counts : AtMost (countsIn (answerOf table text room lent .answer)) (cut lent)
+  answer-counts = go (readTable table text) refl
+    where
+      go : (g : Got Expr) → readTable table text ≡ g → AtMost (countsIn (answerOf table text room lent .answer)) (cut lent)
+      go (refused r p) e = subst (λ (a : Answered). AtMost (countsIn (a .answer)) (cut lent)) (sym (refused-answer r p e)) (omega arith)
+      go (got e) q =
+          subst (λ (a : Answered). AtMost (countsIn (a .answer)) (cut lent)) (sym (answer-of-run e q _ refl))
+          (counts-at-most (cut lent) (run e (scopeOf room)))
+
+-- .. and those are at most what was lent, and at most what every run is held to.
+pub cut-at-most : (lent : Counts) → AtMost (cut lent) lent × AtMost (cut lent) (record { steps = mostSteps; cells = mostCells; bytes = mostBytes })
+unfolding cut
+cut-at-most lent = (omega arith, omega arith)
+
+-- ---- rooms
+
+-- Whatever the answer, the rooms hold as many cells and bytes as its counts say; after a refusal none.
+pub rooms-filled : (table text : List ℕ) (room : BindingRoom) (lent : Counts) →
+    Fills (answerOf table text room lent .rooms) (countsIn (answerOf table text room lent .answer))
+unfolding answerRun
+rooms-filled table text room lent = go (readTable table text) refl
+  where
+    go : (g : Got Expr) → readTable table text ≡ g → Fills (answerOf table text room lent .rooms) (countsIn (answerOf table text room lent .answer))
+    go (refused r p) e =
+        subst (λ (a : Answered). Fills (a .rooms) (countsIn (a .answer))) (sym (refused-answer table text room lent r p e))
+        (record { cells = refl; bytes = refl })
+    go (got e) q =
+        subst (λ (a : Answered). Fills (a .rooms) (countsIn (a .answer))) (sym (accepted-answer table text room lent e q))
+        (rooms-of-run (cut lent) (run e (scopeOf room)) _ refl)
