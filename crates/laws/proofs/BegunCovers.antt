@@ -1,6 +1,6 @@
 -- The relation `Begins` leaves nothing out where a comprehension has a choice: after each step the loop goes on or ends in the step's
 -- error, and from each init it takes the ordinary loop or, written so, the append path.
--- Rests on Written. Assumes nothing.
+-- Rests on LookWritten. Assumes nothing.
 use Prim.Native.Nat.{ℕ}
 use mathlib.Core.Path.{_≡_, refl, sym, subst}
 use mathlib.Core.Logic.{_⊎_, inl, inr}
