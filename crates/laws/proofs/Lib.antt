@@ -41,3 +41,14 @@ pub mod BindingsFormed
 -- whole answers, and why they need limits
 pub mod AnswersFormed
 pub mod LimitsNeeded
+-- the reader of tables loses nothing and invents nothing
+pub mod TableBytes
+pub mod TableKinds
+pub mod TableHeads
+pub mod TableForms
+pub mod ReadBack
+pub mod TableTold
+pub mod NothingInvented
+pub mod WrittenPlaces
+pub mod RefusalPlaces
+pub mod WrittenExample

@@ -5,3 +5,5 @@ pub mod Begins
 -- expressions and rooms that are formed as they should be
 pub mod Formed
 pub mod Accepted
+-- how an expression is written as records
+pub mod Written
