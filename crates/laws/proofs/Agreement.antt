@@ -15,7 +15,8 @@ use Rattle.meaning.specs.Containers.{listRule, mapRule, into}
 use Rattle.meaning.specs.Comprehension.{Scope}
 use Rattle.meaning.specs.Meaning.{ofOne, unaryRule, binaryRule, run, runElements, runPairs, look}
 use Rattle.meaning.specs.Answer.{answerRun}
-use Rattle.laws.proofs.Names.{Names, NamesInElements, NamesInPairs, Within, first, rest}
+use Rattle.laws.specs.Names.{Names, NamesInElements, NamesInPairs, Within}
+use Rattle.laws.proofs.Names.{first, rest}
 use Rattle.laws.proofs.Congruence.{conditional-same, element-same, pair-same, Both, store-agree, Alike, comprehension-alike}
 use Rattle.laws.proofs.Seen.{LookAlike, nothing-alike, binaryLook-alike, aConditional-alike, appendStep-alike}
 

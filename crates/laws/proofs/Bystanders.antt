@@ -17,7 +17,7 @@ use Rattle.meaning.specs.Heads.{Got, got, refused, _>>=_, _>>_, orRefuse, start
 use Rattle.meaning.specs.Table.{readTable}
 use Rattle.meaning.specs.Bindings.{BindingRoom, emptyRoom, boundIn, scopeOf, bring}
 use Rattle.meaning.specs.Answer.{answerRead, answerOf}
-use Rattle.laws.proofs.Names.{Names, Agree, Absent}
+use Rattle.laws.specs.Names.{Names, Agree, Absent}
 use Rattle.laws.proofs.Agreement.{same-answer}
 
 -- over both rooms the table has one answer, with the same counts and the same evaluation rooms afterwards, for everything that can be lent

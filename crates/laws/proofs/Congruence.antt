@@ -14,7 +14,7 @@ use Rattle.meaning.specs.Run.{cells, Result, value, error, Run, Eval, Rule, cha
 use Rattle.meaning.specs.Logic.{absorbs, conditionalRule}
 use Rattle.meaning.specs.Containers.{Making, elementRule, pairRule}
 use Rattle.meaning.specs.Comprehension.{Scope, store, Meaning, AppendStep, Comprehension, Pending, Onward, finish, foldStep, afterStep, turn, loop, Gathering, appendItems, appendTurn, appendLoop, isEmptyList, loopFrom, comprehensionRule}
-use Rattle.laws.proofs.Names.{Agree}
+use Rattle.laws.specs.Names.{Agree}
 
 -- ---- runs one after the other
 

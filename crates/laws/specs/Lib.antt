@@ -1,4 +1,6 @@
 -- What the theorems speak of, beside the definition of evaluation itself.
+-- the names that a rule names
+pub mod Names
 -- charges added up, and which operands a record begins
 pub mod Charges
 pub mod Begins
