@@ -15,7 +15,7 @@ use Rattle.meaning.specs.Containers.{listRule, mapRule, into}
 use Rattle.meaning.specs.Comprehension.{Scope}
 use Rattle.meaning.specs.Meaning.{ofOne, unaryRule, binaryRule, run, runElements, runPairs, look}
 use Rattle.meaning.specs.Answer.{answerRun}
-use Rattle.laws.specs.Names.{Names, NamesInElements, NamesInPairs, Within}
+use Rattle.laws.specs.Names.{Names, NamesInElements, NamesInPairs, Among}
 use Rattle.laws.proofs.Names.{first, rest}
 use Rattle.laws.proofs.Congruence.{conditional-same, element-same, pair-same, Both, store-agree, Alike, comprehension-alike}
 use Rattle.laws.proofs.Seen.{LookAlike, nothing-alike, binaryLook-alike, aConditional-alike, appendStep-alike}
@@ -24,7 +24,7 @@ module _ (these : ℕ → Type 0) where
   mutual
     unfolding run runElements runPairs look Names NamesInElements NamesInPairs
 
-    run-alike : (e : Expr) → Within (Names e) these → Alike these (run e)
+    run-alike : (e : Expr) → Among (Names e) these → Alike these (run e)
     run-alike (literal p x) h g = refl
     run-alike (name p n) h g = ap (λ o. begin p (orFail UndeclaredReference o)) (g .agree n (h n refl))
     run-alike (unary p o e) h g = ap (λ r. begin p (unaryRule o r)) (run-alike e h g)
@@ -51,13 +51,13 @@ module _ (these : ℕ → Type 0) where
     run-alike (noneCall p) h g = refl
     run-alike (orValue p e f) h g = ap₂ (λ r q. begin p (orValueCall r q)) (run-alike e (first h) g) (run-alike f (rest h) g)
 
-    elements-alike : (es : Elements) → Within (NamesInElements es) these
+    elements-alike : (es : Elements) → Among (NamesInElements es) these
         → (g : Both these) (vs : Values) → runElements es (g .one) vs ≡ runElements es (g .other) vs
     elements-alike noElements h g = λ vs. refl
     elements-alike (element e es) h g = element-same false (run-alike e (first h) g) (elements-alike es (rest h) g)
     elements-alike (markedElement p e es) h g = element-same true (run-alike e (first h) g) (elements-alike es (rest h) g)
 
-    pairs-alike : (ps : Pairs) → Within (NamesInPairs ps) these
+    pairs-alike : (ps : Pairs) → Among (NamesInPairs ps) these
         → (g : Both these) (es : Entries) → runPairs ps (g .one) es ≡ runPairs ps (g .other) es
     pairs-alike noPairs h g = λ es. refl
     pairs-alike (pair k e ps) h g =
@@ -65,7 +65,7 @@ module _ (these : ℕ → Type 0) where
     pairs-alike (markedPair k p e ps) h g =
         pair-same true (run-alike k (first h) g) (run-alike e (first (rest h)) g) (pairs-alike ps (rest (rest h)) g)
 
-    look-alike : (e : Expr) → Within (Names e) these → LookAlike these (look e)
+    look-alike : (e : Expr) → Among (Names e) these → LookAlike these (look e)
     look-alike (literal p x) h = record { lists = tt; adds = tt; appends = tt }
     look-alike (name p n) h = record { lists = tt; adds = tt; appends = tt }
     look-alike (unary p o e) h = nothing-alike these

@@ -42,5 +42,5 @@ abbrev pub Absent : (ℕ → Type 0) → Scope → Type 0
 Absent these s = (n : ℕ) → these n → s n ≡ none
 
 -- each of these names is one of those
-abbrev pub Within : (ℕ → Type 0) → (ℕ → Type 0) → Type 0
-Within these those = (n : ℕ) → these n → those n
+abbrev pub Among : (ℕ → Type 0) → (ℕ → Type 0) → Type 0
+Among these those = (n : ℕ) → these n → those n
