@@ -1,4 +1,5 @@
--- Corners of the rules: what each row shows is said above it. x is the name 0, y 1. Assumes nothing.
+-- Corners of containers, comparison, look-ups, logic and calls: what each row shows is said above it. x is the name 0, y 1.
+-- Assumes nothing.
 use mathlib.Core.Path.{_≡_, refl}
 use mathlib.Core.List.{List, [], _∷_}
 use mathlib.Core.Bool.{true, false}
@@ -7,7 +8,7 @@ use Rattle.meaning.specs.Value.{null, string, intKey, scalar, map, optio
 use Rattle.meaning.proofs.Sample.{Row, row, Hold, counts, ample, gives, fails, number, truth, elements, Null, True, False, Int, Below, Uint, Double, String, Name, NotStrictlyFalse, Or, Equals, Index, OptIndex, Less, In, If, Select, Has, ListOf, MapOf, Mark, Size, Some, None, ValueOf, OrValue}
 use Rattle.meaning.proofs.Compute.{compute}
 
--- containers, comparison, look-ups, logic, calls
+-- what is easily got wrong
 unfoldable pub corners : List Row
 corners =
     -- [true, x] || true: the part that was ready is kept

@@ -1,8 +1,9 @@
 -- Tables that are refused, and some that nearly are: the number and the place. Assumes nothing.
 use mathlib.Core.Path.{_≡_, refl}
 use mathlib.Core.List.{List, [], _∷_}
+use mathlib.Core.Bool.{false}
 use Rattle.meaning.specs.Value.{string, bytes, scalar, map, empty}
-use Rattle.meaning.proofs.Sample.{Row, row, Hold, counts, ample, gives, refuses, String, Bytes}
+use Rattle.meaning.proofs.Sample.{Row, row, Hold, wrapped, MarkedList, counts, ample, gives, refuses, truth, Null, True, String, Bytes, Not}
 use Rattle.meaning.proofs.Compute.{compute}
 
 -- tables by their bytes
@@ -59,6 +60,48 @@ refusals =
     -- a byte after the root
     ∷ row (0 ∷ 3 ∷ 0 ∷ 0 ∷ []) [] [] ample
     (refuses 7 3)
+    -- 64 records inside one another
+    ∷ row (wrapped 63 Not True) [] [] ample
+    (gives (truth false) (counts 64 0 0) [] [])
+    -- 65 are one too many
+    ∷ row (wrapped 64 Not True) [] [] ample
+    (refuses 4 256)
+    -- a wrong extent comes before nesting
+    ∷ row (wrapped 64 Not (16 ∷ 5 ∷ 0 ∷ 3 ∷ 0 ∷ [])) [] [] ample
+    (refuses 3 256)
+    -- marks count as records: 32 lists of a mark and a Null
+    ∷ row (wrapped 32 MarkedList Null) [] [] ample
+    (refuses 4 256)
+    -- a kind above 16
+    ∷ row (17 ∷ 3 ∷ 0 ∷ []) [] [] ample
+    (refuses 2 0)
+    -- a Bool that is neither
+    ∷ row (1 ∷ 4 ∷ 0 ∷ 2 ∷ []) [] [] ample
+    (refuses 5 0)
+    -- an unknown unary
+    ∷ row (8 ∷ 7 ∷ 0 ∷ 4 ∷ 0 ∷ 3 ∷ 0 ∷ []) [] [] ample
+    (refuses 5 0)
+    -- an unknown binary
+    ∷ row (9 ∷ 10 ∷ 0 ∷ 18 ∷ 0 ∷ 3 ∷ 0 ∷ 0 ∷ 3 ∷ 0 ∷ []) [] [] ample
+    (refuses 5 0)
+    -- a test that is neither
+    ∷ row (11 ∷ 11 ∷ 0 ∷ 2 ∷ 0 ∷ 0 ∷ 0 ∷ 0 ∷ 0 ∷ 3 ∷ 0 ∷ []) [] [] ample
+    (refuses 5 0)
+    -- a field that is not UTF-8
+    ∷ row (11 ∷ 11 ∷ 0 ∷ 0 ∷ 0 ∷ 0 ∷ 1 ∷ 0 ∷ 0 ∷ 3 ∷ 0 ∷ []) (128 ∷ []) [] ample
+    (refuses 5 0)
+    -- a span over the text's end
+    ∷ row (6 ∷ 7 ∷ 0 ∷ 0 ∷ 0 ∷ 2 ∷ 0 ∷ []) (97 ∷ []) [] ample
+    (refuses 5 0)
+    -- an accumulator above 127
+    ∷ row (15 ∷ 20 ∷ 0 ∷ 128 ∷ 0 ∷ 0 ∷ 3 ∷ 0 ∷ 0 ∷ 3 ∷ 0 ∷ 0 ∷ 3 ∷ 0 ∷ 0 ∷ 3 ∷ 0 ∷ 0 ∷ 3 ∷ 0 ∷ []) [] [] ample
+    (refuses 5 0)
+    -- a second element that is missing
+    ∷ row (12 ∷ 8 ∷ 0 ∷ 2 ∷ 0 ∷ 0 ∷ 3 ∷ 0 ∷ []) [] [] ample
+    (refuses 3 8)
+    -- a record that leaves its parent
+    ∷ row (8 ∷ 7 ∷ 0 ∷ 1 ∷ 0 ∷ 4 ∷ 0 ∷ []) [] [] ample
+    (refuses 3 4)
     ∷ []
 
 -- Each is refused for the reason and at the place that the order of the tests gives, or read.

@@ -9,7 +9,8 @@ use Rattle.meaning.specs.Limits.{Counts, mostSteps, mostCells, mostBytes
 use Rattle.meaning.specs.Errors.{Exhausted, errorNumber, refusalNumber}
 use Rattle.meaning.specs.Value.{bool, int, Value, scalar, list, Values, nil, cons}
 use Rattle.meaning.specs.Limited.{Outcome, value, error, exhausted, Rooms, zeroCell, holding}
-use Rattle.meaning.specs.Bindings.{BindingRoom}
+use Rattle.meaning.specs.Heads.{Got, got, refused}
+use Rattle.meaning.specs.Bindings.{BindingRoom, emptyRoom, bring}
 use Rattle.meaning.specs.Answer.{Answer, refusal, ran, Answered, answerOf}
 
 -- ---- records
@@ -61,6 +62,9 @@ Name n = spelled 7 (n ∷ []) []
 
 abbrev pub Not : List ℕ → List ℕ
 Not e = spelled 8 (1 ∷ []) e
+
+abbrev pub Negate : List ℕ → List ℕ
+Negate e = spelled 8 (2 ∷ []) e
 
 abbrev pub NotStrictlyFalse : List ℕ → List ℕ
 NotStrictlyFalse e = spelled 8 (3 ∷ []) e
@@ -157,6 +161,15 @@ None = spelled 16 (3 ∷ []) []
 abbrev pub OrValue : List ℕ → List ℕ → List ℕ
 OrValue e f = spelled 16 (6 ∷ []) (e ++ f)
 
+-- a list of one marked element
+abbrev pub MarkedList : List ℕ → List ℕ
+MarkedList e = ListOf (Mark e ∷ [])
+
+-- so many records around one
+unfoldable pub wrapped : ℕ → (List ℕ → List ℕ) → List ℕ → List ℕ
+wrapped zero outer e = e
+wrapped (suc n) outer e = outer (wrapped n outer e)
+
 -- ---- values
 
 abbrev pub truth : Bool → Value
@@ -171,6 +184,11 @@ valuesOf (v ∷ vs) = cons v (valuesOf vs)
 
 abbrev pub elements : List Value → Value
 elements vs = list (valuesOf vs)
+
+-- so many lists around a value
+unfoldable pub nested : ℕ → Value → Value
+nested zero v = v
+nested (suc n) v = elements (nested n v ∷ [])
 
 -- ---- answers
 
@@ -249,3 +267,53 @@ answered r = seen (r .answer) (answerOf (r .table) (r .text) (roomOf (r .bound))
 -- every row's answer is the one that must come
 abbrev pub Hold : List Row → Type 0
 Hold rows = map answered rows ≡ map (λ r. expected (r .answer)) rows
+
+-- ---- bindings
+
+-- what is done to a binding room, and what it answers
+pub data Step : Type 0 where
+  empties : Step
+  brings : ℕ → List ℕ → List ℕ → Step
+
+pub data Reply : Type 0 where
+  emptied brought : Reply
+  declined : ℕ → ℕ → Reply
+
+abbrev pub after : BindingRoom → Got BindingRoom → Reply × BindingRoom
+after room (got more) = (brought, more)
+after room (refused r p) = (declined (refusalNumber r) p, room)
+
+abbrev pub taken : ℕ → ℕ → BindingRoom → Step → Reply × BindingRoom
+taken cells bytes room empties = (emptied, emptyRoom)
+taken cells bytes room (brings n table text) = after room (bring cells bytes room n table text)
+
+-- one after the other, in a room of so many cells and bytes
+unfoldable pub play : ℕ → ℕ → BindingRoom → List Step → List Reply × BindingRoom
+play cells bytes room [] = ([], room)
+play cells bytes room (s ∷ ss) =
+    let now = taken cells bytes room s in
+    let later = play cells bytes (now .1) ss in
+    ((now .0) ∷ (later .0), later .1)
+
+-- the lengths lent, what is done, what is answered, and what is bound then, with the cells and bytes used
+pub record BindingRow : Type 0 where
+  pub cells : ℕ
+  pub bytes : ℕ
+  pub steps : List Step
+  pub replies : List Reply
+  pub bound : List (ℕ × Value)
+  pub usedCells : ℕ
+  pub usedBytes : ℕ
+
+abbrev pub binding : ℕ → ℕ → List Step → List Reply → List (ℕ × Value) → ℕ → ℕ → BindingRow
+binding c b ss rs vs uc ub = record { cells = c; bytes = b; steps = ss; replies = rs; bound = vs; usedCells = uc; usedBytes = ub }
+
+abbrev pub played : BindingRow → List Reply × BindingRoom
+played r = play (r .cells) (r .bytes) emptyRoom (r .steps)
+
+abbrev pub wanted : BindingRow → List Reply × BindingRoom
+wanted r = (r .replies, record { bound = r .bound; usedCells = r .usedCells; usedBytes = r .usedBytes })
+
+-- every row's replies come, and its room
+abbrev pub HoldBindings : List BindingRow → Type 0
+HoldBindings rows = map played rows ≡ map wanted rows
