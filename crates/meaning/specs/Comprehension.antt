@@ -102,7 +102,7 @@ loop c (x ∷ xs) s pending = do
 abbrev pub Gathering : Type 0
 Gathering = Scope → Values → Rule Value
 
--- the items list, then at once a cell for each element of it
+-- what the item adds, and at once as many cells
 unfoldable pub appendItems : (Scope → Eval Values) → Gathering → Gathering
 appendItems items rest s out = do
   vs ← operand (items s)

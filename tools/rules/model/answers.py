@@ -55,7 +55,7 @@ def evaluate(table: bytes, text: bytes, room: "Room | None" = None, limits: Limi
 
 
 def ask(data: bytes) -> str:
-    """Program `ask`: a u16 text length, the text and a table give one line. Document 01 fixes the line of a value."""
+    """Program `ask`: from the length of the text, the text and the table to one line. Document 01 fixes the line of a value."""
     length = int.from_bytes(data[:2], "little")
     answer = evaluate(data[2 + length:], data[2:2 + length]).answer
     if answer[0] == "value":

@@ -48,7 +48,7 @@ def compare_values(a: Value, b: Value) -> int:
 
 
 def equal(a: Value, b: Value, pair: Pair) -> bool:
-    """`==`: numbers on the number line, lists and Optionals part by part, maps by keys in any order."""
+    """`==`: numbers by their place on the line, containers by what they hold; a map's entries may stand in another order."""
     pair()
     if is_number(a) and is_number(b):
         left, right = number_line(a), number_line(b)
@@ -78,7 +78,7 @@ def is_key(value: Value) -> bool:
 
 
 def keys_match(a: Value, b: Value) -> bool:
-    """Kind and value, or Int against Uint of equal number."""
+    """Whether a key answers a look-up: the same key, or the same number as an Int and a Uint."""
     if isinstance(a, (Int, Uint)) and isinstance(b, (Int, Uint)):
         return a.number == b.number
     return a == b

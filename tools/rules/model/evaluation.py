@@ -127,7 +127,7 @@ class Evaluator:
         return self.meter.nesting(Optional(part))
 
     def optional_look_up(self, container: Value, key: Value) -> Value:
-        """A present Optional, or none for any error of the look-up."""
+        """What the look-up finds, wrapped; none if it fails in any way."""
         try:
             found = index_into(container, key, self.pair)
         except Fault:
@@ -205,7 +205,7 @@ class Evaluator:
     # ------------------------------------------------------------ module 7: calls
 
     def function(self, record: Record, scope: Scope) -> Value:
-        """Arguments come before the target: orValue begins its second operand first."""
+        """A call evaluates its argument first, and then what it is called on."""
         name = record.operator
         if name == "optional.none":
             return NONE
@@ -312,7 +312,7 @@ class Evaluator:
         raise Fault(ITERABLE_WANTED)
 
     def append_path(self, record: Record, append: AppendStep, items: tuple[Value, ...], scope: Scope) -> Value:
-        """`AppendStep::run`: the accumulator is not bound; the step's `+`, its conditional and the result not begun."""
+        """`AppendStep::run`: elements are gathered with no accumulator in scope; of the step only guard and list are evaluated."""
         condition = record.operands[2]
         inner, gathered = list(scope), []
         for item in items:

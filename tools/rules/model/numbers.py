@@ -87,7 +87,7 @@ DOUBLE_RULES: dict[str, Callable[[int, int], int]] = {
 
 
 def whole_numbers(operator: str, a: int, b: int) -> int:
-    """Over whole numbers: division rounds toward zero, the remainder has the dividend's sign."""
+    """Over whole numbers: the quotient is cut, and what is left keeps the sign of the left operand."""
     if operator in "/%":
         if b == 0:
             raise Fault(DIVISION_BY_ZERO if operator == "/" else REMAINDER_BY_ZERO)

@@ -69,8 +69,8 @@ UNORDERED, ITERABLE_WANTED = 12, 13
 
 # ---------------------------------------------------------------- values
 #
-# `nest` is document 01's value nesting: scalars and none 0, a container or present Optional one more than its deepest
-# part, at least 1. `leaves` is how long a value is when spelled out (parts may be shared).
+# `nest` counts how deep a value goes: 0 where it has no parts to hold, 1 for an empty container, else one level above the
+# deepest part. `leaves` is how long a value is when spelled out (parts may be shared).
 
 
 class Scalar:
