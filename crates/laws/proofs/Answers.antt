@@ -1,6 +1,6 @@
 -- Every table gets one answer: a refusal, a value, an error or exhaustion. With it, the counts stay within the limits in force, and the
 -- rooms hold as many cells and bytes as the counts say. Rests on Exhausted. Assumes nothing.
-use Prim.Native.Nat.{ℕ}
+use Prim.Native.Nat.{ℕ, min}
 use mathlib.Core.Path.{_≡_, refl, sym, _∙_, ap, subst}
 use mathlib.Core.Logic.{inl, inr}
 use mathlib.Core.List.{List, []}
@@ -125,6 +125,27 @@ module _ (table text : List ℕ) (room : BindingRoom) (lent : Counts) where
 pub cut-at-most : (lent : Counts) → AtMost (cut lent) lent × AtMost (cut lent) (record { steps = mostSteps; cells = mostCells; bytes = mostBytes })
 unfolding cut
 cut-at-most lent = (omega arith, omega arith)
+
+-- They are the lesser of the two, each for itself ..
+pub cut-least : (lent : Counts) → (cut lent .steps ≡ min (lent .steps) mostSteps) × (cut lent .cells ≡ min (lent .cells) mostCells) ×
+    (cut lent .bytes ≡ min (lent .bytes) mostBytes)
+unfolding cut
+cut-least lent = (refl, refl, refl)
+
+-- .. so limits that are no higher than every run is held to are in force as they are lent ..
+pub cut-unchanged : (lent : Counts) → AtMost lent (record { steps = mostSteps; cells = mostCells; bytes = mostBytes }) → cut lent ≡ lent
+unfolding cut
+cut-unchanged lent h =
+    let steps : min (lent .steps) mostSteps ≡ lent .steps = omega arith in
+    let cells : min (lent .cells) mostCells ≡ lent .cells = omega arith in
+    let bytes : min (lent .bytes) mostBytes ≡ lent .bytes = omega arith in
+    rw (steps, cells, bytes)
+
+-- .. and higher ones count as those.
+pub higher-limits : (table text : List ℕ) (room : BindingRoom) (lent : Counts) → answerOf table text room lent ≡ answerOf table text room (cut lent)
+unfolding answerOf
+higher-limits table text room lent =
+    ap (λ (limits : Counts). answerRead limits (scopeOf room) (readTable table text)) (sym (cut-unchanged (cut lent) (cut-at-most lent .1)))
 
 -- ---- rooms
 

@@ -27,7 +27,8 @@ pub record FormedRoom (lentCells lentBytes : ℕ) (room : BindingRoom) : Type 0 
   pub cellsFit : room .usedCells ≤ min lentCells mostCells
   pub bytesFit : room .usedBytes ≤ min lentBytes mostBytes
 
-both-true : (a b : Bool) → (a && b) ≡ true → (a ≡ true) × (b ≡ true)
+-- of two demands made at once, each holds
+pub both-true : (a b : Bool) → (a && b) ≡ true → (a ≡ true) × (b ≡ true)
 both-true true b e = (refl, e)
 both-true false b e = (e, cc)
 

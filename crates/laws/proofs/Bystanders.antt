@@ -1,24 +1,24 @@
 -- Bindings that a rule does not name: over a table and rooms of bindings, of whatever sizes, they change neither its answer nor a count nor
 -- what the evaluation rooms hold. Also that bringing in a binding leaves every other name as it was.
--- Rests on the agreement of scopes. Assumes nothing.
+-- Rests on the agreement of scopes and on BoundValues. Assumes nothing.
 use Prim.Native.Nat.{ℕ}
 use mathlib.Core.Path.{_≡_, refl, sym, _∙_, ap, subst}
 use mathlib.Core.List.{List, [], _∷_, _++_}
-use mathlib.Core.Option.{none, some}
+use mathlib.Core.Option.{some}
 use mathlib.Core.Bool.{Bool, true, false, cond}
-use lib.Dec.{T, ltb, eqb, eqb→eq}
-use Rattle.meaning.specs.Limits.{Counts, names, cut}
-use Rattle.meaning.specs.Errors.{Refusal, WrongField}
+use lib.Dec.{T, eqb, eqb→eq}
+use Rattle.meaning.specs.Limits.{Counts, cut}
+use Rattle.meaning.specs.Errors.{Refusal}
 use Rattle.meaning.specs.Value.{Value}
 use Rattle.meaning.specs.Expr.{Expr}
 use Rattle.meaning.specs.Comprehension.{Scope, emptyScope, store}
-use Rattle.meaning.specs.Kinds.{nameOf}
-use Rattle.meaning.specs.Heads.{Got, got, refused, _>>=_, _>>_, orRefuse, start}
+use Rattle.meaning.specs.Heads.{Got, got, refused}
 use Rattle.meaning.specs.Table.{readTable}
 use Rattle.meaning.specs.Bindings.{BindingRoom, emptyRoom, boundIn, scopeOf, bring}
 use Rattle.meaning.specs.Answer.{answerRead, answerOf}
 use Rattle.laws.specs.Names.{Names, Agree, Absent}
 use Rattle.laws.proofs.Agreement.{same-answer}
+use Rattle.laws.proofs.BoundValues.{brought-value}
 
 -- over both rooms the table has one answer, with the same counts and the same evaluation rooms afterwards, for everything that can be lent
 abbrev pub SameAnswers : (table text : List ℕ) → BindingRoom → BindingRoom → Type 0
@@ -39,45 +39,13 @@ store-other s number v n other = go (eqb n number) (λ same. other (eqb→eq n n
     go true never = absurd (never tt)
     go false never = refl
 
--- what is got, if anything is, has the property
-data Every {A : Type 0} (P : A → Type 0) : Got A → Type 0 where
-  has : {a : A} → P a → Every P (got a)
-  nothing : {why : Refusal} {p : ℕ} → Every P (refused why p)
-
-every-got : {A : Type 0} {P : A → Type 0} {a : A} → Every P (got a) → P a
-every-got (has h) = h
-
-every-then : {A B : Type 0} {P : B → Type 0} (g : Got A) (k : A → Got B) → ((a : A) → Every P (k a)) → Every P (_>>=_ g k)
-unfolding _>>=_
-every-then (got a) k h = h a
-every-then (refused r p) k h = nothing
-
-every-next : {A B : Type 0} {P : B → Type 0} (g : Got A) (next : Got B) → Every P next → Every P (_>>_ g next)
-unfolding _>>_
-every-next g next h = every-then g (λ a. next) (λ a. h)
-
-every-name : {B : Type 0} {P : B → Type 0} (n : ℕ) (k : ℕ → Got B) → Every P (k n) → Every P (_>>=_ (orRefuse WrongField start (nameOf n)) k)
-unfolding _>>=_ orRefuse nameOf
-every-name {B} {P} n k h = go (ltb n names)
-  where
-    go : (b : Bool) → Every P (_>>=_ (orRefuse WrongField start (cond b (some n) none)) k)
-    go true = h
-    go false = nothing
-
-module _ (lentCells lentBytes : ℕ) (room : BindingRoom) (number : ℕ) (table text : List ℕ) where
-  brings-one : Every (λ more. (v : Value) × (more .bound ≡ (number, v) ∷ room .bound)) (bring lentCells lentBytes room number table text)
-  unfolding bring
-  brings-one = every-name _ _ (every-next _ _ (every-then _ _ (λ e. every-then _ _ (λ l. every-then _ _ (λ v. every-next _ _ (has (v, refl)))))))
-
-  module _ (more : BindingRoom) (accepted : bring lentCells lentBytes room number table text ≡ got more) where
-    -- An accepted binding comes to those that the room holds, under its name.
-    pub brought : (v : Value) × (more .bound ≡ (number, v) ∷ room .bound)
-    brought = every-got (subst (Every _) accepted brings-one)
-
-    -- Every other name keeps its value, or stays absent.
-    pub others-kept : (n : ℕ) → (n ≡ number → ⊥) → scopeOf more n ≡ scopeOf room n
-    unfolding scopeOf boundIn
-    others-kept n other = ap (λ bs. boundIn bs n) (brought .1) ∙ store-other (boundIn (room .bound)) number (brought .0) n other
+-- Every name but that of the new binding keeps its value, or stays absent.
+pub others-kept : (lentCells lentBytes : ℕ) (room : BindingRoom) (number : ℕ) (table text : List ℕ) (more : BindingRoom)
+    → bring lentCells lentBytes room number table text ≡ got more → (n : ℕ) → (n ≡ number → ⊥) → scopeOf more n ≡ scopeOf room n
+unfolding scopeOf boundIn
+others-kept lentCells lentBytes room number table text more accepted n other =
+    let b = brought-value lentCells lentBytes room number table text more accepted in
+    ap (λ (r : BindingRoom). scopeOf r n) (b .becomes) ∙ store-other (boundIn (room .bound)) number (b .held) n other
 
 -- ---- any table
 

@@ -37,7 +37,11 @@ pub mod Reading
 pub mod TableNumbers
 pub mod TableFormed
 pub mod Spelled
+pub mod SpelledRuns
+pub mod SpelledReasons
 pub mod BindingsFormed
+pub mod BoundValues
+pub mod BoundExample
 -- whole answers, and why they need limits
 pub mod AnswersFormed
 pub mod LimitsNeeded

@@ -60,6 +60,11 @@ reads-weaker {A} {P} {R} {g} weaker h = go g (h .only)
     go (got a) f = reads-got a (weaker a f)
     go (refused r p) f = reads-refused
 
+-- what was read is what was read
+pub reads-itself : {A : Type 0} (g : Got A) → Reads (λ a. g ≡ got a) g
+reads-itself (got a) = reads-got a refl
+reads-itself (refused r p) = reads-refused
+
 -- what was read has it
 pub was-read : {A : Type 0} {P : A → Type 0} {g : Got A} {a : A} → Reads P g → g ≡ got a → P a
 was-read {A} {P} {g} {a} h e = subst (λ (x : Got A). Only P x) e (h .only)

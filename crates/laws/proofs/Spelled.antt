@@ -79,7 +79,8 @@ key-sound (double d) f = tt
 key-sound (string s) f = f
 key-sound (bytes s) f = tt
 
-was-not-found : (o : Option Value) → not (isFound o) ≡ true → o ≡ none
+-- what was demanded not to be found is absent
+pub was-not-found : (o : Option Value) → not (isFound o) ≡ true → o ≡ none
 unfolding isFound
 was-not-found none e = refl
 was-not-found (some v) e = cc
@@ -102,7 +103,7 @@ add-sound (entry j w es) k v f g h =
     let apart = not-found (keyScalar k) j w es (g .1) in
     (f .0, f .1, added-not-found j k v es (apart .0) (f .2), add-sound es k v (f .3) (g .0, apart .1) h)
 
-add-nesting : (es : Entries) (k : Key) (v : Value) → nestingOver (addEntry es k v) ≡ max (nestingOver es) (nesting v)
+pub add-nesting : (es : Entries) (k : Key) (v : Value) → nestingOver (addEntry es k v) ≡ max (nestingOver es) (nesting v)
 unfolding addEntry nestingOver
 add-nesting empty k v = omega arith
 add-nesting (entry j w es) k v = let e = add-nesting es k v in omega arith
