@@ -1,0 +1,104 @@
+-- Fields of records: which numbers are right, and which spans of the text. Assumes nothing.
+use mathlib.Core.Path.{_≡_, refl, sym, _∙_}
+use mathlib.Core.Bool.{Bool, true, false, _&&_, cond}
+use mathlib.Core.List.{List, [], _∷_}
+use mathlib.Core.Option.{none, some}
+use Prim.Native.Nat.{ℕ, zero, suc, _+_, _-_, _<_, _≤_}
+use native.Mathlib.Omega.{arith}
+use lib.Dec.{leb, ltb, leb·suc-suc}
+use lib.ListN.{length, getD, getElem?, take, drop}
+use borrow.Author.Tests.{le-leb, lt-leb}
+use Rattle.text.specs.Utf8.{wellFormed}
+use Rattle.meaning.specs.Kinds.{numbered, flags, nameOf}
+use Rattle.meaning.specs.Table.{span, utf8}
+use Rattle.meaning.specs.Kinds.{kinds, unaries, binaries, functions}
+use Rattle.meaning.specs.Heads.{fieldBytes, bytesOf, numbersAt}
+use Rattle.table.specs.Shapes.{rowOf, wordAt, numbersOf, isSome, fieldsFit}
+use Rattle.table.proofs.HeadLaws.{byte-is}
+
+some-cond : {A : Type 0} (b : Bool) (a : A) → isSome (cond b (some a) none) ≡ b
+some-cond true a = refl
+some-cond false a = refl
+
+some-at : {A : Type 0} (l : List A) (i : ℕ) → isSome (getElem? l i) ≡ leb (suc i) (length l)
+some-at [] i = sym (lt-leb (suc i) 0 (omega arith))
+some-at (x ∷ l) zero = sym (le-leb 1 (suc (length l)) (omega arith))
+some-at (x ∷ l) (suc i) = some-at l i ∙ sym (leb·suc-suc (suc i) (length l))
+
+-- ---- numbers
+
+pub numbered-is : {A : Type 0} (l : List A) (n : ℕ) → isSome (numbered l n) ≡ (leb 1 n && leb n (length l))
+unfolding numbered
+numbered-is l zero = refl
+numbered-is l (suc n) = rw (le-leb 1 (suc n) (omega arith)) (some-at l n)
+
+pub flag-is : (n : ℕ) → isSome (getElem? flags n) ≡ leb n 1
+unfolding flags
+flag-is n = some-at (false ∷ true ∷ []) n ∙ leb·suc-suc n 1
+
+pub name-is : (n : ℕ) → isSome (nameOf n) ≡ ltb n 128
+unfolding nameOf
+name-is n = some-cond (ltb n 128) n
+
+-- ---- spans
+
+module _ (x : List ℕ) (o n : ℕ) where
+  pub span-is : isSome (span x o n) ≡ leb (o + n) (length x)
+  unfolding span
+  span-is = some-cond (leb (o + n) (length x)) (take n (drop o x))
+
+  pub utf8-outside : length x < o + n → false ≡ isSome (utf8 (span x o n))
+  unfolding span utf8
+  utf8-outside h = rw (lt-leb (o + n) (length x) h)
+
+  pub utf8-inside : o + n ≤ length x → wellFormed (take (o + n - o) (drop o x)) ≡ isSome (utf8 (span x o n))
+  unfolding span utf8
+  utf8-inside h = let e : o + n - o ≡ n = omega arith in rw (le-leb (o + n) (length x) h, e) (sym (some-cond (wellFormed (take n (drop o x))) (take n (drop o x))))
+
+pub spans-same : (x : List ℕ) {a b o n : ℕ} → a ≡ o → b ≡ n → isSome (utf8 (span x a b)) ≡ isSome (utf8 (span x o n))
+spans-same x e f = rw (e, f)
+
+-- ---- the fields of each kind that has some
+
+module _ (x t : List ℕ) (p : ℕ) where
+  pub bool-fits : leb (getD t (p + 3) 0) 1 ≡ fieldsFit x (rowOf 1 .kind) (numbersOf t p 1)
+  unfolding rowOf kinds fieldsFit numbersOf numbersAt fieldBytes bytesOf wordAt
+  bool-fits = rw (byte-is t (p + 3), flag-is)
+
+  pub string-fits : {a b : ℕ} → a ≡ wordAt t (p + 3) → b ≡ wordAt t (p + 3 + 2) → isSome (utf8 (span x a b)) ≡ fieldsFit x (rowOf 5 .kind) (numbersOf t p 5)
+  unfolding rowOf kinds fieldsFit numbersOf numbersAt fieldBytes bytesOf wordAt
+  string-fits = λ e f. rw (e, f)
+
+  pub bytes-fits : {a b : ℕ} → a ≡ wordAt t (p + 3) → b ≡ wordAt t (p + 3 + 2) → isSome (span x a b) ≡ fieldsFit x (rowOf 6 .kind) (numbersOf t p 6)
+  unfolding rowOf kinds fieldsFit numbersOf numbersAt fieldBytes bytesOf wordAt
+  bytes-fits = λ e f. rw (e, f)
+
+  pub name-fits : ltb (getD t (p + 3) 0) 128 ≡ fieldsFit x (rowOf 7 .kind) (numbersOf t p 7)
+  unfolding rowOf kinds fieldsFit numbersOf numbersAt fieldBytes bytesOf wordAt
+  name-fits = rw (byte-is t (p + 3), name-is)
+
+  pub unary-fits : (leb 1 (getD t (p + 3) 0) && leb (getD t (p + 3) 0) 3) ≡ fieldsFit x (rowOf 8 .kind) (numbersOf t p 8)
+  unfolding rowOf kinds fieldsFit numbersOf numbersAt fieldBytes bytesOf wordAt unaries
+  unary-fits = rw (byte-is t (p + 3)) (sym (numbered-is unaries (getD t (p + 3) 0)))
+
+  pub binary-fits : (leb 1 (getD t (p + 3) 0) && leb (getD t (p + 3) 0) 17) ≡ fieldsFit x (rowOf 9 .kind) (numbersOf t p 9)
+  unfolding rowOf kinds fieldsFit numbersOf numbersAt fieldBytes bytesOf wordAt binaries
+  binary-fits = rw (byte-is t (p + 3)) (sym (numbered-is binaries (getD t (p + 3) 0)))
+
+  pub select-is : (isSome (getElem? flags (getD t (p + 3) 0)) && isSome (utf8 (span x (wordAt t (p + 3 + 1)) (wordAt t (p + 3 + 1 + 2))))) ≡ fieldsFit x (rowOf 11 .kind) (numbersOf t p 11)
+  unfolding rowOf kinds fieldsFit numbersOf numbersAt fieldBytes bytesOf wordAt
+  select-is = rw (byte-is t (p + 3))
+
+  names-fit : (ltb (getD t (p + 3) 0) 128 && ltb (getD t (p + 3 + 1) 0) 128) ≡ fieldsFit x (rowOf 15 .kind) (numbersOf t p 15)
+  unfolding rowOf kinds fieldsFit numbersOf numbersAt fieldBytes bytesOf wordAt
+  names-fit = rw (byte-is t (p + 3), byte-is t (p + 3 + 1), name-is (getD t (p + 3) 0), name-is (getD t (p + 3 + 1) 0))
+
+  pub names-second : ltb (getD t (p + 3) 0) 128 ≡ true → ltb (getD t (p + 3 + 1) 0) 128 ≡ fieldsFit x (rowOf 15 .kind) (numbersOf t p 15)
+  names-second e = rw e at names-fit
+
+  pub names-first : ltb (getD t (p + 3) 0) 128 ≡ false → ltb (getD t (p + 3) 0) 128 ≡ fieldsFit x (rowOf 15 .kind) (numbersOf t p 15)
+  names-first e = e ∙ (rw e at names-fit)
+
+  pub function-fits : (leb 1 (getD t (p + 3) 0) && leb (getD t (p + 3) 0) 6) ≡ fieldsFit x (rowOf 16 .kind) (numbersOf t p 16)
+  unfolding rowOf kinds fieldsFit numbersOf numbersAt fieldBytes bytesOf wordAt functions
+  function-fits = rw (byte-is t (p + 3)) (sym (numbered-is functions (getD t (p + 3) 0)))

@@ -1,0 +1,12 @@
+pub mod Accepted
+pub mod CheckLaws
+pub mod FieldLaws
+pub mod HeadLaws
+pub mod KindLaws
+pub mod LongLaws
+pub mod MoreLaws
+pub mod Opened
+pub mod OperandLaws
+pub mod Parts
+pub mod RecordLaws
+pub mod SoundLaws

@@ -1,0 +1,106 @@
+use borrow.Author.Needs.{needs}
+use mathlib.Core.Path.{_≡_, refl, _∙_}
+use Prim.Native.Nat.{_-_}
+use native.Mathlib.Omega.{arith}
+use Rattle.table.specs.Reading.{readOf, operandsOf}
+use Rattle.table.proofs.RecordLaws.{operands-stop, operands-again, operands-met, operands-unmet}
+use Prim.Native.Nat.{ℕ}
+use Rattle.table.proofs.records.operands_at.Reads as operands-at
+use Rattle.table.proofs.records.+operands_at+record_at.Lts-operands_at as operands-at-lts
+use Rattle.table.proofs.records.record_at.Reads as record-at
+use Rattle.table.proofs.records.may_mark.Reads as may-mark-reads
+use Rattle.table.proofs.records.+operands_at+record_at.Proof.Kit.{operands-at-at, record-at-below}
+
+abbrev pub operands-at-Inv-loop : operands-at-lts.InvT-loop
+operands-at-Inv-loop table text place marks count first end levels at₀ left₀ at left = operandsOf (readOf table text levels) place marks end left at ≡ operandsOf (readOf table text levels) place marks end count first
+
+abbrev pub operands-at-μ-loop : operands-at-lts.MeasureT-loop
+operands-at-μ-loop table text place marks count first end levels at₀ left₀ at left = left
+
+pub operands-at-loop-holds : (t : ℕ) → operands-at-lts.Need-loop-holds (
+  may-mark-reads.Asked,
+  may-mark-reads.Learnt,
+  record-at-below t,
+  record-at.Post,
+) (operands-at-at t) operands-at.Post operands-at-Inv-loop operands-at-μ-loop
+operands-at-loop-holds t c = refl
+
+pub operands-at-may-mark-requires : (t : ℕ) → operands-at-lts.Need-may-mark-requires (
+  may-mark-reads.Asked,
+  may-mark-reads.Learnt,
+  record-at-below t,
+  record-at.Post,
+) (operands-at-at t) operands-at.Post operands-at-Inv-loop operands-at-μ-loop
+operands-at-may-mark-requires t c κs = search needs
+
+pub operands-at-record-at-requires : (t : ℕ) → operands-at-lts.Need-record-at-requires (
+  may-mark-reads.Asked,
+  may-mark-reads.Learnt,
+  record-at-below t,
+  record-at.Post,
+) (operands-at-at t) operands-at.Post operands-at-Inv-loop operands-at-μ-loop
+operands-at-record-at-requires t c κs = (omega arith, c .before .before .before .before .before .pre .1)
+
+pub operands-at-enum-known-operand : (t : ℕ) → operands-at-lts.Need-enum-known-operand (
+  may-mark-reads.Asked,
+  may-mark-reads.Learnt,
+  record-at-below t,
+  record-at.Post,
+) (operands-at-at t) operands-at.Post operands-at-Inv-loop operands-at-μ-loop
+operands-at-enum-known-operand t c = search needs
+
+pub operands-at-enum-told : (t : ℕ) → operands-at-lts.Need-enum-told (
+  may-mark-reads.Asked,
+  may-mark-reads.Learnt,
+  record-at-below t,
+  record-at.Post,
+) (operands-at-at t) operands-at.Post operands-at-Inv-loop operands-at-μ-loop
+operands-at-enum-told t c = search needs
+
+pub operands-at-returns : (t : ℕ) → operands-at-lts.Need-returns (
+  may-mark-reads.Asked,
+  may-mark-reads.Learnt,
+  record-at-below t,
+  record-at.Post,
+) (operands-at-at t) operands-at.Post operands-at-Inv-loop operands-at-μ-loop
+operands-at-returns t c = operands-stop (readOf (c .before .before .before .before .before .before .before .before .args .table .now) (c .before .before .before .before .before .before .before .before .args .text .now) (c .before .before .before .before .before .before .before .before .args .levels)) (c .before .before .before .before .before .before .before .before .args .place) (c .before .before .before .before .before .before .before .before .args .marks) (c .before .before .before .before .before .before .before .before .args .end) (c .before .before .before .before .before .loop .left) (c .before .before .before .before .before .loop .at) (c .before .before .before .before .loop-test .taken) (c .before .before .record-at .ensures) (c .before .before .before .may-mark .ensures) (c .enum-told .given .1) ∙ c .before .before .before .before .before .loop .inv
+
+pub operands-at-sub-left : (t : ℕ) → operands-at-lts.Need-sub-left (
+  may-mark-reads.Asked,
+  may-mark-reads.Learnt,
+  record-at-below t,
+  record-at.Post,
+) (operands-at-at t) operands-at.Post operands-at-Inv-loop operands-at-μ-loop
+operands-at-sub-left t c = search needs
+
+pub operands-at-loop-less : (t : ℕ) → operands-at-lts.Need-loop-less (
+  may-mark-reads.Asked,
+  may-mark-reads.Learnt,
+  record-at-below t,
+  record-at.Post,
+) (operands-at-at t) operands-at.Post operands-at-Inv-loop operands-at-μ-loop
+operands-at-loop-less t c = omega arith
+
+pub operands-at-loop-again : (t : ℕ) → operands-at-lts.Need-loop-again (
+  may-mark-reads.Asked,
+  may-mark-reads.Learnt,
+  record-at-below t,
+  record-at.Post,
+) (operands-at-at t) operands-at.Post operands-at-Inv-loop operands-at-μ-loop
+operands-at-loop-again t c = operands-again (readOf (c .before .before .before .before .before .before .before .before .before .args .table .now) (c .before .before .before .before .before .before .before .before .before .args .text .now) (c .before .before .before .before .before .before .before .before .before .args .levels)) (c .before .before .before .before .before .before .before .before .before .args .place) (c .before .before .before .before .before .before .before .before .before .args .marks) (c .before .before .before .before .before .before .before .before .before .args .end) (c .before .before .before .before .before .before .loop .left) (c .before .before .before .before .before .before .loop .at) (c .before .before .before .before .before .loop-test .taken) (c .before .before .before .record-at .ensures) (c .before .before .before .before .may-mark .ensures) (c .before .operand .given .1) ∙ c .before .before .before .before .before .before .loop .inv
+
+pub operands-at-returns-2 : (t : ℕ) → operands-at-lts.Need-returns-2 (
+  may-mark-reads.Asked,
+  may-mark-reads.Learnt,
+  record-at-below t,
+  record-at.Post,
+) (operands-at-at t) operands-at.Post operands-at-Inv-loop operands-at-μ-loop
+operands-at-returns-2 t c = operands-met (readOf (c .before .before .before .before .before .args .table .now) (c .before .before .before .before .before .args .text .now) (c .before .before .before .before .before .args .levels)) (c .before .before .before .before .before .args .place) (c .before .before .before .before .before .args .marks) (c .before .before .before .before .before .args .end) (c .before .before .loop .left) (c .before .before .loop .at) (c .before .loop-test .left) (c .if1 .taken) ∙ c .before .before .loop .inv
+
+pub operands-at-returns-3 : (t : ℕ) → operands-at-lts.Need-returns-3 (
+  may-mark-reads.Asked,
+  may-mark-reads.Learnt,
+  record-at-below t,
+  record-at.Post,
+) (operands-at-at t) operands-at.Post operands-at-Inv-loop operands-at-μ-loop
+operands-at-returns-3 t c = operands-unmet (readOf (c .before .before .before .before .before .args .table .now) (c .before .before .before .before .before .args .text .now) (c .before .before .before .before .before .args .levels)) (c .before .before .before .before .before .args .place) (c .before .before .before .before .before .args .marks) (c .before .before .before .before .before .args .end) (c .before .before .loop .left) (c .before .before .loop .at) (c .before .loop-test .left) (c .if1 .left) ∙ c .before .before .loop .inv

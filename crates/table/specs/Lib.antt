@@ -1,0 +1,6 @@
+-- What the contracts cite, in terms of the definition's reader: heads of records and their fields (`Shapes`), what is read at a place
+-- (`Reading`), what is said of a whole table (`Check`), and the records of an accepted one (`Records`).
+pub mod Shapes
+pub mod Reading
+pub mod Check
+pub mod Records

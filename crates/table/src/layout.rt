@@ -1,0 +1,162 @@
+// Where things stand in a table: words, heads of records, counts of operands. All that depends on the width of a word stands here.
+ghost use mathlib.Core.Path.{_≡_};
+ghost use Prim.Native.Nat.{_+_, _<_, _≤_};
+ghost use lib.ListN.{length};
+ghost use Rattle.meaning.specs.Kinds.{numbered, functions};
+ghost use Rattle.meaning.specs.Table.{wordBytes};
+ghost use Rattle.table.specs.Shapes.{kindNumbers, wordNumbers, fieldsAt, rowOf, headBytes, wordAt, numbersOf, calledCount, countOf, fitsExtent, headOf};
+
+// Bytes of a word: an extent, an offset, a length or a count.
+pub const WORD: usize = 2;
+
+// From a record's place to its first field.
+pub const FIELDS: usize = 1 + WORD;
+
+// To what follows a field of one byte; to the length that follows an offset, alone and after such a field.
+pub const AFTER_NUMBER: usize = FIELDS + 1;
+
+pub const SPAN_SIZE: usize = FIELDS + WORD;
+
+pub const FIELD_SIZE: usize = FIELDS + 1 + WORD;
+
+pub const LONGEST_TABLE: usize = 16384;
+
+pub const RECORD_LEVELS: usize = 64;
+
+pub const KINDS: u8 = 17;
+
+pub const MARK: u8 = 14;
+
+pub const TABLE_LENGTH: u8 = 1;
+
+pub const UNKNOWN_KIND: u8 = 2;
+
+pub const WRONG_EXTENT: u8 = 3;
+
+pub const RECORD_NESTING: u8 = 4;
+
+pub const WRONG_FIELD: u8 = 5;
+
+pub const MISPLACED_MARK: u8 = 6;
+
+pub const BYTES_AFTER_ROOT: u8 = 7;
+
+pub(crate) fn wide(byte: u8) -> usize
+    ensures { λ r. ⌜ (r ≡ byte) × (r < 256) ⌝ }
+{
+    byte as usize
+}
+
+// The word at a place.
+pub(crate) fn word_at(table: &[u8], at: usize) -> usize
+    requires { ⌜ at + wordBytes ≤ length (now table) ⌝ }
+    ensures { λ r. ⌜ (r ≡ wordAt (now (table .entry)) at) × (r < wordNumbers) ⌝ }
+{
+    let low = wide(table[at]);
+    let high = wide(table[at + 1]);
+    low + 256 * high
+}
+
+// From a record's place to its first operand, by kind.
+const HEADS: [usize; 17] = [
+    FIELDS,
+    FIELDS + 1,
+    FIELDS + 8,
+    FIELDS + 8,
+    FIELDS + 8,
+    FIELDS + WORD + WORD,
+    FIELDS + WORD + WORD,
+    FIELDS + 1,
+    FIELDS + 1,
+    FIELDS + 1,
+    FIELDS,
+    FIELDS + 1 + WORD + WORD,
+    FIELDS + WORD,
+    FIELDS + WORD,
+    FIELDS,
+    FIELDS + 2,
+    FIELDS + 1,
+];
+
+pub(crate) fn head_bytes(kind: u8) -> usize
+    requires { ⌜ kind < kindNumbers ⌝ }
+    ensures { λ r. ⌜ (r ≡ headBytes kind) × (fieldsAt ≤ r) × (r ≤ fieldsAt + 1 + wordBytes + wordBytes + 8) ⌝ }
+{
+    HEADS[wide(kind)]
+}
+
+// How many operands a function has. No operand of an unknown one is read.
+fn function_operands(number: u8) -> usize
+    ensures { λ r. ⌜ r ≡ calledCount (numbered functions number) ⌝ }
+{
+    match number {
+        3 => 0,
+        6 => 2,
+        _ => 1,
+    }
+}
+
+// How many operands the record at a place has.
+pub(crate) fn operand_count(table: &[u8], at: usize, kind: u8) -> usize
+    requires { ⌜ (kind < kindNumbers) × (at + headBytes kind ≤ length (now table)) ⌝ }
+    ensures { λ r. ⌜ r ≡ countOf (rowOf kind .kind) (numbersOf (now (table .entry)) at kind) ⌝ }
+{
+    match kind {
+        8 => 1,
+        9 => 2,
+        10 => 3,
+        11 => 1,
+        12 => word_at(table, at + FIELDS),
+        13 => 2 * word_at(table, at + FIELDS),
+        14 => 1,
+        15 => 5,
+        16 => function_operands(table[at + FIELDS]),
+        _ => 0,
+    }
+}
+
+// Whether an extent is the whole record if it has no operands, and else has room for them.
+fn extent_fits(count: usize, head: usize, extent: usize) -> bool
+    ensures { λ r. ⌜ r ≡ fitsExtent count head extent ⌝ }
+{
+    if count == 0 {
+        extent == head
+    } else {
+        head <= extent
+    }
+}
+
+// The head of a record.
+pub enum Head {
+    // Its kind, how many operands it has, where they begin and where it ends.
+    Whole(u8, usize, usize, usize),
+    // A refusal's number.
+    Refused(u8),
+}
+
+// The head of the record at a place, inside a parent that ends at another: its kind, then its extent.
+pub(crate) fn head_at(table: &[u8], at: usize, end: usize) -> Head
+    requires { ⌜ end ≤ length (now table) ⌝ }
+    ensures { λ r. ⌜ r ≡ headOf (now (table .entry)) at end ⌝ }
+{
+    if table.len() <= at {
+        return Head::Refused(WRONG_EXTENT);
+    }
+    let kind = table[at];
+    if KINDS <= kind {
+        return Head::Refused(UNKNOWN_KIND);
+    }
+    let head = head_bytes(kind);
+    if end < at + head {
+        return Head::Refused(WRONG_EXTENT);
+    }
+    let extent = word_at(table, at + 1);
+    if end < at + extent {
+        return Head::Refused(WRONG_EXTENT);
+    }
+    let count = operand_count(table, at, kind);
+    if !extent_fits(count, head, extent) {
+        return Head::Refused(WRONG_EXTENT);
+    }
+    Head::Whole(kind, count, at + head, at + extent)
+}

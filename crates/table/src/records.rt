@@ -1,0 +1,128 @@
+// Records one inside another: each is tested in the order of the refusals' numbers, then its operands are read.
+ghost use mathlib.Core.Path.{_≡_};
+ghost use Prim.Native.Nat.{_<_, _≤_};
+ghost use lib.ListN.{length};
+ghost use Rattle.table.specs.Shapes.{kindNumbers, rowOf, marksOf, mayMark, misplacedOf};
+ghost use Rattle.table.specs.Reading.{readOf, operandsOf};
+use crate::layout::Head;
+use crate::layout::MARK;
+use crate::layout::MISPLACED_MARK;
+use crate::layout::RECORD_NESTING;
+use crate::layout::WRONG_EXTENT;
+use crate::layout::WRONG_FIELD;
+
+// What was read.
+pub enum Read {
+    // Where it ends.
+    Ends(usize),
+    // A refusal's number, and the place at fault.
+    Refused(u8, usize),
+}
+
+// Which of a record's operands may be marked.
+pub enum Marks {
+    Nowhere,
+    // Each of a list.
+    Anywhere,
+    // The values of a map: the second of each pair.
+    Values,
+}
+
+fn marks_of(kind: u8) -> Marks
+    requires { ⌜ kind < kindNumbers ⌝ }
+    ensures { λ r. ⌜ r ≡ marksOf (rowOf kind .kind) ⌝ }
+{
+    match kind {
+        12 => Marks::Anywhere,
+        13 => Marks::Values,
+        _ => Marks::Nowhere,
+    }
+}
+
+// Whether the next operand may be marked, where so many are left.
+fn may_mark(marks: Marks, left: usize) -> bool
+    ensures { λ r. ⌜ r ≡ mayMark marks left ⌝ }
+{
+    match marks {
+        Marks::Nowhere => false,
+        Marks::Anywhere => true,
+        Marks::Values => left % 2 == 1,
+    }
+}
+
+// Whether a record is a mark where none may stand.
+fn misplaced(kind: u8, marked: bool) -> bool
+    requires { ⌜ kind < kindNumbers ⌝ }
+    ensures { λ r. ⌜ r ≡ misplacedOf (rowOf kind .kind) marked ⌝ }
+{
+    if kind == MARK { !marked } else { false }
+}
+
+// The record at a place, inside a parent that ends at another, with so many levels of nesting left.
+pub(crate) fn record_at(
+    table: &[u8],
+    text: &[u8],
+    at: usize,
+    end: usize,
+    levels: usize,
+    marked: bool,
+) -> Read
+    requires { ⌜ end ≤ length (now table) ⌝ }
+    ensures { λ r. ⌜ r ≡ readOf (now (table .entry)) (now (text .entry)) levels marked at end ⌝ }
+{
+    match crate::layout::head_at(table, at, end) {
+        Head::Refused(number) => Read::Refused(number, at),
+        Head::Whole(kind, count, first, after) => {
+            if levels == 0 {
+                return Read::Refused(RECORD_NESTING, at);
+            }
+            if !crate::fields::fields_fit(table, text, at, kind) {
+                return Read::Refused(WRONG_FIELD, at);
+            }
+            if misplaced(kind, marked) {
+                return Read::Refused(MISPLACED_MARK, at);
+            }
+            operands_at(
+                table,
+                text,
+                at,
+                marks_of(kind),
+                count,
+                first,
+                after,
+                levels - 1,
+            )
+        }
+    }
+}
+
+// So many operands from a place on, which have to end where their record does.
+fn operands_at(
+    table: &[u8],
+    text: &[u8],
+    place: usize,
+    marks: Marks,
+    count: usize,
+    first: usize,
+    end: usize,
+    levels: usize,
+) -> Read
+    requires { ⌜ end ≤ length (now table) ⌝ }
+    ensures { λ r. ⌜ r ≡ operandsOf (readOf (now (table .entry)) (now (text .entry)) levels) place marks end count first ⌝ }
+{
+    let mut at = first;
+    let mut left = count;
+    while 0 < left {
+        let operand = record_at(table, text, at, end, levels, may_mark(marks, left));
+        let Read::Ends(after) = operand else {
+            return operand;
+        };
+        at = after;
+        left -= 1;
+    }
+    if at == end {
+        Read::Ends(at)
+    } else {
+        Read::Refused(WRONG_EXTENT, place)
+    }
+}
