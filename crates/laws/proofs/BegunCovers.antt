@@ -1,5 +1,5 @@
--- The relation `Begins` leaves nothing out where a comprehension has a choice: after each step the loop goes on or ends in the step's
--- error, and from each init it takes the ordinary loop or, written so, the append path.
+-- Where a comprehension has a choice, `Begins` has a case for each way: after each step the loop goes on or ends in the step's error, and
+-- from each init it takes the ordinary loop or, written so, the append path. That the whole relation is complete stands in EveryStep.
 -- Rests on LookWritten. Assumes nothing.
 use Prim.Native.Nat.{ℕ}
 use mathlib.Core.Path.{_≡_, refl, sym, subst}

@@ -21,6 +21,16 @@ pub mod LookWritten
 pub mod BegunCovers
 pub mod BegunExamples
 pub mod NotBegun
+-- .. and the list of operands that are begun is complete
+pub mod CoveredSteps
+pub mod OwnSteps
+pub mod StepOrigins
+pub mod StepOperands
+pub mod StepParts
+pub mod StepItems
+pub mod StepComprehension
+pub mod EveryStep
+pub mod StepsExactly
 -- the values that can occur are well formed: what is kept, and by which rule
 pub mod SoundNumbers
 pub mod MatchingKeys

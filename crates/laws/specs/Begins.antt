@@ -1,6 +1,7 @@
 -- Which operands a record begins, in which scope, and after which charges: one line for each kind of record and each operand.
 -- `Begins e s before f t`: evaluating e in the scope s makes the charges `before` and then begins f in the scope t.
--- Rests on the definition of evaluation, of which it says again only what goes before an operand.
+-- Rests on the definition of evaluation, of which it says again only what goes before an operand. That it says nothing wrong is proved in
+-- proofs/Begun (`reached`), that it leaves no operand out in proofs/EveryStep.
 use Prim.Native.Nat.{ℕ, _*_}
 use mathlib.Core.Path.{_≡_}
 use mathlib.Core.List.{List, [], _∷_, _++_}
