@@ -27,7 +27,8 @@ unfolding _>>_ _>>=_ demand
 met true r p g e = (refl, e)
 met false r p g e = let z : _≡_ {A = ℕ} 0 1 = cc in absurd (omega arith)
 
-root-got : (end : ℕ) (g : Got (Expr × ℕ)) → verdict (_>>=_ g (λ a. _>>_ (demand (eqb (a .1) end) BytesAfterRoot (a .1)) (got (a .0)))) ≡ Accepted → (e : Expr) × (g ≡ got (e, end))
+root-got : (end : ℕ) (g : Got (Expr × ℕ)) → verdict (_>>=_ g (λ a. _>>_ (demand (eqb (a .1) end) BytesAfterRoot (a .1)) (got (a .0)))) ≡ Accepted →
+    (e : Expr) × (g ≡ got (e, end))
 unfolding _>>=_
 root-got end (got a) e = let f = eqb-true (a .1) end (met (eqb (a .1) end) BytesAfterRoot (a .1) (got (a .0)) e .0) in (a .0, ap (λ n. got (a .0, n)) f)
 root-got end (refused r p) e = let z : _≡_ {A = ℕ} 0 1 = cc in absurd (omega arith)
@@ -36,7 +37,8 @@ met-got : (b : Bool) (r : Refusal) (p : ℕ) {g h : Got Expr} → b ≡ true →
 unfolding _>>_ _>>=_ demand
 met-got b r p e f = rw (e, f)
 
-root-gives : (end : ℕ) {g : Got (Expr × ℕ)} {e : Expr} → g ≡ got (e, end) → _>>=_ g (λ a. _>>_ (demand (eqb (a .1) end) BytesAfterRoot (a .1)) (got (a .0))) ≡ got e
+root-gives : (end : ℕ) {g : Got (Expr × ℕ)} {e : Expr} → g ≡ got (e, end) →
+    _>>=_ g (λ a. _>>_ (demand (eqb (a .1) end) BytesAfterRoot (a .1)) (got (a .0))) ≡ got e
 unfolding _>>_ _>>=_ demand
 root-gives end f = rw (f, eq-eqb end end refl)
 

@@ -53,7 +53,8 @@ module _ (x : List ℕ) (o n : ℕ) where
 
   pub utf8-inside : o + n ≤ length x → wellFormed (take (o + n - o) (drop o x)) ≡ isSome (utf8 (span x o n))
   unfolding span utf8
-  utf8-inside h = let e : o + n - o ≡ n = omega arith in rw (le-leb (o + n) (length x) h, e) (sym (some-cond (wellFormed (take n (drop o x))) (take n (drop o x))))
+  utf8-inside h =
+      let e : o + n - o ≡ n = omega arith in rw (le-leb (o + n) (length x) h, e) (sym (some-cond (wellFormed (take n (drop o x))) (take n (drop o x))))
 
 pub spans-same : (x : List ℕ) {a b o n : ℕ} → a ≡ o → b ≡ n → isSome (utf8 (span x a b)) ≡ isSome (utf8 (span x o n))
 spans-same x e f = rw (e, f)
@@ -85,7 +86,8 @@ module _ (x t : List ℕ) (p : ℕ) where
   unfolding rowOf kinds fieldsFit numbersOf numbersAt fieldBytes bytesOf wordAt binaries
   binary-fits = rw (byte-is t (p + 3)) (sym (numbered-is binaries (getD t (p + 3) 0)))
 
-  pub select-is : (isSome (getElem? flags (getD t (p + 3) 0)) && isSome (utf8 (span x (wordAt t (p + 3 + 1)) (wordAt t (p + 3 + 1 + 2))))) ≡ fieldsFit x (rowOf 11 .kind) (numbersOf t p 11)
+  pub select-is : (isSome (getElem? flags (getD t (p + 3) 0)) && isSome (utf8 (span x (wordAt t (p + 3 + 1)) (wordAt t (p + 3 + 1 + 2))))) ≡ fieldsFit x
+      (rowOf 11 .kind) (numbersOf t p 11)
   unfolding rowOf kinds fieldsFit numbersOf numbersAt fieldBytes bytesOf wordAt
   select-is = rw (byte-is t (p + 3))
 

@@ -34,7 +34,8 @@ byte-is t p = omega arith
 module _ (t : List ℕ) (p : ℕ) where
   -- the head of a record of a known kind whose extent fits
   abbrev pub headHere : heads.Head
-  headHere = record { kind = rowOf (getD t p 0) .kind; numbers = numbersOf t p (getD t p 0); operandsAt = p + headBytes (getD t p 0); end = p + wordAt t (p + 1) }
+  headHere =
+      record { kind = rowOf (getD t p 0) .kind; numbers = numbersOf t p (getD t p 0); operandsAt = p + headBytes (getD t p 0); end = p + wordAt t (p + 1) }
 
   abbrev pub countHere : ℕ
   countHere = countOf (rowOf (getD t p 0) .kind) (numbersOf t p (getD t p 0))
@@ -51,9 +52,17 @@ module _ (t : List ℕ) (p : ℕ) where
   unfolding rowAt kinds orRefuse _>>=_
   row-unknown h k = rw (there t p 0 h, beyond kinds (getD t p 0) k)
 
-  pub head-known : (end : ℕ) → p < length t → getD t p 0 < 17 → headAt wordBytes t p end ≡ _>>_ (demand (leb (p + headBytes (getD t p 0)) end && leb (p + wordAt t (p + 1)) end && fitsExtent countHere (headBytes (getD t p 0)) (wordAt t (p + 1))) WrongExtent p) (got headHere)
+  pub head-known : (end : ℕ) → p < length t → getD t p 0 < 17 → headAt wordBytes t p end ≡ _>>_
+      (demand (leb (p + headBytes (getD t p 0)) end && leb (p + wordAt t (p + 1)) end && fitsExtent countHere (headBytes (getD t p 0)) (wordAt t (p + 1)))
+      WrongExtent p) (got headHere)
   unfolding headAt _>>=_ extentFits numbersOf wordAt fieldBytes
-  head-known end h k = rw (row-here h k, head-width t (getD t p 0) k, leaf-count (numbersAt wordBytes t (rowOf (getD t p 0) .fields) (p + bytesOf wordBytes t (byte ∷ word ∷ []))) (getD t p 0) k)
+  head-known end h k =
+      rw (
+        row-here h k,
+        head-width t (getD t p 0) k,
+        leaf-count
+            (numbersAt wordBytes t (rowOf (getD t p 0) .fields) (p + bytesOf wordBytes t (byte ∷ word ∷ []))) (getD t p 0) k,
+      )
 
   pub none-at : (end : ℕ) → length t ≤ p → headAt wordBytes t p end ≡ refused WrongExtent p
   unfolding headAt _>>=_
@@ -88,7 +97,8 @@ module _ (t : List ℕ) (p : ℕ) {end head : ℕ} (h : p < length t) (k : getD 
 
       pub head-whole : fitsExtent count head extent ≡ true → Whole (getD t p 0) count (p + head) (p + extent) ≡ headOf t p end
       unfolding headOf demand _>>=_ _>>_
-      head-whole e = rw (head-known t p end h k, ← a, ← b, ← d, le-leb _ _ fits, le-leb _ _ inside, e) (ap (λ (n : ℕ). Whole (getD t p 0) n (p + head) (p + extent)) d)
+      head-whole e =
+          rw (head-known t p end h k, ← a, ← b, ← d, le-leb _ _ fits, le-leb _ _ inside, e) (ap (λ (n : ℕ). Whole (getD t p 0) n (p + head) (p + extent)) d)
 
 -- ---- what a head is
 
@@ -147,7 +157,9 @@ module _ (t : List ℕ) (p end : ℕ) where
 
   -- in a longer parent too
   pub longer : {parent : ℕ} → Here t p parent → parent ≤ end → Here t p end
-  longer h e = here (h .within) (h .known) (rw (le-leb (p + headBytes (getD t p 0)) end (le-trans (h .room) e), le-leb (p + wordAt t (p + 1)) end (le-trans (h .inside) e)) (h .extent))
+  longer h e =
+      here (h .within) (h .known)
+      (rw (le-leb (p + headBytes (getD t p 0)) end (le-trans (h .room) e), le-leb (p + wordAt t (p + 1)) end (le-trans (h .inside) e)) (h .extent))
 
   unfit : p < length t → getD t p 0 < 17 → Fits ≡ false → headAt wordBytes t p end ≡ refused WrongExtent p
   unfolding demand _>>=_ _>>_

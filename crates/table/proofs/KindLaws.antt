@@ -23,14 +23,35 @@ next P n here there (suc k) h = there k (omega arith)
 nothing : (P : ℕ → Type 0) (k : ℕ) → k < 0 → P k
 nothing P k h = absurd (omega arith)
 
-pub every-kind : (P : ℕ → Type 0) → P 0 → P 1 → P 2 → P 3 → P 4 → P 5 → P 6 → P 7 → P 8 → P 9 → P 10 → P 11 → P 12 → P 13 → P 14 → P 15 → P 16 → (k : ℕ) → k < 17 → P k
-every-kind P p0 p1 p2 p3 p4 p5 p6 p7 p8 p9 p10 p11 p12 p13 p14 p15 p16 = next P 16 p0 (next (λ k. P (suc k)) 15 p1 (next (λ k. P (suc (suc k))) 14 p2 (next (λ k. P (suc (suc (suc k)))) 13 p3 (next (λ k. P (suc (suc (suc (suc k))))) 12 p4 (next (λ k. P (suc (suc (suc (suc (suc k)))))) 11 p5 (next (λ k. P (suc (suc (suc (suc (suc (suc k))))))) 10 p6 (next (λ k. P (suc (suc (suc (suc (suc (suc (suc k)))))))) 9 p7 (next (λ k. P (suc (suc (suc (suc (suc (suc (suc (suc k))))))))) 8 p8 (next (λ k. P (suc (suc (suc (suc (suc (suc (suc (suc (suc k)))))))))) 7 p9 (next (λ k. P (suc (suc (suc (suc (suc (suc (suc (suc (suc (suc k))))))))))) 6 p10 (next (λ k. P (suc (suc (suc (suc (suc (suc (suc (suc (suc (suc (suc k)))))))))))) 5 p11 (next (λ k. P (suc (suc (suc (suc (suc (suc (suc (suc (suc (suc (suc (suc k))))))))))))) 4 p12 (next (λ k. P (suc (suc (suc (suc (suc (suc (suc (suc (suc (suc (suc (suc (suc k)))))))))))))) 3 p13 (next (λ k. P (suc (suc (suc (suc (suc (suc (suc (suc (suc (suc (suc (suc (suc (suc k))))))))))))))) 2 p14 (next (λ k. P (suc (suc (suc (suc (suc (suc (suc (suc (suc (suc (suc (suc (suc (suc (suc k)))))))))))))))) 1 p15 (next (λ k. P (suc (suc (suc (suc (suc (suc (suc (suc (suc (suc (suc (suc (suc (suc (suc (suc k))))))))))))))))) 0 p16 (nothing (λ k. P (suc (suc (suc (suc (suc (suc (suc (suc (suc (suc (suc (suc (suc (suc (suc (suc (suc k)))))))))))))))))))))))))))))))))))
+pub every-kind : (P : ℕ → Type 0) → P 0 → P 1 → P 2 → P 3 → P 4 → P 5 → P 6 → P 7 → P 8 → P 9 → P 10 → P 11 → P 12 → P 13 → P 14 → P 15 → P 16 → (k : ℕ) →
+    k < 17 → P k
+every-kind P p0 p1 p2 p3 p4 p5 p6 p7 p8 p9 p10 p11 p12 p13 p14 p15 p16 =
+    next P 16 p0
+    (next (λ k. P (suc k)) 15 p1
+    (next (λ k. P (suc (suc k))) 14 p2
+    (next (λ k. P (suc (suc (suc k)))) 13 p3
+    (next (λ k. P (suc (suc (suc (suc k))))) 12 p4
+    (next (λ k. P (suc (suc (suc (suc (suc k)))))) 11 p5
+    (next (λ k. P (suc (suc (suc (suc (suc (suc k))))))) 10 p6
+    (next (λ k. P (suc (suc (suc (suc (suc (suc (suc k)))))))) 9 p7
+    (next (λ k. P (suc (suc (suc (suc (suc (suc (suc (suc k))))))))) 8 p8
+    (next (λ k. P (suc (suc (suc (suc (suc (suc (suc (suc (suc k)))))))))) 7 p9
+    (next (λ k. P (suc (suc (suc (suc (suc (suc (suc (suc (suc (suc k))))))))))) 6 p10
+    (next (λ k. P (suc (suc (suc (suc (suc (suc (suc (suc (suc (suc (suc k)))))))))))) 5 p11
+    (next (λ k. P (suc (suc (suc (suc (suc (suc (suc (suc (suc (suc (suc (suc k))))))))))))) 4 p12
+    (next (λ k. P (suc (suc (suc (suc (suc (suc (suc (suc (suc (suc (suc (suc (suc k)))))))))))))) 3 p13
+    (next (λ k. P (suc (suc (suc (suc (suc (suc (suc (suc (suc (suc (suc (suc (suc (suc k))))))))))))))) 2 p14
+    (next (λ k. P (suc (suc (suc (suc (suc (suc (suc (suc (suc (suc (suc (suc (suc (suc (suc k)))))))))))))))) 1 p15
+    (next (λ k. P (suc (suc (suc (suc (suc (suc (suc (suc (suc (suc (suc (suc (suc (suc (suc (suc k))))))))))))))))) 0 p16
+    (nothing (λ k. P (suc (suc (suc (suc (suc (suc (suc (suc (suc (suc (suc (suc (suc (suc (suc (suc (suc k)))))))))))))))))))))))))))))))))))
 
 -- ---- heads
 
 pub head-width : (t : List ℕ) (k : ℕ) → k < 17 → bytesOf wordBytes t (byte ∷ word ∷ rowOf k .fields) ≡ headBytes k
 unfolding headBytes rowOf kinds bytesOf fieldBytes
-head-width t = every-kind (λ k. bytesOf wordBytes t (byte ∷ word ∷ rowOf k .fields) ≡ headBytes k) refl refl refl refl refl refl refl refl refl refl refl refl refl refl refl refl refl
+head-width t =
+    every-kind (λ k. bytesOf wordBytes t (byte ∷ word ∷ rowOf k .fields) ≡ headBytes k) refl refl refl refl refl refl refl refl refl refl refl refl refl refl
+    refl refl refl
 
 -- by kind byte
 abbrev heads : List ℕ
@@ -38,7 +59,12 @@ heads = 3 ∷ 4 ∷ 11 ∷ 11 ∷ 11 ∷ 7 ∷ 7 ∷ 4 ∷ 4 ∷ 4 ∷ 3 ∷ 8 �
 
 pub head-table : (k : ℕ) → k < 17 → (getD heads k 0 ≡ headBytes k) × (3 ≤ getD heads k 0) × (getD heads k 0 ≤ 16)
 unfolding headBytes rowOf kinds bytesOf fieldBytes
-head-table = every-kind (λ k. (getD heads k 0 ≡ headBytes k) × (3 ≤ getD heads k 0) × (getD heads k 0 ≤ 16)) (refl, omega arith, omega arith) (refl, omega arith, omega arith) (refl, omega arith, omega arith) (refl, omega arith, omega arith) (refl, omega arith, omega arith) (refl, omega arith, omega arith) (refl, omega arith, omega arith) (refl, omega arith, omega arith) (refl, omega arith, omega arith) (refl, omega arith, omega arith) (refl, omega arith, omega arith) (refl, omega arith, omega arith) (refl, omega arith, omega arith) (refl, omega arith, omega arith) (refl, omega arith, omega arith) (refl, omega arith, omega arith) (refl, omega arith, omega arith)
+head-table =
+    every-kind (λ k. (getD heads k 0 ≡ headBytes k) × (3 ≤ getD heads k 0) × (getD heads k 0 ≤ 16)) (refl, omega arith, omega arith)
+    (refl, omega arith, omega arith) (refl, omega arith, omega arith) (refl, omega arith, omega arith) (refl, omega arith, omega arith)
+    (refl, omega arith, omega arith) (refl, omega arith, omega arith) (refl, omega arith, omega arith) (refl, omega arith, omega arith)
+    (refl, omega arith, omega arith) (refl, omega arith, omega arith) (refl, omega arith, omega arith) (refl, omega arith, omega arith)
+    (refl, omega arith, omega arith) (refl, omega arith, omega arith) (refl, omega arith, omega arith) (refl, omega arith, omega arith)
 
 pub head-is : {k : ℕ} (n : ℕ) → n < 17 → k ≡ n → headBytes k ≡ getD heads n 0
 head-is n h e = ap headBytes e ∙ sym (head-table n h .0)
@@ -59,11 +85,21 @@ no-pairs (suc n) = ne-eqb (suc n) 0 (λ e. omega arith) ∙ sym (ne-eqb (2 * suc
 -- a record is a leaf where it has no operands
 pub leaf-count : (ns : List ℕ) (k : ℕ) → k < 17 → isLeaf (rowOf k .operands) (first ns) ≡ eqb (countOf (rowOf k .kind) ns) 0
 unfolding rowOf kinds isLeaf countOf
-leaf-count ns = every-kind (λ k. isLeaf (rowOf k .operands) (first ns) ≡ eqb (countOf (rowOf k .kind) ns) 0) refl refl refl refl refl refl refl refl refl refl refl refl refl (no-pairs (first ns)) refl refl (none-called (numbered functions (first ns)))
+leaf-count ns =
+    every-kind (λ k. isLeaf (rowOf k .operands) (first ns) ≡ eqb (countOf (rowOf k .kind) ns) 0) refl refl refl refl refl refl refl refl refl refl refl refl
+    refl (no-pairs (first ns)) refl refl (none-called (numbered functions (first ns)))
 
-pub no-operands : (t : List ℕ) (p k : ℕ) → k < 17 → (k ≡ 8 → ⊥) → (k ≡ 9 → ⊥) → (k ≡ 10 → ⊥) → (k ≡ 11 → ⊥) → (k ≡ 12 → ⊥) → (k ≡ 13 → ⊥) → (k ≡ 14 → ⊥) → (k ≡ 15 → ⊥) → (k ≡ 16 → ⊥) → 0 ≡ countOf (rowOf k .kind) (numbersOf t p k)
+pub no-operands : (t : List ℕ) (p k : ℕ) → k < 17 → (k ≡ 8 → ⊥) → (k ≡ 9 → ⊥) → (k ≡ 10 → ⊥) → (k ≡ 11 → ⊥) → (k ≡ 12 → ⊥) → (k ≡ 13 → ⊥) → (k ≡ 14 → ⊥) →
+    (k ≡ 15 → ⊥) → (k ≡ 16 → ⊥) → 0 ≡ countOf (rowOf k .kind) (numbersOf t p k)
 unfolding rowOf kinds countOf
-no-operands t p = every-kind (λ k. (k ≡ 8 → ⊥) → (k ≡ 9 → ⊥) → (k ≡ 10 → ⊥) → (k ≡ 11 → ⊥) → (k ≡ 12 → ⊥) → (k ≡ 13 → ⊥) → (k ≡ 14 → ⊥) → (k ≡ 15 → ⊥) → (k ≡ 16 → ⊥) → 0 ≡ countOf (rowOf k .kind) (numbersOf t p k)) (λ a b c d e f g h i. refl) (λ a b c d e f g h i. refl) (λ a b c d e f g h i. refl) (λ a b c d e f g h i. refl) (λ a b c d e f g h i. refl) (λ a b c d e f g h i. refl) (λ a b c d e f g h i. refl) (λ a b c d e f g h i. refl) (λ a b c d e f g h i. absurd (a refl)) (λ a b c d e f g h i. absurd (b refl)) (λ a b c d e f g h i. absurd (c refl)) (λ a b c d e f g h i. absurd (d refl)) (λ a b c d e f g h i. absurd (e refl)) (λ a b c d e f g h i. absurd (f refl)) (λ a b c d e f g h i. absurd (g refl)) (λ a b c d e f g h i. absurd (h refl)) (λ a b c d e f g h i. absurd (i refl))
+no-operands t p =
+    every-kind
+    (λ k. (k ≡ 8 → ⊥) → (k ≡ 9 → ⊥) → (k ≡ 10 → ⊥) → (k ≡ 11 → ⊥) → (k ≡ 12 → ⊥) → (k ≡ 13 → ⊥) → (k ≡ 14 → ⊥) → (k ≡ 15 → ⊥) → (k ≡ 16 → ⊥) →
+    0 ≡ countOf (rowOf k .kind) (numbersOf t p k)) (λ a b c d e f g h i. refl) (λ a b c d e f g h i. refl) (λ a b c d e f g h i. refl)
+    (λ a b c d e f g h i. refl) (λ a b c d e f g h i. refl) (λ a b c d e f g h i. refl) (λ a b c d e f g h i. refl) (λ a b c d e f g h i. refl)
+    (λ a b c d e f g h i. absurd (a refl)) (λ a b c d e f g h i. absurd (b refl)) (λ a b c d e f g h i. absurd (c refl))
+    (λ a b c d e f g h i. absurd (d refl)) (λ a b c d e f g h i. absurd (e refl)) (λ a b c d e f g h i. absurd (f refl))
+    (λ a b c d e f g h i. absurd (g refl)) (λ a b c d e f g h i. absurd (h refl)) (λ a b c d e f g h i. absurd (i refl))
 
 pub one-called : (n : ℕ) → (n ≡ 3 → ⊥) → (n ≡ 6 → ⊥) → 1 ≡ calledCount (numbered functions n)
 unfolding numbered functions
@@ -78,17 +114,30 @@ one-called (suc (suc (suc (suc (suc (suc (suc n))))))) a b = refl
 
 pub no-marks : (k : ℕ) → k < 17 → (k ≡ 12 → ⊥) → (k ≡ 13 → ⊥) → Nowhere ≡ marksOf (rowOf k .kind)
 unfolding rowOf kinds marksOf
-no-marks = every-kind (λ k. (k ≡ 12 → ⊥) → (k ≡ 13 → ⊥) → Nowhere ≡ marksOf (rowOf k .kind)) (λ a b. refl) (λ a b. refl) (λ a b. refl) (λ a b. refl) (λ a b. refl) (λ a b. refl) (λ a b. refl) (λ a b. refl) (λ a b. refl) (λ a b. refl) (λ a b. refl) (λ a b. refl) (λ a b. absurd (a refl)) (λ a b. absurd (b refl)) (λ a b. refl) (λ a b. refl) (λ a b. refl)
+no-marks =
+    every-kind (λ k. (k ≡ 12 → ⊥) → (k ≡ 13 → ⊥) → Nowhere ≡ marksOf (rowOf k .kind)) (λ a b. refl) (λ a b. refl) (λ a b. refl) (λ a b. refl) (λ a b. refl)
+    (λ a b. refl) (λ a b. refl) (λ a b. refl) (λ a b. refl) (λ a b. refl) (λ a b. refl) (λ a b. refl) (λ a b. absurd (a refl)) (λ a b. absurd (b refl))
+    (λ a b. refl) (λ a b. refl) (λ a b. refl)
 
 pub no-mark : (marked : Bool) (k : ℕ) → k < 17 → (k ≡ 14 → ⊥) → false ≡ misplacedOf (rowOf k .kind) marked
 unfolding rowOf kinds
-no-mark marked = every-kind (λ k. (k ≡ 14 → ⊥) → false ≡ misplacedOf (rowOf k .kind) marked) (λ a. refl) (λ a. refl) (λ a. refl) (λ a. refl) (λ a. refl) (λ a. refl) (λ a. refl) (λ a. refl) (λ a. refl) (λ a. refl) (λ a. refl) (λ a. refl) (λ a. refl) (λ a. refl) (λ a. absurd (a refl)) (λ a. refl) (λ a. refl)
+no-mark marked =
+    every-kind (λ k. (k ≡ 14 → ⊥) → false ≡ misplacedOf (rowOf k .kind) marked) (λ a. refl) (λ a. refl) (λ a. refl) (λ a. refl) (λ a. refl) (λ a. refl)
+    (λ a. refl) (λ a. refl) (λ a. refl) (λ a. refl) (λ a. refl) (λ a. refl) (λ a. refl) (λ a. refl) (λ a. absurd (a refl)) (λ a. refl) (λ a. refl)
 
 -- ---- fields
 
-pub no-fields : (x t : List ℕ) (p k : ℕ) → k < 17 → (k ≡ 1 → ⊥) → (k ≡ 5 → ⊥) → (k ≡ 6 → ⊥) → (k ≡ 7 → ⊥) → (k ≡ 8 → ⊥) → (k ≡ 9 → ⊥) → (k ≡ 11 → ⊥) → (k ≡ 15 → ⊥) → (k ≡ 16 → ⊥) → true ≡ fieldsFit x (rowOf k .kind) (numbersOf t p k)
+pub no-fields : (x t : List ℕ) (p k : ℕ) → k < 17 → (k ≡ 1 → ⊥) → (k ≡ 5 → ⊥) → (k ≡ 6 → ⊥) → (k ≡ 7 → ⊥) → (k ≡ 8 → ⊥) → (k ≡ 9 → ⊥) → (k ≡ 11 → ⊥) →
+    (k ≡ 15 → ⊥) → (k ≡ 16 → ⊥) → true ≡ fieldsFit x (rowOf k .kind) (numbersOf t p k)
 unfolding rowOf kinds fieldsFit
-no-fields x t p = every-kind (λ k. (k ≡ 1 → ⊥) → (k ≡ 5 → ⊥) → (k ≡ 6 → ⊥) → (k ≡ 7 → ⊥) → (k ≡ 8 → ⊥) → (k ≡ 9 → ⊥) → (k ≡ 11 → ⊥) → (k ≡ 15 → ⊥) → (k ≡ 16 → ⊥) → true ≡ fieldsFit x (rowOf k .kind) (numbersOf t p k)) (λ a b c d e f g h i. refl) (λ a b c d e f g h i. absurd (a refl)) (λ a b c d e f g h i. refl) (λ a b c d e f g h i. refl) (λ a b c d e f g h i. refl) (λ a b c d e f g h i. absurd (b refl)) (λ a b c d e f g h i. absurd (c refl)) (λ a b c d e f g h i. absurd (d refl)) (λ a b c d e f g h i. absurd (e refl)) (λ a b c d e f g h i. absurd (f refl)) (λ a b c d e f g h i. refl) (λ a b c d e f g h i. absurd (g refl)) (λ a b c d e f g h i. refl) (λ a b c d e f g h i. refl) (λ a b c d e f g h i. refl) (λ a b c d e f g h i. absurd (h refl)) (λ a b c d e f g h i. absurd (i refl))
+no-fields x t p =
+    every-kind
+    (λ k. (k ≡ 1 → ⊥) → (k ≡ 5 → ⊥) → (k ≡ 6 → ⊥) → (k ≡ 7 → ⊥) → (k ≡ 8 → ⊥) → (k ≡ 9 → ⊥) → (k ≡ 11 → ⊥) → (k ≡ 15 → ⊥) → (k ≡ 16 → ⊥) →
+    true ≡ fieldsFit x (rowOf k .kind) (numbersOf t p k)) (λ a b c d e f g h i. refl) (λ a b c d e f g h i. absurd (a refl)) (λ a b c d e f g h i. refl)
+    (λ a b c d e f g h i. refl) (λ a b c d e f g h i. refl) (λ a b c d e f g h i. absurd (b refl)) (λ a b c d e f g h i. absurd (c refl))
+    (λ a b c d e f g h i. absurd (d refl)) (λ a b c d e f g h i. absurd (e refl)) (λ a b c d e f g h i. absurd (f refl)) (λ a b c d e f g h i. refl)
+    (λ a b c d e f g h i. absurd (g refl)) (λ a b c d e f g h i. refl) (λ a b c d e f g h i. refl) (λ a b c d e f g h i. refl)
+    (λ a b c d e f g h i. absurd (h refl)) (λ a b c d e f g h i. absurd (i refl))
 
 -- ---- the row of a byte
 

@@ -1,12 +1,14 @@
-pub mod Accepted
-pub mod CheckLaws
-pub mod FieldLaws
-pub mod HeadLaws
+-- For callers: an accepted table (`Accepted`), a record of one and its operands (`Opened`), marks, kinds and rows (`Parts`).
+-- The others are what those and the functions' proofs rest on, from the leaves up.
 pub mod KindLaws
+pub mod HeadLaws
+pub mod FieldLaws
 pub mod LongLaws
-pub mod MoreLaws
-pub mod Opened
 pub mod OperandLaws
-pub mod Parts
 pub mod RecordLaws
+pub mod CheckLaws
+pub mod MoreLaws
 pub mod SoundLaws
+pub mod Opened
+pub mod Parts
+pub mod Accepted

@@ -22,7 +22,8 @@ unfolding _>>=_
 bind-more (got a) h k l f m b e = rw (f a refl) (m a b e)
 bind-more (refused r p) h k l f m b e = let z : _≡_ {A = ℕ} 0 1 = cc in absurd (omega arith)
 
-module _ (text : List ℕ) (e f : Reader Expr) (a b : Reader Part) (exprs : (q end : ℕ) → Under (e q end) (f q end)) (parts : (q end : ℕ) → Under (a q end) (b q end)) where
+module _ (text : List ℕ) (e f : Reader Expr) (a b : Reader Part) (exprs : (q end : ℕ) → Under (e q end) (f q end))
+    (parts : (q end : ℕ) → Under (a q end) (b q end)) where
   elements-more : (n q end : ℕ) → Under (elementsFrom a n q end) (elementsFrom b n q end)
   unfolding elementsFrom
   elements-more zero q end = same _
@@ -31,7 +32,8 @@ module _ (text : List ℕ) (e f : Reader Expr) (a b : Reader Part) (exprs : (q e
   pairs-more : (n q end : ℕ) → Under (pairsFrom e a n q end) (pairsFrom f b n q end)
   unfolding pairsFrom
   pairs-more zero q end = same _
-  pairs-more (suc n) q end = bind-more _ _ _ _ (exprs q end) (λ k. bind-more _ _ _ _ (parts (k .1) end) (λ x. bind-more _ _ _ _ (pairs-more n (x .1) end) (λ y. same _)))
+  pairs-more (suc n) q end =
+      bind-more _ _ _ _ (exprs q end) (λ k. bind-more _ _ _ _ (parts (k .1) end) (λ x. bind-more _ _ _ _ (pairs-more n (x .1) end) (λ y. same _)))
 
   module _ (p : ℕ) (h : Head) where
     called-more : (c : Called) → Under (calledAt text e a p h c) (calledAt text f b p h c)
@@ -57,7 +59,11 @@ module _ (text : List ℕ) (e f : Reader Expr) (a b : Reader Part) (exprs : (q e
     body-more listKind ns = bind-more _ _ _ _ (elements-more _ _ _) (λ x. same _)
     body-more mapKind ns = bind-more _ _ _ _ (pairs-more _ _ _) (λ x. same _)
     body-more comprehensionKind ns =
-        bind-more _ _ _ _ (same _) (λ m. bind-more _ _ _ _ (same _) (λ n. bind-more _ _ _ _ (exprs _ _) (λ v. bind-more _ _ _ _ (exprs _ _) (λ w. bind-more _ _ _ _ (exprs _ _) (λ x. bind-more _ _ _ _ (exprs _ _) (λ y. bind-more _ _ _ _ (exprs _ _) (λ z. same _)))))))
+        bind-more _ _ _ _ (same _)
+        (λ m. bind-more _ _ _ _ (same _)
+        (λ n. bind-more _ _ _ _ (exprs _ _)
+        (λ v. bind-more _ _ _ _ (exprs _ _)
+        (λ w. bind-more _ _ _ _ (exprs _ _) (λ x. bind-more _ _ _ _ (exprs _ _) (λ y. bind-more _ _ _ _ (exprs _ _) (λ z. same _)))))))
     body-more functionKind ns = bind-more _ _ _ _ (same _) (λ c. called-more c)
 
     expr-more : (k : Kind) → Under (asExpr text e a p h k) (asExpr text f b p h k)
@@ -89,8 +95,14 @@ module _ (t x : List ℕ) where
 
     pub expr-deeper : (left p end more : ℕ) → end ≤ more → Under (exprAt wordBytes t x left p end) (exprAt wordBytes t x (suc left) p more)
     expr-deeper zero p end more le a e = absurd (never (headAt wordBytes t p end) RecordNesting p e)
-    expr-deeper (suc left) p end more le a e = bind-more _ _ _ _ (head-more t p end more le) (λ h. expr-more x _ _ _ _ (λ q r b f. expr-deeper left q r r (omega arith) b f) (λ q r b f. part-deeper left q r r (omega arith) b f) p h (h .kind)) a e
+    expr-deeper (suc left) p end more le a e =
+        bind-more _ _ _ _ (head-more t p end more le)
+        (λ h. expr-more x _ _ _ _ (λ q r b f. expr-deeper left q r r (omega arith) b f) (λ q r b f. part-deeper left q r r (omega arith) b f) p h (h .kind)) a
+        e
 
     pub part-deeper : (left p end more : ℕ) → end ≤ more → Under (partAt wordBytes t x left p end) (partAt wordBytes t x (suc left) p more)
     part-deeper zero p end more le a e = absurd (never (headAt wordBytes t p end) RecordNesting p e)
-    part-deeper (suc left) p end more le a e = bind-more _ _ _ _ (head-more t p end more le) (λ h. part-more x _ _ _ _ (λ q r b f. expr-deeper left q r r (omega arith) b f) (λ q r b f. part-deeper left q r r (omega arith) b f) p h (h .kind)) a e
+    part-deeper (suc left) p end more le a e =
+        bind-more _ _ _ _ (head-more t p end more le)
+        (λ h. part-more x _ _ _ _ (λ q r b f. expr-deeper left q r r (omega arith) b f) (λ q r b f. part-deeper left q r r (omega arith) b f) p h (h .kind)) a
+        e

@@ -90,21 +90,26 @@ module _ (t x : List ℕ) (p : ℕ) where
   elements-are zero q r = ap (λ m. got (elementsOf t x zero q, m)) r
   elements-are (suc n) q r = then _ (r .0) (then _ (elements-are n (after t q) (r .1)) refl)
 
-  pairs-are : (n q : ℕ) → LowRow t x Values end (2 * n) q → pairsFrom (λ q e. exprAt wordBytes t x 63 q e) (λ q e. partAt wordBytes t x 63 q e) n q end ≡ got (pairsOf t x n q, end)
+  pairs-are : (n q : ℕ) → LowRow t x Values end (2 * n) q → pairsFrom (λ q e. exprAt wordBytes t x 63 q e) (λ q e. partAt wordBytes t x 63 q e) n q end ≡ got
+      (pairsOf t x n q, end)
   unfolding pairsFrom
   pairs-are zero q r = ap (λ m. got (pairsOf t x zero q, m)) r
   pairs-are (suc n) q r =
       let s = rw (two-more n) at r in
       then _ (rw (key-next n) at (s .0)) (then _ (rw (value-next n) at (s .1 .0)) (then _ (pairs-are n (after t (after t q)) (s .1 .1)) refl))
 
-  call-is : (o : Option Called) → isSome o ≡ true → (calledCount o ≡ 0 → p + 4 ≡ end) → LowRow t x Nowhere end (calledCount o) (p + 4) → _>>=_ (orRefuse WrongField p o) (λ f. calledAt x (λ q e. exprAt wordBytes t x 63 q e) (λ q e. partAt wordBytes t x 63 q e) p (headIn functionKind) f) ≡ got (callOf t x p o, end)
+  call-is : (o : Option Called) → isSome o ≡ true → (calledCount o ≡ 0 → p + 4 ≡ end) → LowRow t x Nowhere end (calledCount o) (p + 4) →
+      _>>=_ (orRefuse WrongField p o) (λ f. calledAt x (λ q e. exprAt wordBytes t x 63 q e) (λ q e. partAt wordBytes t x 63 q e) p (headIn functionKind) f) ≡
+      got (callOf t x p o, end)
   unfolding calledAt orRefuse _>>=_
   call-is none e leaf r = let z : _≡_ {A = ℕ} 0 1 = cc in absurd (omega arith)
   call-is (some (toOne f)) e leaf r = then _ (r .0) (filled-by p (headIn functionKind) _ (r .1))
   call-is (some toNone) e leaf r = refl
   call-is (some toTwo) e leaf r = then _ (r .0) (then _ (r .1 .0) (filled-by p (headIn functionKind) _ (r .1 .1)))
 
-  node-is : (k : ExprKind) → exprFits x k (numbersIn t x p k) ≡ true → (exprCount k (numbersIn t x p k) ≡ 0 → p + headOfKind k ≡ end) → LowRow t x (exprMarks k) end (exprCount k (numbersIn t x p k)) (p + headOfKind k) → bodyAt x (λ q e. exprAt wordBytes t x 63 q e) (λ q e. partAt wordBytes t x 63 q e) p (headIn k) k (numbersIn t x p k) ≡ got (node t x p k, end)
+  node-is : (k : ExprKind) → exprFits x k (numbersIn t x p k) ≡ true → (exprCount k (numbersIn t x p k) ≡ 0 → p + headOfKind k ≡ end) →
+      LowRow t x (exprMarks k) end (exprCount k (numbersIn t x p k)) (p + headOfKind k) →
+      bodyAt x (λ q e. exprAt wordBytes t x 63 q e) (λ q e. partAt wordBytes t x 63 q e) p (headIn k) k (numbersIn t x p k) ≡ got (node t x p k, end)
   unfolding bodyAt
   node-is nullKind e leaf r = refl
   node-is boolKind e leaf r = then _ (field p (flag-of _ e)) refl
@@ -125,7 +130,9 @@ module _ (t x : List ℕ) (p : ℕ) where
   node-is comprehensionKind e leaf r =
       let f = both-of _ _ e in
       then _ (field p (name-of _ (f .0))) (then _ (field p (name-of _ (f .1)))
-      (then _ (r .0) (then _ (r .1 .0) (then _ (r .1 .1 .0) (then _ (r .1 .1 .1 .0) (then _ (r .1 .1 .1 .1 .0) (filled-by p (headIn comprehensionKind) _ (r .1 .1 .1 .1 .1))))))))
+      (then _ (r .0)
+      (then _ (r .1 .0)
+      (then _ (r .1 .1 .0) (then _ (r .1 .1 .1 .0) (then _ (r .1 .1 .1 .1 .0) (filled-by p (headIn comprehensionKind) _ (r .1 .1 .1 .1 .1))))))))
   node-is functionKind e leaf r = call-is _ e leaf r
 
   -- ---- the head by its kind
@@ -196,11 +203,13 @@ module _ (t x : List ℕ) (p : ℕ) where
   numbers-are comprehensionKind = rw (byte-is t (p + 3), byte-is t (p + 3 + 1), one-on)
   numbers-are functionKind = rw (byte-is t (p + 3))
 
-  pub record-read : (left parent : ℕ) {g : Head} → headAt wordBytes t p parent ≡ got g → exprAt wordBytes t x (suc left) p parent ≡ asExpr x (λ q e. exprAt wordBytes t x left q e) (λ q e. partAt wordBytes t x left q e) p g (g .kind)
+  pub record-read : (left parent : ℕ) {g : Head} → headAt wordBytes t p parent ≡ got g →
+      exprAt wordBytes t x (suc left) p parent ≡ asExpr x (λ q e. exprAt wordBytes t x left q e) (λ q e. partAt wordBytes t x left q e) p g (g .kind)
   unfolding exprAt _>>=_
   record-read left parent e = rw e
 
-  pub part-read : (left parent : ℕ) {g : Head} → headAt wordBytes t p parent ≡ got g → partAt wordBytes t x (suc left) p parent ≡ asPart x (λ q e. exprAt wordBytes t x left q e) (λ q e. partAt wordBytes t x left q e) p g (g .kind)
+  pub part-read : (left parent : ℕ) {g : Head} → headAt wordBytes t p parent ≡ got g →
+      partAt wordBytes t x (suc left) p parent ≡ asPart x (λ q e. exprAt wordBytes t x left q e) (λ q e. partAt wordBytes t x left q e) p g (g .kind)
   unfolding partAt _>>=_
   part-read left parent e = rw e
 
@@ -216,7 +225,8 @@ pub record Opened (t x : List ℕ) (p : ℕ) (k : ExprKind) : Type 0 where
   pub row : Row t x (exprMarks k) (after t p) (exprCount k (numbersIn t x p k)) (p + headOfKind k)
   pub is : exprOf t x p ≡ node t x p k
 
-pub head-of-kind : (t x : List ℕ) (p : ℕ) (k : ExprKind) → getD t p 0 ≡ kindByte k → Here t p (length t) → headAt wordBytes t p (length t) ≡ got (headIn t x p k)
+pub head-of-kind : (t x : List ℕ) (p : ℕ) (k : ExprKind) → getD t p 0 ≡ kindByte k → Here t p (length t) →
+    headAt wordBytes t p (length t) ≡ got (headIn t x p k)
 head-of-kind t x p k b h = h .is ∙ (rw (b, row-is t x p k, numbers-are t x p k, head-is t x p k))
 
 module _ (t x : List ℕ) (p : ℕ) (k : ExprKind) (b : getD t p 0 ≡ kindByte k) (s : Sound t x p) where
@@ -226,7 +236,8 @@ module _ (t x : List ℕ) (p : ℕ) (k : ExprKind) (b : getD t p 0 ≡ kindByte 
   head-read : headAt wordBytes t p (length t) ≡ got (headIn t x p k)
   head-read = head-of-kind t x p k b h
 
-  body-read : bodyAt x (λ q e. exprAt wordBytes t x 63 q e) (λ q e. partAt wordBytes t x 63 q e) p (headIn t x p k) k (numbersIn t x p k) ≡ got (exprOf t x p, after t p)
+  body-read : bodyAt x (λ q e. exprAt wordBytes t x 63 q e) (λ q e. partAt wordBytes t x 63 q e) p (headIn t x p k) k (numbersIn t x p k) ≡ got
+      (exprOf t x p, after t p)
   unfolding Sound asExpr
   body-read = sym (record-read t x p 63 (length t) head-read) ∙ s
 
@@ -234,11 +245,13 @@ module _ (t x : List ℕ) (p : ℕ) (k : ExprKind) (b : getD t p 0 ≡ kindByte 
   unfolding countOf
   leaf = rw (b, row-is t x p k, numbers-are t x p k, head-is t x p k) at (h .leaf)
 
-  row-read : (exprFits x k (numbersIn t x p k) ≡ true) × (operandsOf (λ m q e. readOf t x 63 m q e) p (exprMarks k) (after t p) (exprCount k (numbersIn t x p k)) (p + headOfKind k) ≡ Ends (after t p))
+  row-read : (exprFits x k (numbersIn t x p k) ≡ true) ×
+      (operandsOf (λ m q e. readOf t x 63 m q e) p (exprMarks k) (after t p) (exprCount k (numbersIn t x p k)) (p + headOfKind k) ≡ Ends (after t p))
   unfolding readOf
   row-read =
       cond-ended (exprFits x k (numbersIn t x p k)) _ 5 p
-      (sym (body-ends x (λ q e. exprAt wordBytes t x 63 q e) (λ q e. partAt wordBytes t x 63 q e) (λ m q e. readOf t x 63 m q e) (λ q r. refl) (λ q r. refl) p (headIn t x p k) k (numbersIn t x p k) leaf) ∙ ap ends body-read)
+      (sym (body-ends x (λ q e. exprAt wordBytes t x 63 q e) (λ q e. partAt wordBytes t x 63 q e) (λ m q e. readOf t x 63 m q e) (λ q r. refl) (λ q r. refl) p
+      (headIn t x p k) k (numbersIn t x p k) leaf) ∙ ap ends body-read)
 
   low-operands : LowRow t x (exprMarks k) (after t p) (exprCount k (numbersIn t x p k)) (p + headOfKind k)
   low-operands = low-row t x p (exprMarks k) (after t p) (exprCount k (numbersIn t x p k)) (p + headOfKind k) (h .inside) (row-read .1)

@@ -23,7 +23,11 @@ use Rattle.table.proofs.Opened.{then, filled-by, headIn, head-of-kind, 
 -- ---- kinds
 
 kind-of : (n : ℕ) → n < 17 → (n ≡ 14 → ⊥) → (k : ExprKind) × (n ≡ kindByte k)
-kind-of = every-kind (λ n. (n ≡ 14 → ⊥) → (k : ExprKind) × (n ≡ kindByte k)) (λ a. (nullKind, refl)) (λ a. (boolKind, refl)) (λ a. (intKind, refl)) (λ a. (uintKind, refl)) (λ a. (doubleKind, refl)) (λ a. (stringKind, refl)) (λ a. (bytesKind, refl)) (λ a. (nameKind, refl)) (λ a. (unaryKind, refl)) (λ a. (binaryKind, refl)) (λ a. (conditionalKind, refl)) (λ a. (selectKind, refl)) (λ a. (listKind, refl)) (λ a. (mapKind, refl)) (λ a. absurd (a refl)) (λ a. (comprehensionKind, refl)) (λ a. (functionKind, refl))
+kind-of =
+    every-kind (λ n. (n ≡ 14 → ⊥) → (k : ExprKind) × (n ≡ kindByte k)) (λ a. (nullKind, refl)) (λ a. (boolKind, refl)) (λ a. (intKind, refl))
+    (λ a. (uintKind, refl)) (λ a. (doubleKind, refl)) (λ a. (stringKind, refl)) (λ a. (bytesKind, refl)) (λ a. (nameKind, refl)) (λ a. (unaryKind, refl))
+    (λ a. (binaryKind, refl)) (λ a. (conditionalKind, refl)) (λ a. (selectKind, refl)) (λ a. (listKind, refl)) (λ a. (mapKind, refl)) (λ a. absurd (a refl))
+    (λ a. (comprehensionKind, refl)) (λ a. (functionKind, refl))
 
 -- ---- operands that may be marked
 
@@ -31,7 +35,8 @@ valueIn : {A : Type 0} → A → Got A → A
 valueIn d (got a) = a
 valueIn d (refused r p) = d
 
-bind-back : {A B : Type 0} (o : Got (A × ℕ)) (f : A → B) {c : B} {q : ℕ} → _>>=_ {B = B × ℕ} o (λ a. got (f (a .0), a .1)) ≡ got (c, q) → (a : A) × (o ≡ got (a, q)) × (c ≡ f a)
+bind-back : {A B : Type 0} (o : Got (A × ℕ)) (f : A → B) {c : B} {q : ℕ} → _>>=_ {B = B × ℕ} o (λ a. got (f (a .0), a .1)) ≡ got (c, q) →
+    (a : A) × (o ≡ got (a, q)) × (c ≡ f a)
 unfolding _>>=_ valueIn
 bind-back {A} {B} (got a) f {c} {q} e =
     let e0 : f (a .0) ≡ c = ap (λ (v : Got (B × ℕ)). valueIn {A = B × ℕ} (c, q) v .0) e in
@@ -82,7 +87,8 @@ module _ (t x : List ℕ) (p : ℕ) (s : SoundPart t x p) where
     unfolding readOf fieldsFit countOf marksOf
     marked-row =
         low-row t x p Nowhere (after t p) 1 (p + 3) (g .inside)
-        (sym (part-ends x (λ q e. exprAt wordBytes t x 63 q e) (λ q e. partAt wordBytes t x 63 q e) (λ m q e. readOf t x 63 m q e) (λ q r. refl) (λ q r. refl) p markHead mark (λ z. absurd (omega arith))) ∙ ap ends mark-body)
+        (sym (part-ends x (λ q e. exprAt wordBytes t x 63 q e) (λ q e. partAt wordBytes t x 63 q e) (λ m q e. readOf t x 63 m q e) (λ q r. refl) (λ q r. refl)
+        p markHead mark (λ z. absurd (omega arith))) ∙ ap ends mark-body)
 
     marked-is : partOf t x p ≡ marked p (exprOf t x (p + 3))
     unfolding asPart partIn
@@ -103,7 +109,9 @@ module _ (t x : List ℕ) (p : ℕ) (s : SoundPart t x p) where
   part-bare b =
       let k = kind-of (getD t p 0) (g .known) b in
       let r = head-of-kind t x p (k .0) (k .1) g in
-      let f = bind-back (bodyAt x (λ q e. exprAt wordBytes t x 63 q e) (λ q e. partAt wordBytes t x 63 q e) p (headIn t x p (k .0)) (k .0) (numbersIn t x p (k .0))) (λ e. bare e) (sym (part-read t x p 63 (length t) r) ∙ s) in
+      let f = bind-back
+      (bodyAt x (λ q e. exprAt wordBytes t x 63 q e) (λ q e. partAt wordBytes t x 63 q e) p (headIn t x p (k .0)) (k .0) (numbersIn t x p (k .0)))
+      (λ e. bare e) (sym (part-read t x p 63 (length t) r) ∙ s) in
       let e : exprAt wordBytes t x 64 p (length t) ≡ got (f .0, after t p) = record-read t x p 63 (length t) r ∙ f .1 in
       let i = expr-is t x p e in
       (rw i e, f .2 ∙ ap (λ e. bare e) (sym i))
@@ -128,7 +136,8 @@ module _ (t x : List ℕ) where
   first-element end (suc n) q h r = (r .0, rw sub-one (r .1))
 
   -- the first pair and the rest
-  pub first-pair : (end n q : ℕ) → 0 < n → Row t x Values end (2 * n) q → Sound t x q × SoundPart t x (after t q) × Row t x Values end (2 * (n - 1)) (after t (after t q))
+  pub first-pair : (end n q : ℕ) → 0 < n → Row t x Values end (2 * n) q →
+      Sound t x q × SoundPart t x (after t q) × Row t x Values end (2 * (n - 1)) (after t (after t q))
   first-pair end zero q h r = absurd (omega arith)
   first-pair end (suc n) q h r =
       let s = rw (two-more n) at r in
@@ -138,7 +147,8 @@ module _ (t x : List ℕ) where
   unfolding Sound
   no-mark p s b =
       let h = sound-here t x p s in
-      mark-refused x (λ q e. exprAt wordBytes t x 63 q e) (λ q e. partAt wordBytes t x 63 q e) p (headHere t p) (rowOf (getD t p 0) .kind) (ap (λ (n : ℕ). rowOf n .kind) b ∙ mark-row) (sym (record-read t x p 63 (length t) (h .is)) ∙ s)
+      mark-refused x (λ q e. exprAt wordBytes t x 63 q e) (λ q e. partAt wordBytes t x 63 q e) p (headHere t p) (rowOf (getD t p 0) .kind)
+      (ap (λ (n : ℕ). rowOf n .kind) b ∙ mark-row) (sym (record-read t x p 63 (length t) (h .is)) ∙ s)
 
   -- an accepted record is of a kind of expression
   pub sound-kind : (p : ℕ) → Sound t x p → (k : ExprKind) × (getD t p 0 ≡ kindByte k)

@@ -22,12 +22,14 @@ use Rattle.table.proofs.OperandLaws.{expr-ends, part-ends}
 -- ---- operands
 
 module _ (read : Bool → ℕ → ℕ → Read) (p : ℕ) (marks : Marks) (end : ℕ) where
-  pub operands-stop : (left q : ℕ) {o : Read} {m : Bool} {n r : ℕ} → 0 < left → o ≡ read m q end → m ≡ mayMark marks left → o ≡ Refused n r → o ≡ operandsOf read p marks end left q
+  pub operands-stop : (left q : ℕ) {o : Read} {m : Bool} {n r : ℕ} → 0 < left → o ≡ read m q end → m ≡ mayMark marks left → o ≡ Refused n r →
+      o ≡ operandsOf read p marks end left q
   unfolding operandsOf
   operands-stop zero q h e f g = absurd (omega arith)
   operands-stop (suc left) q h e f g = rw (← f, ← e, g)
 
-  pub operands-again : (left q : ℕ) {o : Read} {m : Bool} {r : ℕ} → 0 < left → o ≡ read m q end → m ≡ mayMark marks left → o ≡ Ends r → operandsOf read p marks end (left - 1) r ≡ operandsOf read p marks end left q
+  pub operands-again : (left q : ℕ) {o : Read} {m : Bool} {r : ℕ} → 0 < left → o ≡ read m q end → m ≡ mayMark marks left → o ≡ Ends r →
+      operandsOf read p marks end (left - 1) r ≡ operandsOf read p marks end left q
   unfolding operandsOf
   operands-again zero q h e f g = absurd (omega arith)
   operands-again (suc left) q h e f g = rw (sub-one, ← f, ← e, g)
@@ -45,7 +47,8 @@ module _ (read : Bool → ℕ → ℕ → Read) (p : ℕ) (marks : Marks) (end :
 -- ---- a record
 
 module _ (t x : List ℕ) (p end : ℕ) where
-  pub refused-there : (r : Refusal) → headAt wordBytes t p end ≡ refused r p → (levels : ℕ) (marked : Bool) → Refused (refusalNumber r) p ≡ readOf t x levels marked p end
+  pub refused-there : (r : Refusal) → headAt wordBytes t p end ≡ refused r p → (levels : ℕ) (marked : Bool) →
+      Refused (refusalNumber r) p ≡ readOf t x levels marked p end
   unfolding readOf exprAt partAt _>>=_ _>>_
   refused-there r e zero true = rw e
   refused-there r e zero false = rw e
@@ -61,12 +64,21 @@ module _ (t x : List ℕ) (p end : ℕ) where
   no-level false h = rw (h .is)
 
   abbrev pub stepOf : ℕ → Bool → (k n a b : ℕ) → Read
-  stepOf left marked k n a b = cond (fieldsFit x (rowOf k .kind) (numbersOf t p k)) (cond (misplacedOf (rowOf k .kind) marked) (Refused 6 p) (operandsOf (λ m q e. readOf t x left m q e) p (marksOf (rowOf k .kind)) b n a)) (Refused 5 p)
+  stepOf left marked k n a b =
+      cond (fieldsFit x (rowOf k .kind) (numbersOf t p k))
+      (cond (misplacedOf (rowOf k .kind) marked) (Refused 6 p) (operandsOf (λ m q e. readOf t x left m q e) p (marksOf (rowOf k .kind)) b n a)) (Refused 5 p)
 
-  pub here-step : (left : ℕ) (marked : Bool) (h : Here t p end) → readOf t x (suc left) marked p end ≡ stepOf left marked (getD t p 0) (countHere t p) (headHere t p .operandsAt) (headHere t p .end)
+  pub here-step : (left : ℕ) (marked : Bool) (h : Here t p end) → readOf t x (suc left) marked p end ≡ stepOf left marked (getD t p 0) (countHere t p)
+      (headHere t p .operandsAt) (headHere t p .end)
   unfolding readOf exprAt partAt _>>=_
-  here-step left true h = rw (h .is) (part-ends x (λ q e. exprAt wordBytes t x left q e) (λ q e. partAt wordBytes t x left q e) (λ m q e. readOf t x left m q e) (λ q r. refl) (λ q r. refl) p (headHere t p) (rowOf (getD t p 0) .kind) (h .leaf))
-  here-step left false h = rw (h .is) (expr-ends x (λ q e. exprAt wordBytes t x left q e) (λ q e. partAt wordBytes t x left q e) (λ m q e. readOf t x left m q e) (λ q r. refl) (λ q r. refl) p (headHere t p) (rowOf (getD t p 0) .kind) (h .leaf))
+  here-step left true h =
+      rw (h .is)
+      (part-ends x (λ q e. exprAt wordBytes t x left q e) (λ q e. partAt wordBytes t x left q e) (λ m q e. readOf t x left m q e) (λ q r. refl) (λ q r. refl)
+      p (headHere t p) (rowOf (getD t p 0) .kind) (h .leaf))
+  here-step left false h =
+      rw (h .is)
+      (expr-ends x (λ q e. exprAt wordBytes t x left q e) (λ q e. partAt wordBytes t x left q e) (λ m q e. readOf t x left m q e) (λ q r. refl) (λ q r. refl)
+      p (headHere t p) (rowOf (getD t p 0) .kind) (h .leaf))
 
   module _ {k n a b : ℕ} (w : head.Whole k n a b ≡ headOf t p end) (levels : ℕ) (marked : Bool) where
     pub too-deep : levels ≡ 0 → Refused 4 p ≡ readOf t x levels marked p end
@@ -87,5 +99,6 @@ module _ (t x : List ℕ) (p end : ℕ) where
         pub wrong-mark : misplacedOf (rowOf k .kind) marked ≡ true → Refused 6 p ≡ readOf t x levels marked p end
         wrong-mark e = rw (step deep, fits, e)
 
-        pub goes-on : misplacedOf (rowOf k .kind) marked ≡ false → operandsOf (λ m q e. readOf t x (levels - 1) m q e) p (marksOf (rowOf k .kind)) b n a ≡ readOf t x levels marked p end
+        pub goes-on : misplacedOf (rowOf k .kind) marked ≡ false → operandsOf (λ m q e. readOf t x (levels - 1) m q e) p (marksOf (rowOf k .kind)) b n a ≡
+            readOf t x levels marked p end
         goes-on e = rw (step deep, fits, e)

@@ -64,8 +64,11 @@ module _ (t x : List ℕ) where
   ended-by p end (suc left) marked (good h) e =
       let f = sym (here-step t x p end left marked h) ∙ e in
       let g = cond-ended (fieldsFit x (rowOf (getD t p 0) .kind) (numbersOf t p (getD t p 0))) _ 5 p f in
-      let i = cond-went (misplacedOf (rowOf (getD t p 0) .kind) marked) _ 6 p (g .1) in
-      (h, operands-ended (λ m q e. readOf t x left m q e) p (marksOf (rowOf (getD t p 0) .kind)) (after t p) (countHere t p) (headHere t p .operandsAt) (i .1))
+      let i = cond-went (misplacedOf (rowOf (getD t p 0) .kind) marked) _ 6 p (g .1) in (
+        h,
+        operands-ended (λ m q e. readOf t x left m q e) p (marksOf (rowOf (getD t p 0) .kind)) (after t p) (countHere t p) (headHere t p .operandsAt)
+            (i .1),
+      )
   ended-by p end left marked (bad r f) e = no-end (refused-there t x p end r f left marked ∙ e)
 
   pub ended : (p end left : ℕ) (marked : Bool) {q : ℕ} → readOf t x left marked p end ≡ Ends q → Here t p end × (q ≡ after t p)
@@ -102,7 +105,8 @@ module _ (t x : List ℕ) where
       let h = ended q end 63 false e .1 in
       (f .1 ∙ (cc), h)
 
-  pub low-row : (p : ℕ) (marks : Marks) (end n q : ℕ) {r : ℕ} → end ≤ length t → operandsOf (λ m q e. readOf t x 63 m q e) p marks end n q ≡ Ends r → LowRow marks end n q
+  pub low-row : (p : ℕ) (marks : Marks) (end n q : ℕ) {r : ℕ} → end ≤ length t → operandsOf (λ m q e. readOf t x 63 m q e) p marks end n q ≡ Ends r →
+      LowRow marks end n q
   unfolding operandsOf
   low-row p marks end zero q le e = closed-ended p end q e .0
   low-row p marks end (suc n) q le e =

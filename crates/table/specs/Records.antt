@@ -168,9 +168,15 @@ module _ (t x : List ℕ) (p : ℕ) where
   node nameKind = name p (getD t (p + fieldsAt) 0)
   node unaryKind = unary p (unaryOf (getD t (p + fieldsAt) 0)) (exprOf t x (operandAt unaryKind 0))
   node binaryKind = binary p (binaryOf (getD t (p + fieldsAt) 0)) (exprOf t x (operandAt binaryKind 0)) (exprOf t x (operandAt binaryKind 1))
-  node conditionalKind = conditional p (exprOf t x (operandAt conditionalKind 0)) (exprOf t x (operandAt conditionalKind 1)) (exprOf t x (operandAt conditionalKind 2))
-  node selectKind = select p (eqb (getD t (p + fieldsAt) 0) 1) (spanOf x (wordAt t (p + (fieldsAt + 1))) (wordAt t (p + (fieldsAt + 1 + wordBytes)))) (exprOf t x (operandAt selectKind 0))
+  node conditionalKind =
+      conditional p (exprOf t x (operandAt conditionalKind 0)) (exprOf t x (operandAt conditionalKind 1)) (exprOf t x (operandAt conditionalKind 2))
+  node selectKind =
+      select p (eqb (getD t (p + fieldsAt) 0) 1) (spanOf x (wordAt t (p + (fieldsAt + 1))) (wordAt t (p + (fieldsAt + 1 + wordBytes))))
+      (exprOf t x (operandAt selectKind 0))
   node listKind = listOf p (elementsOf t x (wordAt t (p + fieldsAt)) (operandAt listKind 0))
   node mapKind = mapOf p (pairsOf t x (wordAt t (p + fieldsAt)) (operandAt mapKind 0))
-  node comprehensionKind = comprehension p (getD t (p + fieldsAt) 0) (getD t (p + (fieldsAt + 1)) 0) (exprOf t x (operandAt comprehensionKind 0)) (exprOf t x (operandAt comprehensionKind 1)) (exprOf t x (operandAt comprehensionKind 2)) (exprOf t x (operandAt comprehensionKind 3)) (exprOf t x (operandAt comprehensionKind 4))
+  node comprehensionKind =
+      comprehension p (getD t (p + fieldsAt) 0) (getD t (p + (fieldsAt + 1)) 0) (exprOf t x (operandAt comprehensionKind 0))
+      (exprOf t x (operandAt comprehensionKind 1)) (exprOf t x (operandAt comprehensionKind 2)) (exprOf t x (operandAt comprehensionKind 3))
+      (exprOf t x (operandAt comprehensionKind 4))
   node functionKind = callOf (numbered functions (getD t (p + fieldsAt) 0))

@@ -7,6 +7,15 @@ ghost use lib.ListN.{length, getD, getElem?};
 ghost use Rattle.meaning.specs.Kinds.{flags};
 ghost use Rattle.meaning.specs.Table.{span, utf8, wordBytes};
 ghost use Rattle.table.specs.Shapes.{kindNumbers, wordNumbers, rowOf, headBytes, wordAt, numbersOf, isSome, fieldsFit};
+use crate::kinds::BINARY;
+use crate::kinds::BOOL;
+use crate::kinds::BYTES;
+use crate::kinds::COMPREHENSION;
+use crate::kinds::FUNCTION;
+use crate::kinds::NAME;
+use crate::kinds::SELECT;
+use crate::kinds::STRING;
+use crate::kinds::UNARY;
 use crate::layout::FIELDS;
 use crate::layout::WORD;
 use crate::layout::wide;
@@ -61,15 +70,15 @@ pub(crate) fn fields_fit(table: &[u8], text: &[u8], place: usize, kind: u8) -> b
 {
     let at = place + FIELDS;
     match kind {
-        1 => table[at] <= 1,
-        5 => utf8_fits(text, word_at(table, at), word_at(table, at + WORD)),
-        6 => span_fits(text, word_at(table, at), word_at(table, at + WORD)),
-        7 => table[at] < 128,
-        8 => one_of(table[at], 3),
-        9 => one_of(table[at], 17),
-        11 => select_fits(table, text, at),
-        15 => table[at] < 128 && table[at + 1] < 128,
-        16 => one_of(table[at], 6),
+        BOOL => table[at] <= 1,
+        STRING => utf8_fits(text, word_at(table, at), word_at(table, at + WORD)),
+        BYTES => span_fits(text, word_at(table, at), word_at(table, at + WORD)),
+        NAME => table[at] < 128,
+        UNARY => one_of(table[at], 3),
+        BINARY => one_of(table[at], 17),
+        SELECT => select_fits(table, text, at),
+        COMPREHENSION => table[at] < 128 && table[at + 1] < 128,
+        FUNCTION => one_of(table[at], 6),
         _ => true,
     }
 }

@@ -5,6 +5,20 @@ ghost use lib.ListN.{length};
 ghost use Rattle.meaning.specs.Kinds.{numbered, functions};
 ghost use Rattle.meaning.specs.Table.{wordBytes};
 ghost use Rattle.table.specs.Shapes.{kindNumbers, wordNumbers, fieldsAt, rowOf, headBytes, wordAt, numbersOf, calledCount, countOf, fitsExtent, headOf};
+use crate::kinds::BINARY;
+use crate::kinds::COMPREHENSION;
+use crate::kinds::CONDITIONAL;
+use crate::kinds::FUNCTION;
+use crate::kinds::KINDS;
+use crate::kinds::LIST;
+use crate::kinds::MAP;
+use crate::kinds::MARK;
+use crate::kinds::NONE_CALL;
+use crate::kinds::OR_VALUE;
+use crate::kinds::SELECT;
+use crate::kinds::UNARY;
+use crate::refusals::UNKNOWN_KIND;
+use crate::refusals::WRONG_EXTENT;
 
 // Bytes of a word: an extent, an offset, a length or a count.
 pub const WORD: usize = 2;
@@ -18,28 +32,6 @@ pub const AFTER_NUMBER: usize = FIELDS + 1;
 pub const SPAN_SIZE: usize = FIELDS + WORD;
 
 pub const FIELD_SIZE: usize = FIELDS + 1 + WORD;
-
-pub const LONGEST_TABLE: usize = 16384;
-
-pub const RECORD_LEVELS: usize = 64;
-
-pub const KINDS: u8 = 17;
-
-pub const MARK: u8 = 14;
-
-pub const TABLE_LENGTH: u8 = 1;
-
-pub const UNKNOWN_KIND: u8 = 2;
-
-pub const WRONG_EXTENT: u8 = 3;
-
-pub const RECORD_NESTING: u8 = 4;
-
-pub const WRONG_FIELD: u8 = 5;
-
-pub const MISPLACED_MARK: u8 = 6;
-
-pub const BYTES_AFTER_ROOT: u8 = 7;
 
 pub(crate) fn wide(byte: u8) -> usize
     ensures { λ r. ⌜ (r ≡ byte) × (r < 256) ⌝ }
@@ -90,8 +82,8 @@ fn function_operands(number: u8) -> usize
     ensures { λ r. ⌜ r ≡ calledCount (numbered functions number) ⌝ }
 {
     match number {
-        3 => 0,
-        6 => 2,
+        NONE_CALL => 0,
+        OR_VALUE => 2,
         _ => 1,
     }
 }
@@ -102,15 +94,15 @@ pub(crate) fn operand_count(table: &[u8], at: usize, kind: u8) -> usize
     ensures { λ r. ⌜ r ≡ countOf (rowOf kind .kind) (numbersOf (now (table .entry)) at kind) ⌝ }
 {
     match kind {
-        8 => 1,
-        9 => 2,
-        10 => 3,
-        11 => 1,
-        12 => word_at(table, at + FIELDS),
-        13 => 2 * word_at(table, at + FIELDS),
-        14 => 1,
-        15 => 5,
-        16 => function_operands(table[at + FIELDS]),
+        UNARY => 1,
+        BINARY => 2,
+        CONDITIONAL => 3,
+        SELECT => 1,
+        LIST => word_at(table, at + FIELDS),
+        MAP => 2 * word_at(table, at + FIELDS),
+        MARK => 1,
+        COMPREHENSION => 5,
+        FUNCTION => function_operands(table[at + FIELDS]),
         _ => 0,
     }
 }

@@ -3,15 +3,17 @@ ghost use mathlib.Core.Path.{_≡_};
 ghost use Rattle.table.specs.Check.{checkOf};
 
 pub mod fields;
+pub mod kinds;
 pub mod layout;
 pub mod readers;
 pub mod records;
+pub mod refusals;
 
-use crate::layout::BYTES_AFTER_ROOT;
-use crate::layout::LONGEST_TABLE;
-use crate::layout::RECORD_LEVELS;
-use crate::layout::TABLE_LENGTH;
 use crate::records::Read;
+use crate::refusals::BYTES_AFTER_ROOT;
+use crate::refusals::LONGEST_TABLE;
+use crate::refusals::RECORD_LEVELS;
+use crate::refusals::TABLE_LENGTH;
 
 // What is said of a table.
 pub enum Checked {
@@ -20,8 +22,8 @@ pub enum Checked {
     Refused(u8, usize),
 }
 
-// Every byte of the table is read at most three times: a kind or an extent once, a field where its record's operands are counted and where it
-// is tested. Of the literal text each String and each field name has its own bytes read once.
+// No byte of the table is read more than twice: a function's number is read where its operands are counted and where it is tested, every other
+// byte once. Of the literal text each String and each field name has its own bytes read once.
 pub fn check(table: &[u8], text: &[u8]) -> Checked
     ensures { λ r. ⌜ r ≡ checkOf (now (table .entry)) (now (text .entry)) ⌝ }
 {

@@ -4,12 +4,14 @@ ghost use Prim.Native.Nat.{_<_, _≤_};
 ghost use lib.ListN.{length};
 ghost use Rattle.table.specs.Shapes.{kindNumbers, rowOf, marksOf, mayMark, misplacedOf};
 ghost use Rattle.table.specs.Reading.{readOf, operandsOf};
+use crate::kinds::LIST;
+use crate::kinds::MAP;
+use crate::kinds::MARK;
 use crate::layout::Head;
-use crate::layout::MARK;
-use crate::layout::MISPLACED_MARK;
-use crate::layout::RECORD_NESTING;
-use crate::layout::WRONG_EXTENT;
-use crate::layout::WRONG_FIELD;
+use crate::refusals::MISPLACED_MARK;
+use crate::refusals::RECORD_NESTING;
+use crate::refusals::WRONG_EXTENT;
+use crate::refusals::WRONG_FIELD;
 
 // What was read.
 pub enum Read {
@@ -33,8 +35,8 @@ fn marks_of(kind: u8) -> Marks
     ensures { λ r. ⌜ r ≡ marksOf (rowOf kind .kind) ⌝ }
 {
     match kind {
-        12 => Marks::Anywhere,
-        13 => Marks::Values,
+        LIST => Marks::Anywhere,
+        MAP => Marks::Values,
         _ => Marks::Nowhere,
     }
 }

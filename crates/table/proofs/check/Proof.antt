@@ -1,3 +1,4 @@
+-- `check` meets its contract: a law of `CheckLaws` for each answer. Assumes nothing.
 use Rattle.table.proofs.CheckLaws.{too-short, too-long, root-refused, root-whole, root-cut}
 use borrow.Author.Needs.{needs}
 use Rattle.table.proofs.check.Statement.{statement}
@@ -19,13 +20,24 @@ enum-known-root-2 : tie.Need-enum-known-root-2
 enum-known-root-2 c = search needs
 
 returns-3 : tie.Need-returns-3
-returns-3 c = root-refused (c .before .before .before .before .before .before .before .before .args .table .now) (c .before .before .before .before .before .before .before .before .args .text .now) (c .before .before .before .before .before .if1 .left) (c .before .before .before .before .if2 .left) (c .before .before .before .record-at .ensures) (c .before .root .given .1)
+returns-3 c =
+    let a = c .before .before .before .before .before .before .before .before .args in
+    root-refused (a .table .now) (a .text .now) (c .before .before .before .before .before .if1 .left) (c .before .before .before .before .if2 .left)
+    (c .before .before .before .record-at .ensures) (c .before .root .given .1)
 
 returns-4 : tie.Need-returns-4
-returns-4 c = root-whole (c .before .before .before .before .before .before .before .before .before .args .table .now) (c .before .before .before .before .before .before .before .before .before .args .text .now) (c .before .before .before .before .before .before .if1 .left) (c .before .before .before .before .before .if2 .left) (c .before .before .before .before .record-at .ensures) (c .before .before .root2 .given .1) (c .if3 .taken)
+returns-4 c =
+    let a = c .before .before .before .before .before .before .before .before .before .args in
+    root-whole (a .table .now) (a .text .now) (c .before .before .before .before .before .before .if1 .left)
+    (c .before .before .before .before .before .if2 .left) (c .before .before .before .before .record-at .ensures) (c .before .before .root2 .given .1)
+    (c .if3 .taken)
 
 returns-5 : tie.Need-returns-5
-returns-5 c = root-cut (c .before .before .before .before .before .before .before .before .before .args .table .now) (c .before .before .before .before .before .before .before .before .before .args .text .now) (c .before .before .before .before .before .before .if1 .left) (c .before .before .before .before .before .if2 .left) (c .before .before .before .before .record-at .ensures) (c .before .before .root2 .given .1) (c .if3 .left)
+returns-5 c =
+    let a = c .before .before .before .before .before .before .before .before .before .args in
+    root-cut (a .table .now) (a .text .now) (c .before .before .before .before .before .before .if1 .left)
+    (c .before .before .before .before .before .if2 .left) (c .before .before .before .before .record-at .ensures) (c .before .before .root2 .given .1)
+    (c .if3 .left)
 
 pub check-spec : {M : Type 1} → statement M
 check-spec =

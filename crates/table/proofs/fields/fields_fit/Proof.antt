@@ -1,3 +1,4 @@
+-- `fields::fields_fit` meets its contract: by kind, the numbers that the kind allows. Assumes nothing.
 use mathlib.Core.Path.{_∙_}
 use native.Mathlib.Omega.{arith}
 use borrow.Author.Tests.{lt-ltb, le-ltb}
@@ -71,37 +72,65 @@ one-of-requires-3 : tie.Need-one-of-requires-3
 one-of-requires-3 c κs = search needs
 
 returns : tie.Need-returns
-returns c = rw (c .before .match .keys1) (bool-fits (c .before .before .before .before .args .text .now) (c .before .before .before .before .args .table .now) (c .before .before .before .before .args .place))
+returns c =
+    let a = c .before .before .before .before .args in
+    rw (c .before .match .keys1) (bool-fits (a .text .now) (a .table .now) (a .place))
 
 returns-2 : tie.Need-returns-2
-returns-2 c = rw (c .before .before .before .match .keys2) (c .utf8-fits .ensures ∙ string-fits (c .before .before .before .before .before .before .args .text .now) (c .before .before .before .before .before .before .args .table .now) (c .before .before .before .before .before .before .args .place) (c .before .before .word-at .ensures .0) (c .before .word-at2 .ensures .0))
+returns-2 c =
+    let a = c .before .before .before .before .before .before .args in
+    rw (c .before .before .before .match .keys2)
+    (c .utf8-fits .ensures ∙ string-fits (a .text .now) (a .table .now) (a .place) (c .before .before .word-at .ensures .0)
+    (c .before .word-at2 .ensures .0))
 
 returns-3 : tie.Need-returns-3
-returns-3 c = rw (c .before .before .before .match .keys3) (c .span-fits .ensures ∙ bytes-fits (c .before .before .before .before .before .before .args .text .now) (c .before .before .before .before .before .before .args .table .now) (c .before .before .before .before .before .before .args .place) (c .before .before .word-at3 .ensures .0) (c .before .word-at4 .ensures .0))
+returns-3 c =
+    let a = c .before .before .before .before .before .before .args in
+    rw (c .before .before .before .match .keys3)
+    (c .span-fits .ensures ∙ bytes-fits (a .text .now) (a .table .now) (a .place) (c .before .before .word-at3 .ensures .0)
+    (c .before .word-at4 .ensures .0))
 
 returns-4 : tie.Need-returns-4
-returns-4 c = rw (c .before .match .keys4) (name-fits (c .before .before .before .before .args .text .now) (c .before .before .before .before .args .table .now) (c .before .before .before .before .args .place))
+returns-4 c =
+    let a = c .before .before .before .before .args in
+    rw (c .before .match .keys4) (name-fits (a .text .now) (a .table .now) (a .place))
 
 returns-5 : tie.Need-returns-5
-returns-5 c = rw (c .before .before .match .keys5) (c .one-of .ensures ∙ unary-fits (c .before .before .before .before .before .args .text .now) (c .before .before .before .before .before .args .table .now) (c .before .before .before .before .before .args .place))
+returns-5 c =
+    let a = c .before .before .before .before .before .args in
+    rw (c .before .before .match .keys5) (c .one-of .ensures ∙ unary-fits (a .text .now) (a .table .now) (a .place))
 
 returns-6 : tie.Need-returns-6
-returns-6 c = rw (c .before .before .match .keys6) (c .one-of2 .ensures ∙ binary-fits (c .before .before .before .before .before .args .text .now) (c .before .before .before .before .before .args .table .now) (c .before .before .before .before .before .args .place))
+returns-6 c =
+    let a = c .before .before .before .before .before .args in
+    rw (c .before .before .match .keys6) (c .one-of2 .ensures ∙ binary-fits (a .text .now) (a .table .now) (a .place))
 
 returns-7 : tie.Need-returns-7
-returns-7 c = rw (c .before .match .keys7) (c .select-fits .ensures ∙ select-is (c .before .before .before .before .args .text .now) (c .before .before .before .before .args .table .now) (c .before .before .before .before .args .place))
+returns-7 c =
+    let a = c .before .before .before .before .args in
+    rw (c .before .match .keys7) (c .select-fits .ensures ∙ select-is (a .text .now) (a .table .now) (a .place))
 
 returns-8 : tie.Need-returns-8
-returns-8 c = rw (c .before .before .before .match .keys8) (names-second (c .before .before .before .before .before .before .args .text .now) (c .before .before .before .before .before .before .args .table .now) (c .before .before .before .before .before .before .args .place) (lt-ltb _ _ (c .before .if1 .taken)))
+returns-8 c =
+    let a = c .before .before .before .before .before .before .args in
+    rw (c .before .before .before .match .keys8) (names-second (a .text .now) (a .table .now) (a .place) (lt-ltb _ _ (c .before .if1 .taken)))
 
 returns-9 : tie.Need-returns-9
-returns-9 c = rw (c .before .before .match .keys8) (names-first (c .before .before .before .before .before .args .text .now) (c .before .before .before .before .before .args .table .now) (c .before .before .before .before .before .args .place) (le-ltb _ _ (c .if1 .left)))
+returns-9 c =
+    let a = c .before .before .before .before .before .args in
+    rw (c .before .before .match .keys8) (names-first (a .text .now) (a .table .now) (a .place) (le-ltb _ _ (c .if1 .left)))
 
 returns-10 : tie.Need-returns-10
-returns-10 c = rw (c .before .before .match .keys9) (c .one-of3 .ensures ∙ function-fits (c .before .before .before .before .before .args .text .now) (c .before .before .before .before .before .args .table .now) (c .before .before .before .before .before .args .place))
+returns-10 c =
+    let a = c .before .before .before .before .before .args in
+    rw (c .before .before .match .keys9) (c .one-of3 .ensures ∙ function-fits (a .text .now) (a .table .now) (a .place))
 
 returns-11 : tie.Need-returns-11
-returns-11 c = no-fields (c .before .before .before .args .text .now) (c .before .before .before .args .table .now) (c .before .before .before .args .place) (c .before .before .before .args .kind) (c .before .before .before .pre .0) (c .match .rest .0 .0 .0 .0 .0 .0 .0 .0 .1) (c .match .rest .0 .0 .0 .0 .0 .0 .0 .1) (c .match .rest .0 .0 .0 .0 .0 .0 .1) (c .match .rest .0 .0 .0 .0 .0 .1) (c .match .rest .0 .0 .0 .0 .1) (c .match .rest .0 .0 .0 .1) (c .match .rest .0 .0 .1) (c .match .rest .0 .1) (c .match .rest .1)
+returns-11 c =
+    let a = c .before .before .before .args in
+    let n = c .match .rest in
+    no-fields (a .text .now) (a .table .now) (a .place) (a .kind) (c .before .before .before .pre .0) (n .0 .0 .0 .0 .0 .0 .0 .0 .1)
+    (n .0 .0 .0 .0 .0 .0 .0 .1) (n .0 .0 .0 .0 .0 .0 .1) (n .0 .0 .0 .0 .0 .1) (n .0 .0 .0 .0 .1) (n .0 .0 .0 .1) (n .0 .0 .1) (n .0 .1) (n .1)
 
 pub fields-fit-spec : {M : Type 1} → statement M
 fields-fit-spec =

@@ -1,3 +1,4 @@
+-- `fields::one_of` meets its contract. Assumes nothing.
 use native.Mathlib.Omega.{arith}
 use borrow.Author.Tests.{le-leb}
 use Rattle.table.proofs.fields.one_of.Statement.{statement}

@@ -1,3 +1,4 @@
+-- `fields::select_fits` meets its contract: the flag, then the field name. Assumes nothing.
 use borrow.Author.Tests.{lt-leb, le-leb}
 use mathlib.Core.Path.{_∙_}
 use Rattle.table.proofs.FieldLaws.{flag-is, spans-same}
@@ -30,7 +31,10 @@ utf8-fits-requires : tie.Need-utf8-fits-requires
 utf8-fits-requires c κs = search needs
 
 returns-2 : tie.Need-returns-2
-returns-2 c = rw (flag-is, le-leb _ _ (c .before .before .before .if1 .left)) (c .utf8-fits .ensures ∙ spans-same (c .before .before .before .before .before .before .before .args .text .now) (c .before .before .word-at .ensures .0) (c .before .word-at2 .ensures .0))
+returns-2 c =
+    let a = c .before .before .before .before .before .before .before .args in
+    rw (flag-is, le-leb _ _ (c .before .before .before .if1 .left))
+    (c .utf8-fits .ensures ∙ spans-same (a .text .now) (c .before .before .word-at .ensures .0) (c .before .word-at2 .ensures .0))
 
 pub select-fits-spec : {M : Type 1} → statement M
 select-fits-spec =

@@ -1,3 +1,4 @@
+-- `fields::span_fits` meets its contract. Assumes nothing.
 use mathlib.Core.Path.{sym}
 use Rattle.table.proofs.FieldLaws.{span-is}
 use borrow.Author.Needs.{needs}

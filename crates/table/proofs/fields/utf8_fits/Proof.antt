@@ -1,3 +1,4 @@
+-- `fields::utf8_fits` meets its contract: a span outside the text, and one inside. Assumes nothing.
 use mathlib.Core.Path.{_∙_}
 use Rattle.table.proofs.FieldLaws.{utf8-outside, utf8-inside}
 use borrow.Author.Needs.{needs}
@@ -23,7 +24,9 @@ well-formed-requires : tie.Need-well-formed-requires
 well-formed-requires c κs = search needs
 
 returns-2 : tie.Need-returns-2
-returns-2 c = c .well-formed .ensures ∙ utf8-inside (c .before .before .before .before .args .text .now) (c .before .before .before .before .args .offset) (c .before .before .before .before .args .size) (c .before .before .if1 .left)
+returns-2 c =
+    let a = c .before .before .before .before .args in
+    c .well-formed .ensures ∙ utf8-inside (a .text .now) (a .offset) (a .size) (c .before .before .if1 .left)
 
 pub utf8-fits-spec : {M : Type 1} → statement M
 utf8-fits-spec =

@@ -1,3 +1,4 @@
+-- `layout::extent_fits` meets its contract. Assumes nothing.
 use borrow.Author.Tests.{eq-eqb, ne-eqb}
 use Rattle.table.proofs.layout.extent_fits.Statement.{statement}
 use Rattle.table.proofs.layout.extent_fits.Tie as tie

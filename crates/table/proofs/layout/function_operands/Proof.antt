@@ -1,3 +1,4 @@
+-- `layout::function_operands` meets its contract. Assumes nothing.
 use Rattle.meaning.specs.Kinds.{numbered, functions}
 use Rattle.table.proofs.KindLaws.{one-called}
 use Rattle.table.proofs.layout.function_operands.Statement.{statement}

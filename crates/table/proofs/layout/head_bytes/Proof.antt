@@ -1,3 +1,4 @@
+-- `layout::head_bytes` meets its contract: its table has the bytes of each kind. Assumes nothing.
 use Rattle.table.proofs.KindLaws.{head-table}
 use borrow.Author.Needs.{needs}
 use Rattle.table.proofs.layout.head_bytes.Statement.{statement}

@@ -1,3 +1,4 @@
+-- `layout::operand_count` meets its contract, kind by kind. Assumes nothing.
 use native.Mathlib.Omega.{arith}
 use Rattle.meaning.specs.Kinds.{kinds}
 use Rattle.meaning.specs.Heads.{fieldBytes, bytesOf, numbersAt}
@@ -70,7 +71,11 @@ returns-9 c = rw (c .before .before .match .keys9, byte-is) (c .function-operand
 
 returns-10 : tie.Need-returns-10
 unfolding rowOf kinds countOf numbersOf numbersAt fieldBytes bytesOf wordAt
-returns-10 c = no-operands (c .before .before .args .table .now) (c .before .before .args .at) (c .before .before .args .kind) (c .before .before .pre .0) (c .match .rest .0 .0 .0 .0 .0 .0 .0 .0 .1) (c .match .rest .0 .0 .0 .0 .0 .0 .0 .1) (c .match .rest .0 .0 .0 .0 .0 .0 .1) (c .match .rest .0 .0 .0 .0 .0 .1) (c .match .rest .0 .0 .0 .0 .1) (c .match .rest .0 .0 .0 .1) (c .match .rest .0 .0 .1) (c .match .rest .0 .1) (c .match .rest .1)
+returns-10 c =
+    let a = c .before .before .args in
+    let n = c .match .rest in
+    no-operands (a .table .now) (a .at) (a .kind) (c .before .before .pre .0) (n .0 .0 .0 .0 .0 .0 .0 .0 .1) (n .0 .0 .0 .0 .0 .0 .0 .1)
+    (n .0 .0 .0 .0 .0 .0 .1) (n .0 .0 .0 .0 .0 .1) (n .0 .0 .0 .0 .1) (n .0 .0 .0 .1) (n .0 .0 .1) (n .0 .1) (n .1)
 
 pub operand-count-spec : {M : Type 1} → statement M
 operand-count-spec =

@@ -1,3 +1,4 @@
+-- `layout::word_at` meets its contract: the lower byte first. Assumes nothing.
 use native.Mathlib.Omega.{arith}
 use Rattle.table.proofs.HeadLaws.{word-is}
 use borrow.Author.Needs.{needs}

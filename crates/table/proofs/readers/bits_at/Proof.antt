@@ -1,3 +1,4 @@
+-- `readers::bits_at` meets its contract: a long number is its two halves. Assumes nothing.
 use native.Mathlib.Omega.{arith}
 use Prim.Native.Nat.{_+_}
 use Rattle.table.proofs.LongLaws.{long-is}

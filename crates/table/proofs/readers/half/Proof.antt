@@ -1,3 +1,4 @@
+-- `readers::half` meets its contract: the lowest byte first. Assumes nothing.
 use native.Mathlib.Omega.{arith}
 use Rattle.table.proofs.LongLaws.{four-is}
 use borrow.Author.Needs.{needs}
@@ -56,7 +57,10 @@ add-result-3 : tie.Need-add-result-3
 add-result-3 c = search needs
 
 returns : tie.Need-returns
-returns c = let e = four-is (c .before .before .before .before .before .before .before .before .before .args .table .now) (c .before .before .before .before .before .before .before .before .before .args .at) in omega arith
+returns c =
+    let e = four-is (c .before .before .before .before .before .before .before .before .before .args .table .now)
+    (c .before .before .before .before .before .before .before .before .before .args .at) in
+    omega arith
 
 pub half-spec : {M : Type 1} → statement M
 half-spec =

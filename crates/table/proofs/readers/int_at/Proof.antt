@@ -1,3 +1,4 @@
+-- `readers::int_at` meets its contract. Assumes nothing.
 use Rattle.table.proofs.LongLaws.{given-back}
 use borrow.Author.Needs.{needs}
 use Rattle.table.proofs.readers.int_at.Statement.{statement}

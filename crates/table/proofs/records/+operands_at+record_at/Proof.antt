@@ -1,3 +1,4 @@
+-- `records::record_at` and `records::operands_at` meet their contracts: the proofs of the two, joined. The levels left fall. Assumes nothing.
 mod Kit
 mod OperandsAt
 mod RecordAt

@@ -1,3 +1,4 @@
+-- `records::marks_of` meets its contract. Assumes nothing.
 use Rattle.meaning.specs.Kinds.{kinds}
 use Rattle.table.specs.Shapes.{rowOf, marksOf}
 use Rattle.table.proofs.KindLaws.{no-marks}

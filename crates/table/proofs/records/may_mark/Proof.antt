@@ -1,3 +1,4 @@
+-- `records::may_mark` meets its contract. Assumes nothing.
 use borrow.Author.Needs.{needs}
 use Rattle.table.proofs.records.may_mark.Statement.{statement}
 use Rattle.table.proofs.records.may_mark.Tie as tie

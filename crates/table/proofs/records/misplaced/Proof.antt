@@ -1,3 +1,4 @@
+-- `records::misplaced` meets its contract. Assumes nothing.
 use Rattle.meaning.specs.Kinds.{kinds}
 use Rattle.table.specs.Shapes.{rowOf}
 use Rattle.table.proofs.KindLaws.{no-mark}

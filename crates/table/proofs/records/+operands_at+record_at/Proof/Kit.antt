@@ -1,3 +1,4 @@
+-- The measures of the two: the levels left, and of two with as many the row of operands is the greater. Assumes nothing.
 use Prim.Native.Nat.{_+_, _*_, _-_}
 use Prim.Native.Nat.{ℕ, _<_}
 use borrow.Fn.Kinds.{In}

@@ -1,3 +1,4 @@
+-- `records::operands_at`: what is left of the row says what the whole row says. Assumes nothing.
 use borrow.Author.Needs.{needs}
 use mathlib.Core.Path.{_≡_, refl, _∙_}
 use Prim.Native.Nat.{_-_}
@@ -12,7 +13,8 @@ use Rattle.table.proofs.records.may_mark.Reads as may-mark-reads
 use Rattle.table.proofs.records.+operands_at+record_at.Proof.Kit.{operands-at-at, record-at-below}
 
 abbrev pub operands-at-Inv-loop : operands-at-lts.InvT-loop
-operands-at-Inv-loop table text place marks count first end levels at₀ left₀ at left = operandsOf (readOf table text levels) place marks end left at ≡ operandsOf (readOf table text levels) place marks end count first
+operands-at-Inv-loop table text place marks count first end levels at₀ left₀ at left =
+    operandsOf (readOf table text levels) place marks end left at ≡ operandsOf (readOf table text levels) place marks end count first
 
 abbrev pub operands-at-μ-loop : operands-at-lts.MeasureT-loop
 operands-at-μ-loop table text place marks count first end levels at₀ left₀ at left = left
@@ -63,7 +65,12 @@ pub operands-at-returns : (t : ℕ) → operands-at-lts.Need-returns (
   record-at-below t,
   record-at.Post,
 ) (operands-at-at t) operands-at.Post operands-at-Inv-loop operands-at-μ-loop
-operands-at-returns t c = operands-stop (readOf (c .before .before .before .before .before .before .before .before .args .table .now) (c .before .before .before .before .before .before .before .before .args .text .now) (c .before .before .before .before .before .before .before .before .args .levels)) (c .before .before .before .before .before .before .before .before .args .place) (c .before .before .before .before .before .before .before .before .args .marks) (c .before .before .before .before .before .before .before .before .args .end) (c .before .before .before .before .before .loop .left) (c .before .before .before .before .before .loop .at) (c .before .before .before .before .loop-test .taken) (c .before .before .record-at .ensures) (c .before .before .before .may-mark .ensures) (c .enum-told .given .1) ∙ c .before .before .before .before .before .loop .inv
+operands-at-returns t c =
+    let a = c .before .before .before .before .before .before .before .before .args in
+    let l = c .before .before .before .before .before .loop in
+    operands-stop (readOf (a .table .now) (a .text .now) (a .levels)) (a .place) (a .marks) (a .end) (l .left) (l .at)
+    (c .before .before .before .before .loop-test .taken) (c .before .before .record-at .ensures) (c .before .before .before .may-mark .ensures)
+    (c .enum-told .given .1) ∙ l .inv
 
 pub operands-at-sub-left : (t : ℕ) → operands-at-lts.Need-sub-left (
   may-mark-reads.Asked,
@@ -87,7 +94,12 @@ pub operands-at-loop-again : (t : ℕ) → operands-at-lts.Need-loop-again (
   record-at-below t,
   record-at.Post,
 ) (operands-at-at t) operands-at.Post operands-at-Inv-loop operands-at-μ-loop
-operands-at-loop-again t c = operands-again (readOf (c .before .before .before .before .before .before .before .before .before .args .table .now) (c .before .before .before .before .before .before .before .before .before .args .text .now) (c .before .before .before .before .before .before .before .before .before .args .levels)) (c .before .before .before .before .before .before .before .before .before .args .place) (c .before .before .before .before .before .before .before .before .before .args .marks) (c .before .before .before .before .before .before .before .before .before .args .end) (c .before .before .before .before .before .before .loop .left) (c .before .before .before .before .before .before .loop .at) (c .before .before .before .before .before .loop-test .taken) (c .before .before .before .record-at .ensures) (c .before .before .before .before .may-mark .ensures) (c .before .operand .given .1) ∙ c .before .before .before .before .before .before .loop .inv
+operands-at-loop-again t c =
+    let a = c .before .before .before .before .before .before .before .before .before .args in
+    let l = c .before .before .before .before .before .before .loop in
+    operands-again (readOf (a .table .now) (a .text .now) (a .levels)) (a .place) (a .marks) (a .end) (l .left) (l .at)
+    (c .before .before .before .before .before .loop-test .taken) (c .before .before .before .record-at .ensures)
+    (c .before .before .before .before .may-mark .ensures) (c .before .operand .given .1) ∙ l .inv
 
 pub operands-at-returns-2 : (t : ℕ) → operands-at-lts.Need-returns-2 (
   may-mark-reads.Asked,
@@ -95,7 +107,11 @@ pub operands-at-returns-2 : (t : ℕ) → operands-at-lts.Need-returns-2 (
   record-at-below t,
   record-at.Post,
 ) (operands-at-at t) operands-at.Post operands-at-Inv-loop operands-at-μ-loop
-operands-at-returns-2 t c = operands-met (readOf (c .before .before .before .before .before .args .table .now) (c .before .before .before .before .before .args .text .now) (c .before .before .before .before .before .args .levels)) (c .before .before .before .before .before .args .place) (c .before .before .before .before .before .args .marks) (c .before .before .before .before .before .args .end) (c .before .before .loop .left) (c .before .before .loop .at) (c .before .loop-test .left) (c .if1 .taken) ∙ c .before .before .loop .inv
+operands-at-returns-2 t c =
+    let a = c .before .before .before .before .before .args in
+    let l = c .before .before .loop in
+    operands-met (readOf (a .table .now) (a .text .now) (a .levels)) (a .place) (a .marks) (a .end) (l .left) (l .at) (c .before .loop-test .left)
+    (c .if1 .taken) ∙ l .inv
 
 pub operands-at-returns-3 : (t : ℕ) → operands-at-lts.Need-returns-3 (
   may-mark-reads.Asked,
@@ -103,4 +119,8 @@ pub operands-at-returns-3 : (t : ℕ) → operands-at-lts.Need-returns-3 (
   record-at-below t,
   record-at.Post,
 ) (operands-at-at t) operands-at.Post operands-at-Inv-loop operands-at-μ-loop
-operands-at-returns-3 t c = operands-unmet (readOf (c .before .before .before .before .before .args .table .now) (c .before .before .before .before .before .args .text .now) (c .before .before .before .before .before .args .levels)) (c .before .before .before .before .before .args .place) (c .before .before .before .before .before .args .marks) (c .before .before .before .before .before .args .end) (c .before .before .loop .left) (c .before .before .loop .at) (c .before .loop-test .left) (c .if1 .left) ∙ c .before .before .loop .inv
+operands-at-returns-3 t c =
+    let a = c .before .before .before .before .before .args in
+    let l = c .before .before .loop in
+    operands-unmet (readOf (a .table .now) (a .text .now) (a .levels)) (a .place) (a .marks) (a .end) (l .left) (l .at) (c .before .loop-test .left)
+    (c .if1 .left) ∙ l .inv

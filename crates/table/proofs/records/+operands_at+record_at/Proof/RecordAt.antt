@@ -1,3 +1,4 @@
+-- `records::record_at`: a law of `RecordLaws` for each answer. Assumes nothing.
 use borrow.Author.Needs.{needs}
 use mathlib.Core.Path.{sym, _∙_}
 use Prim.Native.Nat.{_-_}
@@ -69,7 +70,10 @@ pub record-at-returns : (t : ℕ) → record-at-lts.Need-returns (
   operands-at-below t,
   operands-at.Post,
 ) (record-at-at t) record-at.Post
-record-at-returns t c = too-deep (c .before .before .before .before .before .before .before .args .table .now) (c .before .before .before .before .before .before .before .args .text .now) (c .before .before .before .before .before .before .before .args .at) (c .before .before .before .before .before .before .before .args .end) (sym (c .before .before .kind .given .1) ∙ c .before .before .before .before .head-at .ensures) (c .before .before .before .before .before .before .before .args .levels) (c .before .before .before .before .before .before .before .args .marked) (c .if1 .taken)
+record-at-returns t c =
+    let a = c .before .before .before .before .before .before .before .args in
+    let w = sym (c .before .before .kind .given .1) ∙ c .before .before .before .before .head-at .ensures in
+    too-deep (a .table .now) (a .text .now) (a .at) (a .end) w (a .levels) (a .marked) (c .if1 .taken)
 
 pub record-at-fields-fit-requires : (t : ℕ) → record-at-lts.Need-fields-fit-requires (
   head-at-reads.Asked,
@@ -83,7 +87,11 @@ pub record-at-fields-fit-requires : (t : ℕ) → record-at-lts.Need-fields-fit-
   operands-at-below t,
   operands-at.Post,
 ) (record-at-at t) record-at.Post
-record-at-fields-fit-requires t c κs = let o = found (c .before .before .before .before .before .before .before .args .table .now) (c .before .before .before .before .before .before .before .args .at) (c .before .before .before .before .before .before .before .args .end) (sym (c .before .before .kind .given .1) ∙ c .before .before .before .before .head-at .ensures) in rw (o .kind) (o .here .known, omega arith)
+record-at-fields-fit-requires t c κs =
+    let a = c .before .before .before .before .before .before .before .args in
+    let w = sym (c .before .before .kind .given .1) ∙ c .before .before .before .before .head-at .ensures in
+    let o = found (a .table .now) (a .at) (a .end) w in
+    rw (o .kind) (o .here .known, omega arith)
 
 pub record-at-returns-2 : (t : ℕ) → record-at-lts.Need-returns-2 (
   head-at-reads.Asked,
@@ -97,7 +105,11 @@ pub record-at-returns-2 : (t : ℕ) → record-at-lts.Need-returns-2 (
   operands-at-below t,
   operands-at.Post,
 ) (record-at-at t) record-at.Post
-record-at-returns-2 t c = wrong-field (c .before .before .before .before .before .before .before .before .before .args .table .now) (c .before .before .before .before .before .before .before .before .before .args .text .now) (c .before .before .before .before .before .before .before .before .before .args .at) (c .before .before .before .before .before .before .before .before .before .args .end) (sym (c .before .before .before .before .kind .given .1) ∙ c .before .before .before .before .before .before .head-at .ensures) (c .before .before .before .before .before .before .before .before .before .args .levels) (c .before .before .before .before .before .before .before .before .before .args .marked) (c .before .before .if1 .left) (sym (c .before .fields-fit .ensures) ∙ not-true _ (c .if2 .taken))
+record-at-returns-2 t c =
+    let a = c .before .before .before .before .before .before .before .before .before .args in
+    let w = sym (c .before .before .before .before .kind .given .1) ∙ c .before .before .before .before .before .before .head-at .ensures in
+    wrong-field (a .table .now) (a .text .now) (a .at) (a .end) w (a .levels) (a .marked) (c .before .before .if1 .left)
+    (sym (c .before .fields-fit .ensures) ∙ not-true _ (c .if2 .taken))
 
 pub record-at-misplaced-requires : (t : ℕ) → record-at-lts.Need-misplaced-requires (
   head-at-reads.Asked,
@@ -111,7 +123,11 @@ pub record-at-misplaced-requires : (t : ℕ) → record-at-lts.Need-misplaced-re
   operands-at-below t,
   operands-at.Post,
 ) (record-at-at t) record-at.Post
-record-at-misplaced-requires t c κs = let o = found (c .before .before .before .before .before .before .before .before .before .args .table .now) (c .before .before .before .before .before .before .before .before .before .args .at) (c .before .before .before .before .before .before .before .before .before .args .end) (sym (c .before .before .before .before .kind .given .1) ∙ c .before .before .before .before .before .before .head-at .ensures) in rw (o .kind) (o .here .known)
+record-at-misplaced-requires t c κs =
+    let a = c .before .before .before .before .before .before .before .before .before .args in
+    let w = sym (c .before .before .before .before .kind .given .1) ∙ c .before .before .before .before .before .before .head-at .ensures in
+    let o = found (a .table .now) (a .at) (a .end) w in
+    rw (o .kind) (o .here .known)
 
 pub record-at-returns-3 : (t : ℕ) → record-at-lts.Need-returns-3 (
   head-at-reads.Asked,
@@ -125,7 +141,13 @@ pub record-at-returns-3 : (t : ℕ) → record-at-lts.Need-returns-3 (
   operands-at-below t,
   operands-at.Post,
 ) (record-at-at t) record-at.Post
-record-at-returns-3 t c = wrong-mark (c .before .before .before .before .before .before .before .before .before .before .before .args .table .now) (c .before .before .before .before .before .before .before .before .before .before .before .args .text .now) (c .before .before .before .before .before .before .before .before .before .before .before .args .at) (c .before .before .before .before .before .before .before .before .before .before .before .args .end) (sym (c .before .before .before .before .before .before .kind .given .1) ∙ c .before .before .before .before .before .before .before .before .head-at .ensures) (c .before .before .before .before .before .before .before .before .before .before .before .args .levels) (c .before .before .before .before .before .before .before .before .before .before .before .args .marked) (c .before .before .before .before .if1 .left) (sym (c .before .before .before .fields-fit .ensures) ∙ not-false _ (c .before .before .if2 .left)) (sym (c .before .misplaced .ensures) ∙ c .if3 .taken)
+record-at-returns-3 t c =
+    let a = c .before .before .before .before .before .before .before .before .before .before .before .args in
+    let w = sym (c .before .before .before .before .before .before .kind .given .1) ∙
+    c .before .before .before .before .before .before .before .before .head-at .ensures in
+    let f = sym (c .before .before .before .fields-fit .ensures) ∙ not-false _ (c .before .before .if2 .left) in
+    wrong-mark (a .table .now) (a .text .now) (a .at) (a .end) w (a .levels) (a .marked) (c .before .before .before .before .if1 .left) f
+    (sym (c .before .misplaced .ensures) ∙ c .if3 .taken)
 
 pub record-at-marks-of-requires : (t : ℕ) → record-at-lts.Need-marks-of-requires (
   head-at-reads.Asked,
@@ -139,7 +161,12 @@ pub record-at-marks-of-requires : (t : ℕ) → record-at-lts.Need-marks-of-requ
   operands-at-below t,
   operands-at.Post,
 ) (record-at-at t) record-at.Post
-record-at-marks-of-requires t c κs = let o = found (c .before .before .before .before .before .before .before .before .before .before .before .args .table .now) (c .before .before .before .before .before .before .before .before .before .before .before .args .at) (c .before .before .before .before .before .before .before .before .before .before .before .args .end) (sym (c .before .before .before .before .before .before .kind .given .1) ∙ c .before .before .before .before .before .before .before .before .head-at .ensures) in rw (o .kind) (o .here .known)
+record-at-marks-of-requires t c κs =
+    let a = c .before .before .before .before .before .before .before .before .before .before .before .args in
+    let w = sym (c .before .before .before .before .before .before .kind .given .1) ∙
+    c .before .before .before .before .before .before .before .before .head-at .ensures in
+    let o = found (a .table .now) (a .at) (a .end) w in
+    rw (o .kind) (o .here .known)
 
 pub record-at-sub-operands-at : (t : ℕ) → record-at-lts.Need-sub-operands-at (
   head-at-reads.Asked,
@@ -167,7 +194,12 @@ pub record-at-operands-at-requires : (t : ℕ) → record-at-lts.Need-operands-a
   operands-at-below t,
   operands-at.Post,
 ) (record-at-at t) record-at.Post
-record-at-operands-at-requires t c κs = let o = found (c .before .before .before .before .before .before .before .before .before .before .before .before .args .table .now) (c .before .before .before .before .before .before .before .before .before .before .before .before .args .at) (c .before .before .before .before .before .before .before .before .before .before .before .before .args .end) (sym (c .before .before .before .before .before .before .before .kind .given .1) ∙ c .before .before .before .before .before .before .before .before .before .head-at .ensures) in (omega arith, omega arith)
+record-at-operands-at-requires t c κs =
+    let a = c .before .before .before .before .before .before .before .before .before .before .before .before .args in
+    let w = sym (c .before .before .before .before .before .before .before .kind .given .1) ∙
+    c .before .before .before .before .before .before .before .before .before .head-at .ensures in
+    let o = found (a .table .now) (a .at) (a .end) w in
+    (omega arith, omega arith)
 
 pub record-at-returns-4 : (t : ℕ) → record-at-lts.Need-returns-4 (
   head-at-reads.Asked,
@@ -181,7 +213,10 @@ pub record-at-returns-4 : (t : ℕ) → record-at-lts.Need-returns-4 (
   operands-at-below t,
   operands-at.Post,
 ) (record-at-at t) record-at.Post
-record-at-returns-4 t c = refused-head (c .before .before .before .before .before .before .args .table .now) (c .before .before .before .before .before .before .args .text .now) (c .before .before .before .before .before .before .args .at) (c .before .before .before .before .before .before .args .end) (c .before .before .before .before .before .before .args .levels) (c .before .before .before .before .before .before .args .marked) (sym (c .before .number .given .1) ∙ c .before .before .before .head-at .ensures)
+record-at-returns-4 t c =
+    let a = c .before .before .before .before .before .before .args in
+    refused-head (a .table .now) (a .text .now) (a .at) (a .end) (a .levels) (a .marked)
+    (sym (c .before .number .given .1) ∙ c .before .before .before .head-at .ensures)
 
 pub record-at-returns-5 : (t : ℕ) → record-at-lts.Need-returns-5 (
   head-at-reads.Asked,
@@ -195,4 +230,12 @@ pub record-at-returns-5 : (t : ℕ) → record-at-lts.Need-returns-5 (
   operands-at-below t,
   operands-at.Post,
 ) (record-at-at t) record-at.Post
-record-at-returns-5 t c = c .operands-at .ensures ∙ (rw (c .before .marks-of .ensures) (goes-on (c .before .before .before .before .before .before .before .before .before .before .before .before .before .args .table .now) (c .before .before .before .before .before .before .before .before .before .before .before .before .before .args .text .now) (c .before .before .before .before .before .before .before .before .before .before .before .before .before .args .at) (c .before .before .before .before .before .before .before .before .before .before .before .before .before .args .end) (sym (c .before .before .before .before .before .before .before .before .kind .given .1) ∙ c .before .before .before .before .before .before .before .before .before .before .head-at .ensures) (c .before .before .before .before .before .before .before .before .before .before .before .before .before .args .levels) (c .before .before .before .before .before .before .before .before .before .before .before .before .before .args .marked) (c .before .before .before .before .before .before .if1 .left) (sym (c .before .before .before .before .before .fields-fit .ensures) ∙ not-false _ (c .before .before .before .before .if2 .left)) (sym (c .before .before .before .misplaced .ensures) ∙ c .before .before .if3 .left)))
+record-at-returns-5 t c =
+    let a = c .before .before .before .before .before .before .before .before .before .before .before .before .before .args in
+    let w = sym (c .before .before .before .before .before .before .before .before .kind .given .1) ∙
+    c .before .before .before .before .before .before .before .before .before .before .head-at .ensures in
+    let f = sym (c .before .before .before .before .before .fields-fit .ensures) ∙ not-false _ (c .before .before .before .before .if2 .left) in
+    c .operands-at .ensures ∙
+    (rw (c .before .marks-of .ensures)
+    (goes-on (a .table .now) (a .text .now) (a .at) (a .end) w (a .levels) (a .marked) (c .before .before .before .before .before .before .if1 .left) f
+    (sym (c .before .before .before .misplaced .ensures) ∙ c .before .before .if3 .left)))
