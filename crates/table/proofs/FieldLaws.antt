@@ -13,8 +13,9 @@ use Rattle.meaning.specs.Kinds.{numbered, flags, nameOf}
 use Rattle.meaning.specs.Table.{span, utf8}
 use Rattle.meaning.specs.Kinds.{kinds, unaries, binaries, functions}
 use Rattle.meaning.specs.Heads.{fieldBytes, bytesOf, numbersAt}
-use Rattle.table.specs.Shapes.{rowOf, wordAt, numbersOf, isSome, fieldsFit}
-use Rattle.table.proofs.HeadLaws.{byte-is}
+use Rattle.layout.specs.Layout.{rowOf, wordAt}
+use Rattle.table.specs.Shapes.{numbersOf, isSome, fieldsFit}
+use Rattle.layout.proofs.WordLaws.{byte-is}
 
 some-cond : {A : Type 0} (b : Bool) (a : A) → isSome (cond b (some a) none) ≡ b
 some-cond true a = refl

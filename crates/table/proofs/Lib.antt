@@ -3,7 +3,6 @@
 pub mod KindLaws
 pub mod HeadLaws
 pub mod FieldLaws
-pub mod LongLaws
 pub mod OperandLaws
 pub mod RecordLaws
 pub mod CheckLaws

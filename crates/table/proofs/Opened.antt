@@ -17,10 +17,12 @@ use Rattle.meaning.specs.Heads.{Got, got, _>>=_, _>>_, demand, orRefuse, Head, 
 use Rattle.meaning.specs.Table.{elementsFrom, pairsFrom, span, utf8, filled, calledAt, bodyAt, asExpr, asPart, exprAt, partAt, wordBytes}
 use Rattle.table.specs.declared.records.Read.the-variants.{Ends}
 use Rattle.table.specs.declared.records.Marks.the-variants.{Nowhere, Anywhere, Values}
-use Rattle.table.specs.Shapes.{rowOf, headBytes, wordAt, numbersOf, calledCount, exprCount, countOf, exprMarks, isSome, exprFits}
+use Rattle.layout.specs.Layout.{rowOf, headBytes, wordAt, after}
+use Rattle.table.specs.Shapes.{numbersOf, calledCount, exprCount, countOf, exprMarks, isSome, exprFits}
 use Rattle.table.specs.Reading.{ends, readOf, operandsOf}
-use Rattle.table.specs.Records.{exprIn, exprOf, after, Sound, Row, elementsOf, pairsOf, kindByte, headOfKind, spanOf, orElse, numbersIn, callOf, node}
-use Rattle.table.proofs.HeadLaws.{byte-is, Here}
+use Rattle.table.specs.Records.{exprIn, exprOf, Sound, Row, elementsOf, pairsOf, kindByte, headOfKind, spanOf, orElse, numbersIn, callOf, node}
+use Rattle.layout.proofs.WordLaws.{byte-is}
+use Rattle.table.proofs.HeadLaws.{Here}
 use Rattle.table.proofs.OperandLaws.{body-ends, two-more, key-next, value-next}
 use Rattle.table.proofs.SoundLaws.{LowRow, low-row, up-row, cond-ended, sound-here}
 

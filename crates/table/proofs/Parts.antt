@@ -11,10 +11,11 @@ use Rattle.meaning.specs.Heads.{Got, got, refused, _>>=_, Head, fieldBytes, byt
 use Rattle.meaning.specs.Table.{Part, Reader, bare, marked, bodyAt, asExpr, asPart, exprAt, partAt, wordBytes}
 use Rattle.table.specs.declared.records.Marks.{Marks}
 use Rattle.table.specs.declared.records.Marks.the-variants.{Nowhere, Anywhere, Values}
-use Rattle.table.specs.Shapes.{rowOf, headBytes, wordAt, numbersOf, countOf, marksOf, fieldsFit}
+use Rattle.layout.specs.Layout.{rowOf, headBytes, wordAt, after}
+use Rattle.table.specs.Shapes.{numbersOf, countOf, marksOf, fieldsFit}
 use Rattle.table.specs.Reading.{ends, readOf}
-use Rattle.table.specs.Records.{exprIn, partIn, exprOf, partOf, after, Sound, SoundPart, Row, kindByte, numbersIn}
-use Rattle.table.proofs.KindLaws.{every-kind, head-table}
+use Rattle.table.specs.Records.{exprIn, partIn, exprOf, partOf, Sound, SoundPart, Row, kindByte, numbersIn}
+use Rattle.layout.proofs.KindLaws.{every-kind, head-table}
 use Rattle.table.proofs.HeadLaws.{Here, headHere}
 use Rattle.table.proofs.OperandLaws.{part-ends, two-more, key-next, value-next}
 use Rattle.table.proofs.SoundLaws.{LowRow, low-row, up-row, expr-is, sound-here, part-here}

@@ -13,8 +13,9 @@ use Rattle.meaning.specs.Table.{exprAt, partAt, wordBytes}
 use Rattle.table.specs.declared.records.Read.{Read}
 use Rattle.table.specs.declared.records.Read.the-variants.{Ends, Refused}
 use Rattle.table.specs.declared.records.Marks.{Marks}
-use Rattle.table.specs.declared.layout.Head.the-variants as head
-use Rattle.table.specs.Shapes.{rowOf, numbersOf, marksOf, mayMark, misplacedOf, fieldsFit, headOf}
+use Rattle.table.specs.declared.heads.Head.the-variants as head
+use Rattle.layout.specs.Layout.{rowOf}
+use Rattle.table.specs.Shapes.{numbersOf, marksOf, mayMark, misplacedOf, fieldsFit, headOf}
 use Rattle.table.specs.Reading.{readOf, operandsOf}
 use Rattle.table.proofs.HeadLaws.{Here, headHere, countHere, Found, found, not-found}
 use Rattle.table.proofs.OperandLaws.{expr-ends, part-ends}

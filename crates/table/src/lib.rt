@@ -3,9 +3,7 @@ ghost use mathlib.Core.Path.{_≡_};
 ghost use Rattle.table.specs.Check.{checkOf};
 
 pub mod fields;
-pub mod kinds;
-pub mod layout;
-pub mod readers;
+pub mod heads;
 pub mod records;
 pub mod refusals;
 

@@ -2,16 +2,17 @@
 ghost use mathlib.Core.Path.{_≡_};
 ghost use Prim.Native.Nat.{_<_, _≤_};
 ghost use lib.ListN.{length};
-ghost use Rattle.table.specs.Shapes.{kindNumbers, rowOf, marksOf, mayMark, misplacedOf};
+ghost use Rattle.layout.specs.Layout.{kindNumbers, rowOf};
+ghost use Rattle.table.specs.Shapes.{marksOf, mayMark, misplacedOf};
 ghost use Rattle.table.specs.Reading.{readOf, operandsOf};
-use crate::kinds::LIST;
-use crate::kinds::MAP;
-use crate::kinds::MARK;
-use crate::layout::Head;
+use crate::heads::Head;
 use crate::refusals::MISPLACED_MARK;
 use crate::refusals::RECORD_NESTING;
 use crate::refusals::WRONG_EXTENT;
 use crate::refusals::WRONG_FIELD;
+use layout::kinds::LIST;
+use layout::kinds::MAP;
+use layout::kinds::MARK;
 
 // What was read.
 pub enum Read {
@@ -72,7 +73,7 @@ pub(crate) fn record_at(
     requires { ⌜ end ≤ length (now table) ⌝ }
     ensures { λ r. ⌜ r ≡ readOf (now (table .entry)) (now (text .entry)) levels marked at end ⌝ }
 {
-    match crate::layout::head_at(table, at, end) {
+    match crate::heads::head_at(table, at, end) {
         Head::Refused(number) => Read::Refused(number, at),
         Head::Whole(kind, count, first, after) => {
             if levels == 0 {

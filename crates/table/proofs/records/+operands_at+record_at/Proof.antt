@@ -7,7 +7,7 @@ use Rattle.table.proofs.records.+operands_at+record_at.Lts-operands_at 
 use Rattle.table.proofs.records.record_at.Reads as record-at
 use Rattle.table.proofs.records.+operands_at+record_at.Lts-record_at as record-at-lts
 use Rattle.table.proofs.fields.fields_fit.Reads as fields-fit-reads
-use Rattle.table.proofs.layout.head_at.Reads as head-at-reads
+use Rattle.table.proofs.heads.head_at.Reads as head-at-reads
 use Rattle.table.proofs.records.marks_of.Reads as marks-of-reads
 use Rattle.table.proofs.records.may_mark.Reads as may-mark-reads
 use Rattle.table.proofs.records.misplaced.Reads as misplaced-reads

@@ -11,7 +11,7 @@ use Rattle.table.proofs.records.operands_at.Reads as operands-at
 use Rattle.table.proofs.records.record_at.Reads as record-at
 use Rattle.table.proofs.records.+operands_at+record_at.Lts-record_at as record-at-lts
 use Rattle.table.proofs.fields.fields_fit.Reads as fields-fit-reads
-use Rattle.table.proofs.layout.head_at.Reads as head-at-reads
+use Rattle.table.proofs.heads.head_at.Reads as head-at-reads
 use Rattle.table.proofs.records.marks_of.Reads as marks-of-reads
 use Rattle.table.proofs.records.misplaced.Reads as misplaced-reads
 use Rattle.table.proofs.records.+operands_at+record_at.Proof.Kit.{operands-at-below, record-at-at}
