@@ -1,12 +1,12 @@
 -- A record's shape: the row of its kind byte, the numbers in its fields, how many operands it has and which of them may be marked, and whether
 -- its fields are right. Stated by the definition's kinds, fields and words.
-use Prim.Native.Nat.{ℕ, _+_, _*_, _%_}
+use Prim.Native.Nat.{ℕ, zero, suc, _+_, _*_, _%_}
 use mathlib.Core.Bool.{Bool, true, false, not, _&&_, cond}
 use mathlib.Core.List.{List, [], _∷_}
 use mathlib.Core.Option.{Option, none, some}
 use lib.Dec.{eqb, leb}
 use lib.ListN.{getD, getElem?}
-use Rattle.meaning.specs.Errors.{refusalNumber}
+use Rattle.meaning.specs.Errors.{RecordNesting, WrongField, MisplacedMark, refusalNumber}
 use Rattle.meaning.specs.Kinds.{ExprKind, nullKind, boolKind, intKind, uintKind, doubleKind, stringKind, bytesKind, nameKind, unaryKind, binaryKind, conditionalKind, selectKind, listKind, mapKind, comprehensionKind, functionKind, Kind, mark, expr, byte, word, numbered, unaries, binaries, Called, toOne, toNone, toTwo, functions, flags, nameOf}
 use Rattle.meaning.specs.Heads.{Got, got, refused, first, second, third, bytesOf, numbersAt, headAt}
 use Rattle.meaning.specs.Heads as heads
@@ -121,6 +121,12 @@ exprFits text functionKind ns = isSome (numbered functions (first ns))
 unfoldable pub fieldsFit : List ℕ → Kind → List ℕ → Bool
 fieldsFit text mark ns = true
 fieldsFit text (expr k) ns = exprFits text k ns
+
+-- The first fault of a record whose head is whole, in the order of the numbers, with so many levels left; 0 where there is none.
+abbrev pub faultOf : List ℕ → Kind → List ℕ → (levels : ℕ) → Bool → ℕ
+faultOf text k ns zero marked = refusalNumber RecordNesting
+faultOf text k ns (suc left) marked =
+    cond (fieldsFit text k ns) (cond (misplacedOf k marked) (refusalNumber MisplacedMark) 0) (refusalNumber WrongField)
 
 -- ---- what is read of a head
 
