@@ -1,4 +1,5 @@
--- For callers: an accepted table (`Accepted`), a record of one and its operands (`Opened`), marks, kinds and rows (`Parts`).
+-- For callers: an accepted table (`Accepted`), a record of one and its operands (`Opened`), marks, kinds and rows (`Parts`), and the walk over
+-- all records (`Walk`).
 -- The others are what those and the functions' proofs rest on, from the leaves up.
 pub mod KindLaws
 pub mod HeadLaws
@@ -11,3 +12,4 @@ pub mod SoundLaws
 pub mod Opened
 pub mod Parts
 pub mod Accepted
+pub mod Walk

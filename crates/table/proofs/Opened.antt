@@ -221,6 +221,8 @@ pub record Opened (t x : List ℕ) (p : ℕ) (k : ExprKind) : Type 0 where
   pub body : p + headOfKind k ≤ length t
   pub room : after t p ≤ length t
   pub least : p + headOfKind k ≤ after t p
+  -- its operands, or what follows it, begin where `first_operand` says
+  pub first : p + headBytes (getD t p 0) ≡ p + headOfKind k
   -- its fields are right
   pub fits : exprFits x k (numbersIn t x p k) ≡ true
   -- its operands are accepted, and end where it does
@@ -267,6 +269,7 @@ module _ (t x : List ℕ) (p : ℕ) (k : ExprKind) (b : getD t p 0 ≡ kindByte 
     body = rw (b, head-is t x p k) at (h .room);
     room = h .inside;
     least = let f : headOfKind k ≤ wordAt t (p + 1) = rw (b, head-is t x p k) at (h .least) in omega arith;
+    first = ap (λ (n : ℕ). p + n) (ap headBytes b ∙ head-is t x p k);
     fits = row-read .0;
     row = up-row t x (exprMarks k) (after t p) (exprCount k (numbersIn t x p k)) (p + headOfKind k) (h .inside) low-operands;
     is = same-expr;

@@ -11,7 +11,7 @@ use Rattle.meaning.specs.Heads.{Got, got, refused, _>>=_, Head, fieldBytes, byt
 use Rattle.meaning.specs.Table.{Part, Reader, bare, marked, bodyAt, asExpr, asPart, exprAt, partAt, wordBytes}
 use Rattle.table.specs.declared.records.Marks.{Marks}
 use Rattle.table.specs.declared.records.Marks.the-variants.{Nowhere, Anywhere, Values}
-use Rattle.layout.specs.Layout.{rowOf, headBytes, wordAt, after}
+use Rattle.layout.specs.Layout.{fieldsAt, rowOf, headBytes, wordAt, after}
 use Rattle.table.specs.Shapes.{numbersOf, countOf, marksOf, fieldsFit}
 use Rattle.table.specs.Reading.{ends, readOf}
 use Rattle.table.specs.Records.{exprIn, partIn, exprOf, partOf, Sound, SoundPart, Row, kindByte, numbersIn}
@@ -55,11 +55,12 @@ mark-refused x e a p h k f i = let j = rw f at i in let z : _≡_ {A = ℕ} 0 1 
 
 -- a marked one
 pub record Marked (t x : List ℕ) (p : ℕ) : Type 0 where
-  pub body : p + 3 ≤ length t
+  pub body : p + fieldsAt ≤ length t
   pub room : after t p ≤ length t
-  pub operand : Sound t x (p + 3)
-  pub ends : after t (p + 3) ≡ after t p
-  pub is : partOf t x p ≡ marked p (exprOf t x (p + 3))
+  pub first : p + headBytes (getD t p 0) ≡ p + fieldsAt
+  pub operand : Sound t x (p + fieldsAt)
+  pub ends : after t (p + fieldsAt) ≡ after t p
+  pub is : partOf t x p ≡ marked p (exprOf t x (p + fieldsAt))
 
 module _ (t x : List ℕ) (p : ℕ) (s : SoundPart t x p) where
   g : Here t p (length t)
@@ -99,6 +100,7 @@ module _ (t x : List ℕ) (p : ℕ) (s : SoundPart t x p) where
     part-marked = record {
       body = rw (b, mark-bytes) at (g .room);
       room = g .inside;
+      first = ap (λ (n : ℕ). p + n) (ap headBytes b ∙ mark-bytes);
       operand = up-row t x Nowhere (after t p) 1 (p + 3) (g .inside) marked-row .0;
       ends = marked-row .1;
       is = marked-is;
