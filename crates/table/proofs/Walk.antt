@@ -203,8 +203,7 @@ module _ (t x : List ℕ) where
       let here = sound-here t x p s in
       let f = head-table (getD t p 0) (here .known) in
       let g : p < p + headOfKind (k .0) = omega (arith, f .0, f .1, o .first) in
-      rw (o .is, node-records t x p (k .0) (o .fits))
-      (
+      rw (o .is, node-records t x p (k .0) (o .fits)) (
         refl,
         rw (k .1) (carried-there (k .0) (getD t (p + fieldsAt) 0)),
         omega (arith, h .0),
