@@ -1,8 +1,8 @@
--- `utf8::continues` meets its contract: each half of its test is a half of the range's.
+-- `sequence::continues` meets its contract: each half of its test is a half of the range's.
 use borrow.Author.Tests.{lt-leb}
 use Rattle.text.proofs.Table.{inside-under, inside-upper}
-use Rattle.text.proofs.utf8.continues.Statement.{statement}
-use Rattle.text.proofs.utf8.continues.Tie as tie
+use Rattle.text.proofs.sequence.continues.Statement.{statement}
+use Rattle.text.proofs.sequence.continues.Tie as tie
 
 returns : tie.Need-returns
 returns c = rw (inside-upper _ _ _ (c .if1 .taken))
