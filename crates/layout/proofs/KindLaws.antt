@@ -6,7 +6,7 @@ use native.Mathlib.Omega.{arith}
 use lib.ListN.{getD}
 use Rattle.meaning.specs.Kinds.{kinds}
 use Rattle.meaning.specs.Heads.{bytesOf, fieldBytes}
-use Rattle.layout.specs.Layout.{rowOf, headBytes}
+use Rattle.layout.specs.Layout.{fieldsAt, rowOf, headBytes}
 
 -- ---- by every kind
 
@@ -45,10 +45,10 @@ every-kind P p0 p1 p2 p3 p4 p5 p6 p7 p8 p9 p10 p11 p12 p13 p14 p15 p16 =
 abbrev heads : List ℕ
 heads = 3 ∷ 4 ∷ 11 ∷ 11 ∷ 11 ∷ 7 ∷ 7 ∷ 4 ∷ 4 ∷ 4 ∷ 3 ∷ 8 ∷ 5 ∷ 5 ∷ 3 ∷ 5 ∷ 4 ∷ []
 
-pub head-table : (k : ℕ) → k < 17 → (getD heads k 0 ≡ headBytes k) × (3 ≤ getD heads k 0) × (getD heads k 0 ≤ 16)
+pub head-table : (k : ℕ) → k < 17 → (getD heads k 0 ≡ headBytes k) × (fieldsAt ≤ getD heads k 0) × (getD heads k 0 ≤ 16)
 unfolding headBytes rowOf kinds bytesOf fieldBytes
 head-table =
-    every-kind (λ k. (getD heads k 0 ≡ headBytes k) × (3 ≤ getD heads k 0) × (getD heads k 0 ≤ 16)) (refl, omega arith, omega arith)
+    every-kind (λ k. (getD heads k 0 ≡ headBytes k) × (fieldsAt ≤ getD heads k 0) × (getD heads k 0 ≤ 16)) (refl, omega arith, omega arith)
     (refl, omega arith, omega arith) (refl, omega arith, omega arith) (refl, omega arith, omega arith) (refl, omega arith, omega arith)
     (refl, omega arith, omega arith) (refl, omega arith, omega arith) (refl, omega arith, omega arith) (refl, omega arith, omega arith)
     (refl, omega arith, omega arith) (refl, omega arith, omega arith) (refl, omega arith, omega arith) (refl, omega arith, omega arith)

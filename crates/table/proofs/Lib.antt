@@ -1,5 +1,5 @@
--- For callers: an accepted table (`Accepted`), a record of one and its operands (`Opened`), marks, kinds and rows (`Parts`), and the walk over
--- all records (`Walk`).
+-- For callers: an accepted table (`Accepted`), a record of one and its operands (`Opened`), marks, kinds and rows (`Parts`), the walk over all
+-- records (`Walk`), and what right fields say (the middle of `FieldLaws`).
 -- The others are what those and the functions' proofs rest on, from the leaves up.
 pub mod KindLaws
 pub mod HeadLaws

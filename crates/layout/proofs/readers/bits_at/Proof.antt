@@ -1,6 +1,7 @@
 -- `readers::bits_at` meets its contract: a long number is its two halves. Assumes nothing.
 use native.Mathlib.Omega.{arith}
 use Prim.Native.Nat.{_+_}
+use Rattle.layout.specs.Layout.{fieldsAt}
 use Rattle.layout.proofs.LongLaws.{long-is}
 use borrow.Author.Needs.{needs}
 use Rattle.layout.proofs.readers.bits_at.Statement.{statement}
@@ -28,7 +29,7 @@ add-result : tie.Need-add-result
 add-result c = search needs
 
 returns : tie.Need-returns
-returns c = let e = long-is (c .before .before .before .args .table .now) (c .before .before .before .args .at + 3) in omega arith
+returns c = let e = long-is (c .before .before .before .args .table .now) (c .before .before .before .args .at + fieldsAt) in omega arith
 
 pub bits-at-spec : {M : Type 1} → statement M
 bits-at-spec =
