@@ -131,3 +131,13 @@ module _ (t x : List ℕ) (p end : ℕ) where
         operandsOf (λ m q e. readOf t x (levels - 1) m q e) p (marksOf (rowOf k .kind)) b n a ≡ readOf t x levels marked p end
     goes-on zero e h = absurd (omega arith)
     goes-on (suc left) e h = rw (sub-one, step left) (not-refused (fieldsFit x (rowOf k .kind) (numbersOf t p k)) (misplacedOf (rowOf k .kind) marked) p _ (sym e ∙ h))
+
+    -- without operands it ends where its head does
+    pub leaf-ends : (levels : ℕ) {number : ℕ} → number ≡ faultOf x (rowOf k .kind) (numbersOf t p k) levels marked → number ≡ 0 → n ≡ 0 →
+        Ends b ≡ readOf t x levels marked p end
+    unfolding operandsOf
+    leaf-ends levels e h z =
+        let o = found t p end w in
+        let f : a ≡ b = o .first ∙ o .here .leaf (sym (o .count) ∙ z) ∙ sym (o .after) in
+        let g : operandsOf (λ m q e. readOf t x (levels - 1) m q e) p (marksOf (rowOf k .kind)) b 0 a ≡ Ends b = rw (f, eq-eqb b b refl) in
+        sym g ∙ (rw z at (goes-on levels e h))

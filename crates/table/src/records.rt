@@ -98,6 +98,9 @@ pub(crate) fn record_at(
             if number != NO_FAULT {
                 return Read::Refused(number, at);
             }
+            if count == 0 {
+                return Read::Ends(after);
+            }
             operands_at(
                 table,
                 text,

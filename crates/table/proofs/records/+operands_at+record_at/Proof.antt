@@ -14,7 +14,7 @@ use Rattle.table.proofs.records.+operands_at+record_at.{statement}
 use Rattle.table.proofs.records.+operands_at+record_at.Tie.{close}
 use Rattle.table.proofs.records.+operands_at+record_at.Proof.Kit.{μ-operands-at, μ-record-at, operands-at-at, operands-at-below, record-at-at, record-at-below}
 use Rattle.table.proofs.records.+operands_at+record_at.Proof.OperandsAt.{operands-at-Inv-loop, operands-at-μ-loop, operands-at-loop-holds, operands-at-may-mark-requires, operands-at-record-at-requires, operands-at-enum-known-number, operands-at-returns, operands-at-enum-known-after, operands-at-sub-left, operands-at-loop-less, operands-at-loop-again, operands-at-returns-2, operands-at-returns-3}
-use Rattle.table.proofs.records.+operands_at+record_at.Proof.RecordAt.{record-at-head-at-requires, record-at-enum-known-number, record-at-enum-known-kind, record-at-fault-requires, record-at-returns, record-at-marks-of-requires, record-at-sub-operands-at, record-at-operands-at-requires, record-at-returns-2, record-at-returns-3}
+use Rattle.table.proofs.records.+operands_at+record_at.Proof.RecordAt.{record-at-head-at-requires, record-at-enum-known-number, record-at-enum-known-kind, record-at-fault-requires, record-at-returns, record-at-returns-2, record-at-marks-of-requires, record-at-sub-operands-at, record-at-operands-at-requires, record-at-returns-3, record-at-returns-4}
 
 pub +operands-at+record-at-spec : {M : Type 1} → statement M
 +operands-at+record-at-spec = close μ-operands-at μ-record-at (λ t. operands-at-lts.spec (
@@ -55,8 +55,9 @@ pub +operands-at+record-at-spec : {M : Type 1} → statement M
     (record-at-enum-known-kind t)
     (record-at-fault-requires t)
     (record-at-returns t)
+    (record-at-returns-2 t)
     (record-at-marks-of-requires t)
     (record-at-sub-operands-at t)
     (record-at-operands-at-requires t)
-    (record-at-returns-2 t)
     (record-at-returns-3 t)
+    (record-at-returns-4 t)

@@ -4,7 +4,7 @@ use mathlib.Core.Path.{sym, _∙_}
 use Prim.Native.Nat.{ℕ, _-_}
 use native.Mathlib.Omega.{arith}
 use Rattle.table.proofs.HeadLaws.{found}
-use Rattle.table.proofs.RecordLaws.{refused-head, faulty, level-left, goes-on}
+use Rattle.table.proofs.RecordLaws.{refused-head, faulty, level-left, leaf-ends, goes-on}
 use Rattle.table.proofs.records.operands_at.Reads as operands-at
 use Rattle.table.proofs.records.record_at.Reads as record-at
 use Rattle.table.proofs.records.+operands_at+record_at.Lts-record_at as record-at-lts
@@ -80,6 +80,21 @@ record-at-returns t c =
     let w = sym (c .before .before .before .kind .given .1) ∙ c .before .before .before .before .before .head-at .ensures in
     faulty (a .table .now) (a .text .now) (a .at) (a .end) w (a .marked) (a .levels) (c .before .fault .ensures) (c .if1 .taken)
 
+pub record-at-returns-2 : (t : ℕ) → record-at-lts.Need-returns-2 (
+  head-at-reads.Asked,
+  head-at-reads.Learnt,
+  fault-reads.Asked,
+  fault-reads.Learnt,
+  marks-of-reads.Asked,
+  marks-of-reads.Learnt,
+  operands-at-below t,
+  operands-at.Post,
+) (record-at-at t) record-at.Post
+record-at-returns-2 t c =
+    let a = c .before .before .before .before .before .before .before .before .before .args in
+    let w = sym (c .before .before .before .before .kind .given .1) ∙ c .before .before .before .before .before .before .head-at .ensures in
+    leaf-ends (a .table .now) (a .text .now) (a .at) (a .end) w (a .marked) (a .levels) (c .before .before .fault .ensures) (c .before .if1 .left) (c .if2 .taken)
+
 pub record-at-marks-of-requires : (t : ℕ) → record-at-lts.Need-marks-of-requires (
   head-at-reads.Asked,
   head-at-reads.Learnt,
@@ -91,8 +106,8 @@ pub record-at-marks-of-requires : (t : ℕ) → record-at-lts.Need-marks-of-requ
   operands-at.Post,
 ) (record-at-at t) record-at.Post
 record-at-marks-of-requires t c κs =
-    let a = c .before .before .before .before .before .before .before .before .args in
-    let w = sym (c .before .before .before .kind .given .1) ∙ c .before .before .before .before .before .head-at .ensures in
+    let a = c .before .before .before .before .before .before .before .before .before .args in
+    let w = sym (c .before .before .before .before .kind .given .1) ∙ c .before .before .before .before .before .before .head-at .ensures in
     let o = found (a .table .now) (a .at) (a .end) w in
     rw (o .kind) (o .here .known)
 
@@ -107,9 +122,9 @@ pub record-at-sub-operands-at : (t : ℕ) → record-at-lts.Need-sub-operands-at
   operands-at.Post,
 ) (record-at-at t) record-at.Post
 record-at-sub-operands-at t c =
-    let a = c .before .before .before .before .before .before .before .before .before .args in
-    let w = sym (c .before .before .before .before .kind .given .1) ∙ c .before .before .before .before .before .before .head-at .ensures in
-    let h = level-left (a .table .now) (a .text .now) (a .at) (a .end) w (a .marked) (a .levels) (c .before .before .fault .ensures) (c .before .if1 .left) in
+    let a = c .before .before .before .before .before .before .before .before .before .before .args in
+    let w = sym (c .before .before .before .before .before .kind .given .1) ∙ c .before .before .before .before .before .before .before .head-at .ensures in
+    let h = level-left (a .table .now) (a .text .now) (a .at) (a .end) w (a .marked) (a .levels) (c .before .before .before .fault .ensures) (c .before .before .if1 .left) in
     omega arith
 
 pub record-at-operands-at-requires : (t : ℕ) → record-at-lts.Need-operands-at-requires (
@@ -123,25 +138,11 @@ pub record-at-operands-at-requires : (t : ℕ) → record-at-lts.Need-operands-a
   operands-at.Post,
 ) (record-at-at t) record-at.Post
 record-at-operands-at-requires t c κs =
-    let a = c .before .before .before .before .before .before .before .before .before .args in
-    let w = sym (c .before .before .before .before .kind .given .1) ∙ c .before .before .before .before .before .before .head-at .ensures in
+    let a = c .before .before .before .before .before .before .before .before .before .before .args in
+    let w = sym (c .before .before .before .before .before .kind .given .1) ∙ c .before .before .before .before .before .before .before .head-at .ensures in
     let o = found (a .table .now) (a .at) (a .end) w in
-    let h = level-left (a .table .now) (a .text .now) (a .at) (a .end) w (a .marked) (a .levels) (c .before .before .fault .ensures) (c .before .if1 .left) in
+    let h = level-left (a .table .now) (a .text .now) (a .at) (a .end) w (a .marked) (a .levels) (c .before .before .before .fault .ensures) (c .before .before .if1 .left) in
     (omega arith, omega arith)
-
-pub record-at-returns-2 : (t : ℕ) → record-at-lts.Need-returns-2 (
-  head-at-reads.Asked,
-  head-at-reads.Learnt,
-  fault-reads.Asked,
-  fault-reads.Learnt,
-  marks-of-reads.Asked,
-  marks-of-reads.Learnt,
-  operands-at-below t,
-  operands-at.Post,
-) (record-at-at t) record-at.Post
-record-at-returns-2 t c =
-    let a = c .before .before .before .before .before .before .args in
-    refused-head (a .table .now) (a .text .now) (a .at) (a .end) (a .levels) (a .marked) (sym (c .before .number .given .1) ∙ c .before .before .before .head-at .ensures)
 
 pub record-at-returns-3 : (t : ℕ) → record-at-lts.Need-returns-3 (
   head-at-reads.Asked,
@@ -154,8 +155,22 @@ pub record-at-returns-3 : (t : ℕ) → record-at-lts.Need-returns-3 (
   operands-at.Post,
 ) (record-at-at t) record-at.Post
 record-at-returns-3 t c =
-    let a = c .before .before .before .before .before .before .before .before .before .before .args in
-    let w = sym (c .before .before .before .before .before .kind .given .1) ∙ c .before .before .before .before .before .before .before .head-at .ensures in
+    let a = c .before .before .before .before .before .before .args in
+    refused-head (a .table .now) (a .text .now) (a .at) (a .end) (a .levels) (a .marked) (sym (c .before .number .given .1) ∙ c .before .before .before .head-at .ensures)
+
+pub record-at-returns-4 : (t : ℕ) → record-at-lts.Need-returns-4 (
+  head-at-reads.Asked,
+  head-at-reads.Learnt,
+  fault-reads.Asked,
+  fault-reads.Learnt,
+  marks-of-reads.Asked,
+  marks-of-reads.Learnt,
+  operands-at-below t,
+  operands-at.Post,
+) (record-at-at t) record-at.Post
+record-at-returns-4 t c =
+    let a = c .before .before .before .before .before .before .before .before .before .before .before .args in
+    let w = sym (c .before .before .before .before .before .before .kind .given .1) ∙ c .before .before .before .before .before .before .before .before .head-at .ensures in
     c .operands-at .ensures ∙
     (rw (c .before .marks-of .ensures)
-    (goes-on (a .table .now) (a .text .now) (a .at) (a .end) w (a .marked) (a .levels) (c .before .before .before .fault .ensures) (c .before .before .if1 .left)))
+    (goes-on (a .table .now) (a .text .now) (a .at) (a .end) w (a .marked) (a .levels) (c .before .before .before .before .fault .ensures) (c .before .before .before .if1 .left)))
