@@ -10,4 +10,5 @@ pub mod PairSteps
 pub mod Parts
 pub mod Positions
 pub mod ScalarLaws
+pub mod Scopes
 pub mod Words

@@ -5,5 +5,6 @@ pub mod Cells
 pub mod Comparison
 pub mod Equality
 pub mod Rooms
+pub mod Scope
 pub mod Stands
 pub mod Value

@@ -3,5 +3,6 @@ pub mod building;
 pub mod cells;
 pub mod comparison;
 pub mod equality;
+pub mod scope;
 pub mod texts;
 pub mod value;
