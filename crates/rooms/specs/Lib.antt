@@ -2,8 +2,6 @@
 -- for (`Stands`), which the machine's theorem speaks of.
 pub mod Building
 pub mod Cells
-pub mod Comparison
-pub mod Equality
 pub mod Rooms
 pub mod Scope
 pub mod Stands

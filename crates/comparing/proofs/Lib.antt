@@ -1,0 +1,8 @@
+-- Laws. EqualMeaning and OrderMeaning: what the code decides of values that stand is what the definition says. The others are steps to those.
+pub mod EqualMeaning
+pub mod EqualitySteps
+pub mod OrderMeaning
+pub mod PairSteps
+pub mod Parts
+pub mod Positions
+pub mod ScalarLaws

@@ -1,0 +1,95 @@
+-- The order of scalars, as the code decides it, is the definition's. Assumes nothing.
+use Prim.Native.Nat.{ℕ}
+use mathlib.Core.Path.{_≡_, refl, sym, ap, ap₂, _∙_}
+use mathlib.Core.Bool.{Bool, true, false, not, cond, _&&_}
+use mathlib.Core.Option.{Option, none, some, bind}
+use mathlib.Core.List.{List}
+use lib.Dec.{eqb}
+use Rattle.numbers.specs.declared.order.Order.{Order}
+use Rattle.numbers.specs.declared.order.Order.the-variants as Order
+use Rattle.numbers.specs.declared.order.Number.{Number}
+use Rattle.numbers.specs.declared.order.Number.the-variants as Number
+use Rattle.numbers.specs.Order.{orderOf, numberPoint, sizeOrder, signedOrder, wholePoint}
+use Rattle.text.specs.Bytes as Bytes
+use Rattle.meaning.specs.Value.{Scalar, null, bool, int, uint, double, string, bytes}
+use Rattle.meaning.specs.Comparison.{rank, textOrder, thenText, rankOrder, sameClass, scalarOrder}
+use Rattle.comparing.specs.declared.order.Compared.{Compared}
+use Rattle.comparing.specs.declared.order.Compared.the-variants as Compared
+use Rattle.rooms.specs.declared.value.Plain.{Plain}
+use Rattle.rooms.specs.declared.value.Plain.the-variants as Plain
+use Rattle.rooms.specs.Rooms.{part, textOf}
+use Rattle.comparing.specs.Equality.{numberScalar, Seen, seenScalar, seenNone, seenOther, seenOf}
+use Rattle.comparing.specs.Order.{boolOrder, orderSeen, comparedOf}
+use Rattle.comparing.proofs.ScalarLaws.{then-equal, number-class}
+
+-- scalars of two classes have no order
+pub no-order : (x y : Scalar) → eqb (rank x .class) (rank y .class) ≡ false → Compared.Unlike ≡ comparedOf (scalarOrder (rank x) (rank y))
+unfolding scalarOrder sameClass
+no-order x y e = rw e refl
+
+pub number-no-order : (x : Number) (y : Scalar) → eqb 2 (rank y .class) ≡ false → Compared.Unlike ≡ comparedOf (scalarOrder (rank (numberScalar x)) (rank y))
+number-no-order x y e = no-order (numberScalar x) y (rw (number-class x) e)
+
+pub no-order-number : (x : Scalar) (y : Number) → eqb (rank x .class) 2 ≡ false → Compared.Unlike ≡ comparedOf (scalarOrder (rank x) (rank (numberScalar y)))
+no-order-number x y e = no-order x (numberScalar y) (rw (number-class y) e)
+
+-- the class of what is seen; of no scalar's where it is none
+abbrev pub classOf : Plain → ℕ
+classOf Plain.Null = 0
+classOf (Plain.Bool x) = 1
+classOf (Plain.Number n) = 2
+classOf (Plain.String s a n) = 3
+classOf (Plain.Bytes s a n) = 4
+classOf Plain.OptionalNone = 5
+classOf Plain.Other = 6
+
+pub no-order-seen : (l b t : List ℕ) (x : Scalar) (p : Plain) → eqb (rank x .class) (classOf p) ≡ false → Compared.Unlike ≡ comparedOf (orderSeen (seenScalar x) (seenOf l b t p))
+unfolding rank
+no-order-seen l b t x Plain.Null e = no-order x null e
+no-order-seen l b t x (Plain.Bool y) e = no-order x (bool y) e
+no-order-seen l b t x (Plain.Number n) e = no-order-number x n e
+no-order-seen l b t x (Plain.String s a n) e = no-order x (string (part (textOf l b t s) a n)) e
+no-order-seen l b t x (Plain.Bytes s a n) e = no-order x (bytes (part (textOf l b t s) a n)) e
+no-order-seen l b t x Plain.OptionalNone e = refl
+no-order-seen l b t x Plain.Other e = refl
+
+pub number-no-order-seen : (l b t : List ℕ) (x : Number) (p : Plain) → eqb 2 (classOf p) ≡ false → Compared.Unlike ≡ comparedOf (orderSeen (seenScalar (numberScalar x)) (seenOf l b t p))
+number-no-order-seen l b t x p e = no-order-seen l b t (numberScalar x) p (rw (number-class x) e)
+
+-- and Null has none
+pub null-order : (y : Seen) → Compared.Unlike ≡ comparedOf (orderSeen (seenScalar null) y)
+unfolding scalarOrder rank
+null-order (seenScalar y) = go (sameClass (rank null) (rank y))
+  where
+    go : (b : Bool) → Compared.Unlike ≡ comparedOf (cond (b && false) (some (rankOrder (rank null) (rank y))) none)
+    go true = refl
+    go false = refl
+null-order seenNone = refl
+null-order seenOther = refl
+
+pub bool-order : (x y : Bool) → Compared.Is (boolOrder x y) ≡ comparedOf (scalarOrder (rank (bool x)) (rank (bool y)))
+unfolding scalarOrder sameClass rankOrder rank Bytes.orderOf orderOf signedOrder sizeOrder wholePoint thenText textOrder
+bool-order true true = refl
+bool-order true false = refl
+bool-order false true = refl
+bool-order false false = refl
+
+pub number-order : (x y : Number) → Compared.Is (orderOf (numberPoint x) (numberPoint y)) ≡ comparedOf (scalarOrder (rank (numberScalar x)) (rank (numberScalar y)))
+unfolding scalarOrder sameClass rankOrder rank Bytes.orderOf
+number-order (Number.Int a) (Number.Int b) = ap Compared.Is (sym (then-equal _))
+number-order (Number.Int a) (Number.Uint b) = ap Compared.Is (sym (then-equal _))
+number-order (Number.Int a) (Number.Double b) = ap Compared.Is (sym (then-equal _))
+number-order (Number.Uint a) (Number.Int b) = ap Compared.Is (sym (then-equal _))
+number-order (Number.Uint a) (Number.Uint b) = ap Compared.Is (sym (then-equal _))
+number-order (Number.Uint a) (Number.Double b) = ap Compared.Is (sym (then-equal _))
+number-order (Number.Double a) (Number.Int b) = ap Compared.Is (sym (then-equal _))
+number-order (Number.Double a) (Number.Uint b) = ap Compared.Is (sym (then-equal _))
+number-order (Number.Double a) (Number.Double b) = ap Compared.Is (sym (then-equal _))
+
+pub string-order : (s t : List ℕ) → Compared.Is (textOrder (Bytes.orderOf s t)) ≡ comparedOf (scalarOrder (rank (string s)) (rank (string t)))
+unfolding scalarOrder sameClass rankOrder rank orderOf signedOrder sizeOrder wholePoint thenText
+string-order s t = refl
+
+pub bytes-order : (s t : List ℕ) → Compared.Is (textOrder (Bytes.orderOf s t)) ≡ comparedOf (scalarOrder (rank (bytes s)) (rank (bytes t)))
+unfolding scalarOrder sameClass rankOrder rank orderOf signedOrder sizeOrder wholePoint thenText
+bytes-order s t = refl
