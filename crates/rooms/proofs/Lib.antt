@@ -1,7 +1,9 @@
 -- Laws. CellLaws: a cell gives back what was written. Frame: rooms that agree on what a value reaches hold the same value.
--- The others are steps to those.
+-- ReadBack: what stands for a value reads as it. Scopes: what a scope stands for. The others are steps to those.
 pub mod BuildingSteps
 pub mod CellLaws
+pub mod Depths
 pub mod Frame
+pub mod ReadBack
 pub mod Scopes
 pub mod Words
