@@ -1,149 +1,32 @@
 -- Equality and the look-up of a key, where values lie, are the definition's: the same answer after the same count of pairs, and `Out`
 -- exactly where the count would pass the limit. Assumes nothing.
-use Prim.Native.Nat.{ℕ, zero, suc, _+_, _≤_, _<_, max}
+use Prim.Native.Nat.{ℕ, zero, suc, _+_, _<_}
 use mathlib.Core.Path.{_≡_, refl, sym, _∙_, ap, ap₂, subst, fun-ext}
-use mathlib.Core.List.{List, [], _∷_}
 use mathlib.Core.Option.{Option, none, some}
 use mathlib.Core.Bool.{Bool, true, false, cond}
 use native.Mathlib.Omega.{arith}
 use lib.Dec.{eqb, ltb, eqb→eq, T}
-use lib.ListN.{length}
-use Rattle.numbers.specs.declared.double.Double.{Double}
-use Rattle.numbers.specs.declared.double.Double.the-variants as Bits
-use Rattle.numbers.specs.Double.{bitsOf}
 use Rattle.meaning.specs.Value as Meaning
-use Rattle.meaning.specs.Value.{null, bool, int, uint, double, string, bytes, scalar, list, map, optionalNone, optionalOf, nil, cons, empty, entry, nesting, nestingIn, nestingOver, count, countEntries, keyScalar, scalarOf, elementsOf, entriesOf, isNone, partOf}
+use Rattle.meaning.specs.Value.{scalar, list, map, optionalNone, optionalOf, nil, cons, empty, entry, nesting, nestingIn, nestingOver, count, countEntries, keyScalar, scalarOf, elementsOf, entriesOf, isNone, partOf}
 use Rattle.meaning.specs.Comparison as Comparison
-use Rattle.meaning.specs.Comparison.{scalarEqual, Tally, tick, both, either, find, against, elementsAgainst, foundAgainst, equal, equalElements, equalEntries, among}
+use Rattle.meaning.specs.Comparison.{scalarEqual, Tally, tick, both, find, against, elementsAgainst, foundAgainst, equal, equalElements, equalEntries, among}
 use Rattle.rooms.specs.declared.value.Value.{Value}
 use Rattle.rooms.specs.declared.value.Value.the-variants as Value
 use Rattle.rooms.specs.declared.value.Parts.{Parts}
 use Rattle.rooms.specs.declared.value.Parts.the-variants as Parts
 use Rattle.rooms.specs.declared.value.CellSpace.{CellSpace}
+use Rattle.rooms.specs.Value.{partsOf, nestingOf}
+use Rattle.rooms.specs.Rooms.{Rooms, cellAt}
+use Rattle.rooms.specs.Stands.{Alive, StandsScalar, Stands, StandsCells, StandsEntries}
+use Rattle.rooms.proofs.Depths.{deeper-list, deeper-map, deeper-part, first-less, others-less, first-value, other-values, stands-nesting}
 use Rattle.comparing.specs.declared.equality.Pairs.{Pairs}
 use Rattle.comparing.specs.declared.equality.Pairs.the-variants as Pairs
 use Rattle.comparing.specs.declared.lookup.Found.{Found}
 use Rattle.comparing.specs.declared.lookup.Found.the-variants as Found
-use Rattle.rooms.specs.Value.{plainOf, partsOf, nestingOf, doubleValue}
-use Rattle.rooms.specs.Rooms.{Rooms, cellAt}
-use Rattle.rooms.specs.Stands.{Alive, StandsScalar, Stands, StandsCells, StandsEntries}
 use Rattle.comparing.specs.Equality as Machine
-use Rattle.comparing.specs.Equality.{Seen, seenScalar, seenNone, seenOther, sameSeen, seenIn, pairFound, findIn, pair, decided, andThen, whereFound, Compare, elementsEqual, entriesEqual, partsEqual, equalIn, equalPairs, orElse, amongIn, pays, paid, paysFound}
-
--- ---- charges
-
-pays-add : (limit k n m : ℕ) (f : ℕ → Pairs) → pays limit k (n + m) f ≡ pays limit k n (λ j. pays limit j m f)
-pays-add limit k zero m f = ap (λ x. pays limit k x f) (left m)
-  where
-    left : (a : ℕ) → 0 + a ≡ a
-    left a = omega arith
-pays-add limit k (suc n) m f = ap (λ x. pays limit k x f) (shift n m) ∙ ap (pair (ltb k limit) k) (pays-add limit (suc k) n m f)
-  where
-    shift : (a b : ℕ) → suc a + b ≡ suc (a + b)
-    shift a b = omega arith
-
--- what goes on after charges goes on after the last of them
-pays-then : (g : Pairs → Pairs) → ((k : ℕ) → g (Pairs.Out k) ≡ Pairs.Out k) → (limit k n : ℕ) (f : ℕ → Pairs) → g (pays limit k n f) ≡ pays limit k n (λ j. g (f j))
-pays-then g e limit k zero f = refl
-pays-then g e limit k (suc n) f = go (ltb k limit) (pays-then g e limit (suc k) n f)
-  where
-    go : (b : Bool) → g (pays limit (suc k) n f) ≡ pays limit (suc k) n (λ j. g (f j)) → g (pair b k (pays limit (suc k) n f)) ≡ pair b k (pays limit (suc k) n (λ j. g (f j)))
-    go true h = h
-    go false h = e k
-
-pays-found : (g : ℕ → ℕ → Pairs) (limit k n : ℕ) (f : ℕ → Found) → whereFound (paysFound limit k n f) g ≡ pays limit k n (λ j. whereFound (f j) g)
-pays-found g limit k zero f = refl
-pays-found g limit k (suc n) f = go (ltb k limit) (pays-found g limit (suc k) n f)
-  where
-    go : (b : Bool) → whereFound (paysFound limit (suc k) n f) g ≡ pays limit (suc k) n (λ j. whereFound (f j) g) → whereFound (pairFound b k (paysFound limit (suc k) n f)) g ≡ pair b k (pays limit (suc k) n (λ j. whereFound (f j) g))
-    go true h = h
-    go false h = refl
-
--- pairs that go on where they are equal
-both-paid : (limit k : ℕ) (t u : Tally Bool) (f : ℕ → Pairs) → ((j : ℕ) → f j ≡ paid limit j u) → andThen (paid limit k t) f ≡ paid limit k (both t u)
-unfolding paid both
-both-paid limit k t u f h = pays-then (λ p. andThen p f) (λ j. refl) limit k (t .0) (decided (t .1)) ∙ go (t .1)
-  where
-    go : (b : Bool) → pays limit k (t .0) (λ j. andThen (decided b j) f) ≡ paid limit k (cond b (t .0 + u .0, u .1) (t .0, b))
-    go true = ap (pays limit k (t .0)) (fun-ext h) ∙ sym (pays-add limit k (t .0) (u .0) (decided (u .1)))
-    go false = refl
-
--- and where they are not
-either-paid : (limit k : ℕ) (t u : Tally Bool) (f : ℕ → Pairs) → ((j : ℕ) → f j ≡ paid limit j u) → orElse (paid limit k t) f ≡ paid limit k (either t u)
-unfolding paid either
-either-paid limit k t u f h = pays-then (λ p. orElse p f) (λ j. refl) limit k (t .0) (decided (t .1)) ∙ go (t .1)
-  where
-    go : (b : Bool) → pays limit k (t .0) (λ j. orElse (decided b j) f) ≡ paid limit k (cond b (t .0, b) (t .0 + u .0, u .1))
-    go true = refl
-    go false = ap (pays limit k (t .0)) (fun-ext h) ∙ sym (pays-add limit k (t .0) (u .0) (decided (u .1)))
-
--- a pair more, first
-tick-paid : (limit k : ℕ) (t : Tally Bool) → pair (ltb k limit) k (paid limit (suc k) t) ≡ paid limit k (tick t)
-unfolding paid tick
-tick-paid limit k t = refl
-
--- ---- what is seen of a value
-
-abbrev seenValue : Meaning.Value → Seen
-seenValue (scalar x) = seenScalar x
-seenValue (list vs) = seenOther
-seenValue (map es) = seenOther
-seenValue optionalNone = seenNone
-seenValue (optionalOf v) = seenOther
-
-scalar-tally : (x : Meaning.Scalar) (w : Meaning.Value) → against (λ y. Comparison.decided (scalarEqual x y)) (scalarOf w) ≡ (0, sameSeen (seenScalar x) (seenValue w))
-unfolding against scalarOf
-scalar-tally x (scalar y) = refl
-scalar-tally x (list vs) = refl
-scalar-tally x (map es) = refl
-scalar-tally x optionalNone = refl
-scalar-tally x (optionalOf v) = refl
-
-none-tally : (w : Meaning.Value) → isNone w ≡ sameSeen seenNone (seenValue w)
-unfolding isNone
-none-tally (scalar y) = refl
-none-tally (list vs) = refl
-none-tally (map es) = refl
-none-tally optionalNone = refl
-none-tally (optionalOf v) = refl
-
-module _ (L : Alive) (r : Rooms) where
-  double-seen : (x : Double) → seenIn r (doubleValue x) ≡ seenScalar (double (bitsOf x))
-  unfolding seenIn
-  double-seen (Bits.Plain x) = refl
-  double-seen (Bits.Nan b) = refl
-
-  double-parts : (x : Double) → partsOf (doubleValue x) ≡ Parts.Nothing
-  double-parts (Bits.Plain x) = refl
-  double-parts (Bits.Nan b) = refl
-
-  pub scalar-seen : (x : Meaning.Scalar) (m : Value) → StandsScalar x L r m → seenIn r m ≡ seenScalar x
-  unfolding StandsScalar seenIn
-  scalar-seen null m h = ap (seenIn r) h
-  scalar-seen (bool b) m h = ap (seenIn r) h
-  scalar-seen (int z) m h = ap (seenIn r) h
-  scalar-seen (uint n) m h = ap (seenIn r) h
-  scalar-seen (double d) m h = ap (seenIn r) (h .1) ∙ double-seen (h .0) ∙ ap (λ b. seenScalar (double b)) (h .2)
-  scalar-seen (string s) m h = ap (seenIn r) (h .2) ∙ ap (λ t. seenScalar (string t)) (h .3 .spells)
-  scalar-seen (bytes s) m h = ap (seenIn r) (h .2) ∙ ap (λ t. seenScalar (bytes t)) (h .3 .spells)
-
-  scalar-parts : (x : Meaning.Scalar) (m : Value) → StandsScalar x L r m → partsOf m ≡ Parts.Nothing
-  unfolding StandsScalar
-  scalar-parts null m h = ap partsOf h
-  scalar-parts (bool b) m h = ap partsOf h
-  scalar-parts (int z) m h = ap partsOf h
-  scalar-parts (uint n) m h = ap partsOf h
-  scalar-parts (double d) m h = ap partsOf (h .1) ∙ double-parts (h .0)
-  scalar-parts (string s) m h = ap partsOf (h .2)
-  scalar-parts (bytes s) m h = ap partsOf (h .2)
-
-  seen-stands : (w : Meaning.Value) (m : Value) → Stands w L r m → seenIn r m ≡ seenValue w
-  unfolding Stands seenIn
-  seen-stands (scalar x) m h = scalar-seen x m h
-  seen-stands (list vs) m h = ap (seenIn r) (h .2)
-  seen-stands (map es) m h = ap (seenIn r) (h .2)
-  seen-stands optionalNone m h = ap (seenIn r) h
-  seen-stands (optionalOf v) m h = ap (seenIn r) (h .2)
+use Rattle.comparing.specs.Equality.{sameSeen, seenIn, pairFound, findIn, pair, decided, andThen, whereFound, Compare, elementsEqual, entriesEqual, partsEqual, equalIn, equalPairs, orElse, amongIn, pays, paid, paysFound}
+use Rattle.comparing.proofs.Charges.{pays-add, pays-found, both-paid, either-paid, tick-paid}
+use Rattle.comparing.proofs.SeenMeaning.{scalar-tally, none-tally, scalar-seen, scalar-parts, seen-stands}
 
 -- ---- the look-up
 
@@ -249,35 +132,6 @@ module _ (L : Alive) (r : Rooms) (limit : ℕ) where
   unfolding paid seenIn
   none-paid x y w k h i = (λ j. decided (sameSeen (seenIn r (h j)) (seen-stands L r w y i j)) (suc k)) ∙ ap (λ b. decided b (suc k)) (sym (none-tally w))
 
-  -- how deep the parts are
-  deeper-list : (vs : Meaning.Values) (n : ℕ) → nesting (list vs) < suc n → nestingIn vs < n
-  unfolding nesting
-  deeper-list vs n d = omega arith
-
-  deeper-map : (es : Meaning.Entries) (n : ℕ) → nesting (map es) < suc n → nestingOver es < n
-  unfolding nesting
-  deeper-map es n d = omega arith
-
-  deeper-part : (v : Meaning.Value) (n : ℕ) → nesting (optionalOf v) < suc n → nesting v < n
-  unfolding nesting
-  deeper-part v n d = omega arith
-
-  first-less : (v : Meaning.Value) (vs : Meaning.Values) (n : ℕ) → nestingIn (cons v vs) < n → nesting v < n
-  unfolding nesting
-  first-less v vs n d = omega arith
-
-  others-less : (v : Meaning.Value) (vs : Meaning.Values) (n : ℕ) → nestingIn (cons v vs) < n → nestingIn vs < n
-  unfolding nesting
-  others-less v vs n d = omega arith
-
-  first-value : (key : Meaning.Key) (v : Meaning.Value) (es : Meaning.Entries) (n : ℕ) → nestingOver (entry key v es) < n → nesting v < n
-  unfolding nesting
-  first-value key v es n d = omega arith
-
-  other-values : (key : Meaning.Key) (v : Meaning.Value) (es : Meaning.Entries) (n : ℕ) → nestingOver (entry key v es) < n → nestingOver es < n
-  unfolding nesting
-  other-values key v es n d = omega arith
-
   uneven : (v : Meaning.Value) (vs : Meaning.Values) → count (cons v vs) ≡ count nil → ⊥
   unfolding count
   uneven v vs e = omega arith
@@ -335,29 +189,10 @@ module _ (L : Alive) (r : Rooms) (limit : ℕ) where
         (λ w c g j. equal-ok v w n (cellAt r s (suc a)) (cellAt r t c) j (first-value key v es n d) (h .3) g)
         (λ j. entries-ok es fs n s (suc (suc a)) t b j (other-values key v es n d) (h .4) i)
 
-  -- the nesting that a value carries is its own
-  pub stands-nesting : (v : Meaning.Value) (m : Value) → Stands v L r m → nestingOf m ≡ nesting v
-  unfolding Stands StandsScalar nesting
-  stands-nesting (scalar null) m h = ap nestingOf h
-  stands-nesting (scalar (bool b)) m h = ap nestingOf h
-  stands-nesting (scalar (int z)) m h = ap nestingOf h
-  stands-nesting (scalar (uint n)) m h = ap nestingOf h
-  stands-nesting (scalar (double d)) m h = ap nestingOf (h .1) ∙ flat (h .0)
-    where
-      flat : (x : Double) → nestingOf (doubleValue x) ≡ 0
-      flat (Bits.Plain x) = refl
-      flat (Bits.Nan b) = refl
-  stands-nesting (scalar (string s)) m h = ap nestingOf (h .2)
-  stands-nesting (scalar (bytes s)) m h = ap nestingOf (h .2)
-  stands-nesting (list vs) m h = ap nestingOf (h .2)
-  stands-nesting (map es) m h = ap nestingOf (h .2)
-  stands-nesting optionalNone m h = ap nestingOf h
-  stands-nesting (optionalOf v) m h = ap nestingOf (h .2)
-
   -- `equality::equal` answers what the definition's `equal` does, after as many pairs; `Out` exactly where a pair would pass the limit.
   pub equal-pairs : (v w : Meaning.Value) (x y : Value) (k : ℕ) → Stands v L r x → Stands w L r y → equalPairs limit r x y k ≡ paid limit k (equal v w)
   unfolding equalPairs
-  equal-pairs v w x y k h i = equal-ok v w (suc (nestingOf x)) x y k (omega (arith, stands-nesting v x h)) h i
+  equal-pairs v w x y k h i = equal-ok v w (suc (nestingOf x)) x y k (omega (arith, stands-nesting L r v x h)) h i
 
   -- `equality::among` likewise is `among`.
   pub among-ok : (v : Meaning.Value) (ws : Meaning.Values) (x : Value) (space : CellSpace) (a k : ℕ) → Stands v L r x → StandsCells ws L r space a → amongIn limit r x space a (count ws) k ≡ paid limit k (among v ws)

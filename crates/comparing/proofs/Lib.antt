@@ -1,4 +1,5 @@
 -- Laws. EqualMeaning and OrderMeaning: what the code decides of values that stand is what the definition says. The others are steps to those.
+pub mod Charges
 pub mod EqualMeaning
 pub mod EqualitySteps
 pub mod OrderMeaning
@@ -6,3 +7,5 @@ pub mod PairSteps
 pub mod Parts
 pub mod Positions
 pub mod ScalarLaws
+pub mod SeenMeaning
+pub mod SizeMeaning

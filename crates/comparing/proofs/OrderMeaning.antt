@@ -1,4 +1,4 @@
--- The order of scalars, as the code decides it, is the definition's. Assumes nothing.
+-- The order of values, as the code decides it, is the definition's. Assumes nothing.
 use Prim.Native.Nat.{ℕ}
 use mathlib.Core.Path.{_≡_, refl, sym, ap, ap₂, _∙_}
 use mathlib.Core.Bool.{Bool, true, false, not, cond, _&&_}
@@ -11,16 +11,22 @@ use Rattle.numbers.specs.declared.order.Number.{Number}
 use Rattle.numbers.specs.declared.order.Number.the-variants as Number
 use Rattle.numbers.specs.Order.{orderOf, numberPoint, sizeOrder, signedOrder, wholePoint}
 use Rattle.text.specs.Bytes as Bytes
-use Rattle.meaning.specs.Value.{Scalar, null, bool, int, uint, double, string, bytes}
-use Rattle.meaning.specs.Comparison.{rank, textOrder, thenText, rankOrder, sameClass, scalarOrder}
+use Rattle.meaning.specs.Errors.{NoOverload}
+use Rattle.meaning.specs.Run.{pure, charged, after, onValue, _>>=_, fail, orFail}
+use Rattle.meaning.specs.Value as Meaning
+use Rattle.meaning.specs.Value.{Scalar, null, bool, int, uint, double, string, bytes, scalar, list, map, optionalNone, optionalOf, scalarOf}
+use Rattle.meaning.specs.Comparison.{rank, textOrder, thenText, rankOrder, sameClass, scalarOrder, ordered, compareValues}
 use Rattle.comparing.specs.declared.order.Compared.{Compared}
 use Rattle.comparing.specs.declared.order.Compared.the-variants as Compared
 use Rattle.rooms.specs.declared.value.Plain.{Plain}
 use Rattle.rooms.specs.declared.value.Plain.the-variants as Plain
-use Rattle.rooms.specs.Rooms.{part, textOf}
-use Rattle.comparing.specs.Equality.{numberScalar, Seen, seenScalar, seenNone, seenOther, seenOf}
-use Rattle.comparing.specs.Order.{boolOrder, orderSeen, comparedOf}
+use Rattle.rooms.specs.declared.value.Value.{Value}
+use Rattle.rooms.specs.Rooms.{Rooms, part, textOf}
+use Rattle.rooms.specs.Stands.{Alive, Stands}
+use Rattle.comparing.specs.Equality.{numberScalar, Seen, seenScalar, seenNone, seenOther, seenOf, seenIn}
+use Rattle.comparing.specs.Order.{boolOrder, orderSeen, comparedOf, orderRule}
 use Rattle.comparing.proofs.ScalarLaws.{then-equal, number-class}
+use Rattle.comparing.proofs.SeenMeaning.{seenValue, seen-stands}
 
 -- scalars of two classes have no order
 pub no-order : (x y : Scalar) → eqb (rank x .class) (rank y .class) ≡ false → Compared.Unlike ≡ comparedOf (scalarOrder (rank x) (rank y))
@@ -93,3 +99,29 @@ string-order s t = refl
 pub bytes-order : (s t : List ℕ) → Compared.Is (textOrder (Bytes.orderOf s t)) ≡ comparedOf (scalarOrder (rank (bytes s)) (rank (bytes t)))
 unfolding scalarOrder sameClass rankOrder rank orderOf signedOrder sizeOrder wholePoint thenText
 bytes-order s t = refl
+
+-- ---- values that stand
+
+ruled : (o : Option Order) → orderRule (comparedOf o) ≡ _>>=_ (orFail NoOverload o) ordered
+unfolding orFail _>>=_ after charged onValue pure fail ordered
+ruled none = refl
+ruled (some Order.Less) = refl
+ruled (some Order.Equal) = refl
+ruled (some Order.Greater) = refl
+ruled (some Order.Unordered) = refl
+
+seen-order : (v w : Meaning.Value) → orderRule (comparedOf (orderSeen (seenValue v) (seenValue w))) ≡ compareValues v w
+unfolding compareValues scalarOf orFail _>>=_ after charged onValue pure fail
+seen-order (scalar x) (scalar y) = ruled (scalarOrder (rank x) (rank y))
+seen-order (scalar x) (list ws) = refl
+seen-order (scalar x) (map es) = refl
+seen-order (scalar x) optionalNone = refl
+seen-order (scalar x) (optionalOf w) = refl
+seen-order (list vs) w = refl
+seen-order (map es) w = refl
+seen-order optionalNone w = refl
+seen-order (optionalOf v) w = refl
+
+-- `order::compare` answers what the definition's `compareValues` does, of any two values that stand.
+pub order-ok : (L : Alive) (r : Rooms) (v w : Meaning.Value) (x y : Value) → Stands v L r x → Stands w L r y → orderRule (comparedOf (orderSeen (seenIn r x) (seenIn r y))) ≡ compareValues v w
+order-ok L r v w x y h i = (λ k. orderRule (comparedOf (orderSeen (seen-stands L r v x h k) (seen-stands L r w y i k)))) ∙ seen-order v w

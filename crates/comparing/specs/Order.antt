@@ -8,7 +8,9 @@ use lib.IntN.{ℤ, pos, negsuc}
 use Rattle.numbers.specs.declared.order.Order.{Order}
 use Rattle.numbers.specs.declared.order.Order.the-variants as Order
 use Rattle.text.specs.Utf8.{codePoints}
-use Rattle.meaning.specs.Comparison.{rank, scalarOrder}
+use Rattle.meaning.specs.Errors.{NoOverload}
+use Rattle.meaning.specs.Run.{Rule, fail}
+use Rattle.meaning.specs.Comparison.{rank, scalarOrder, ordered}
 use Rattle.rooms.specs.declared.value.Value.{Value}
 use Rattle.rooms.specs.declared.value.Value.the-variants as Value
 use Rattle.comparing.specs.declared.order.Compared.{Compared}
@@ -38,3 +40,8 @@ orderSeen seenOther y = none
 abbrev pub comparedOf : Option Order → Compared
 comparedOf none = Compared.Unlike
 comparedOf (some o) = Compared.Is o
+
+-- what a comparison makes of it
+abbrev pub orderRule : Compared → Rule Order
+orderRule (Compared.Is o) = ordered o
+orderRule Compared.Unlike = fail NoOverload

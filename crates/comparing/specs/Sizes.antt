@@ -5,6 +5,10 @@ use mathlib.Core.Bool.{cond}
 use lib.Dec.{ltb}
 use lib.IntN.{ℤ, pos, negsuc}
 use Rattle.text.specs.Utf8.{codePoints}
+use Rattle.meaning.specs.Errors.{NoOverload}
+use Rattle.meaning.specs.Run.{Rule, fail}
+use Rattle.meaning.specs.Value as Meaning
+use Rattle.meaning.specs.Calls.{counted}
 use Rattle.rooms.specs.declared.value.Value.{Value}
 use Rattle.rooms.specs.declared.value.Value.the-variants as Value
 use Rattle.comparing.specs.declared.sizes.Size.{Size}
@@ -29,6 +33,11 @@ sizeOf l b t (Value.Map d s a n) = Size.Is n
 sizeOf l b t Value.OptionalNone = Size.Unsized
 sizeOf l b t (Value.OptionalOf d s a) = Size.Unsized
 sizeOf l b t Value.Absent = Size.Unsized
+
+-- what the function `size` makes of it
+abbrev pub sizedRule : Size → Rule Meaning.Value
+sizedRule (Size.Is n) = counted n
+sizedRule Size.Unsized = fail NoOverload
 
 -- ---- index
 
