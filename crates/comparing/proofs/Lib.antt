@@ -1,5 +1,6 @@
 -- Laws. EqualMeaning and OrderMeaning: what the code decides of values that stand is what the definition says. The others are steps to those.
 pub mod Charges
+pub mod Classes
 pub mod EqualMeaning
 pub mod EqualitySteps
 pub mod OrderMeaning

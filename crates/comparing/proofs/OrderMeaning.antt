@@ -33,34 +33,8 @@ pub no-order : (x y : Scalar) → eqb (rank x .class) (rank y .class) ≡ false 
 unfolding scalarOrder sameClass
 no-order x y e = rw e refl
 
-pub number-no-order : (x : Number) (y : Scalar) → eqb 2 (rank y .class) ≡ false → Compared.Unlike ≡ comparedOf (scalarOrder (rank (numberScalar x)) (rank y))
-number-no-order x y e = no-order (numberScalar x) y (rw (number-class x) e)
-
 pub no-order-number : (x : Scalar) (y : Number) → eqb (rank x .class) 2 ≡ false → Compared.Unlike ≡ comparedOf (scalarOrder (rank x) (rank (numberScalar y)))
 no-order-number x y e = no-order x (numberScalar y) (rw (number-class y) e)
-
--- the class of what is seen; of no scalar's where it is none
-abbrev pub classOf : Plain → ℕ
-classOf Plain.Null = 0
-classOf (Plain.Bool x) = 1
-classOf (Plain.Number n) = 2
-classOf (Plain.String s a n) = 3
-classOf (Plain.Bytes s a n) = 4
-classOf Plain.OptionalNone = 5
-classOf Plain.Other = 6
-
-pub no-order-seen : (l b t : List ℕ) (x : Scalar) (p : Plain) → eqb (rank x .class) (classOf p) ≡ false → Compared.Unlike ≡ comparedOf (orderSeen (seenScalar x) (seenOf l b t p))
-unfolding rank
-no-order-seen l b t x Plain.Null e = no-order x null e
-no-order-seen l b t x (Plain.Bool y) e = no-order x (bool y) e
-no-order-seen l b t x (Plain.Number n) e = no-order-number x n e
-no-order-seen l b t x (Plain.String s a n) e = no-order x (string (part (textOf l b t s) a n)) e
-no-order-seen l b t x (Plain.Bytes s a n) e = no-order x (bytes (part (textOf l b t s) a n)) e
-no-order-seen l b t x Plain.OptionalNone e = refl
-no-order-seen l b t x Plain.Other e = refl
-
-pub number-no-order-seen : (l b t : List ℕ) (x : Number) (p : Plain) → eqb 2 (classOf p) ≡ false → Compared.Unlike ≡ comparedOf (orderSeen (seenScalar (numberScalar x)) (seenOf l b t p))
-number-no-order-seen l b t x p e = no-order-seen l b t (numberScalar x) p (rw (number-class x) e)
 
 -- and Null has none
 pub null-order : (y : Seen) → Compared.Unlike ≡ comparedOf (orderSeen (seenScalar null) y)

@@ -38,11 +38,11 @@ fn pair(
     text: &[u8],
     limit: usize,
     depth: usize,
-    a: Value,
-    b: Value,
+    left: Value,
+    right: Value,
     steps: usize,
 ) -> Pairs
-    ensures { λ r. ⌜ r ≡ equalIn depth limit (rooms (now (literal .entry)) (now («binding_cells» .entry)) (now («binding_text» .entry)) (now (cells .entry)) (now (text .entry))) a b steps ⌝ }
+    ensures { λ r. ⌜ r ≡ equalIn depth limit (rooms (now (literal .entry)) (now («binding_cells» .entry)) (now («binding_text» .entry)) (now (cells .entry)) (now (text .entry))) left right steps ⌝ }
 {
     if depth == 0 {
         return Pairs::Unlike(steps);
@@ -52,8 +52,8 @@ fn pair(
     }
     let within = depth - 1;
     let pairs = steps + 1;
-    match parts_of(a) {
-        Parts::Elements(space, first, length) => match parts_of(b) {
+    match parts_of(left) {
+        Parts::Elements(space, first, length) => match parts_of(right) {
             Parts::Elements(there, from, count) => {
                 if length != count {
                     return Pairs::Unlike(pairs);
@@ -78,7 +78,7 @@ fn pair(
             Parts::Present(_, _) => Pairs::Unlike(pairs),
             Parts::Nothing => Pairs::Unlike(pairs),
         },
-        Parts::Entries(space, first, length) => match parts_of(b) {
+        Parts::Entries(space, first, length) => match parts_of(right) {
             Parts::Elements(_, _, _) => Pairs::Unlike(pairs),
             Parts::Entries(there, from, count) => {
                 if length != count {
@@ -103,12 +103,12 @@ fn pair(
             Parts::Present(_, _) => Pairs::Unlike(pairs),
             Parts::Nothing => Pairs::Unlike(pairs),
         },
-        Parts::Present(space, cell) => match parts_of(b) {
+        Parts::Present(space, cell) => match parts_of(right) {
             Parts::Elements(_, _, _) => Pairs::Unlike(pairs),
             Parts::Entries(_, _, _) => Pairs::Unlike(pairs),
             Parts::Present(there, other) => {
-                let x = cell_at(binding_cells, cells, space, cell as usize);
-                let y = cell_at(binding_cells, cells, there, other as usize);
+                let part = cell_at(binding_cells, cells, space, cell as usize);
+                let against = cell_at(binding_cells, cells, there, other as usize);
                 pair(
                     literal,
                     binding_cells,
@@ -117,14 +117,14 @@ fn pair(
                     text,
                     limit,
                     within,
-                    x,
-                    y,
+                    part,
+                    against,
                     pairs,
                 )
             }
             Parts::Nothing => Pairs::Unlike(pairs),
         },
-        Parts::Nothing => verdict(plain_equal(literal, binding_text, text, a, b), pairs),
+        Parts::Nothing => verdict(plain_equal(literal, binding_text, text, left, right), pairs),
     }
 }
 
@@ -151,8 +151,8 @@ fn elements(
     let mut left = length as usize;
     let mut pairs = steps;
     while 0 < left {
-        let x = cell_at(binding_cells, cells, space, at);
-        let y = cell_at(binding_cells, cells, there, other);
+        let part = cell_at(binding_cells, cells, space, at);
+        let against = cell_at(binding_cells, cells, there, other);
         match pair(
             literal,
             binding_cells,
@@ -161,8 +161,8 @@ fn elements(
             text,
             limit,
             depth,
-            x,
-            y,
+            part,
+            against,
             pairs,
         ) {
             Pairs::Same(more) => {
@@ -219,8 +219,8 @@ fn entries(
             pairs,
         ) {
             Found::At(cell, looked) => {
-                let x = cell_at(binding_cells, cells, space, at + 1);
-                let y = cell_at(binding_cells, cells, there, cell);
+                let part = cell_at(binding_cells, cells, space, at + 1);
+                let against = cell_at(binding_cells, cells, there, cell);
                 match pair(
                     literal,
                     binding_cells,
@@ -229,8 +229,8 @@ fn entries(
                     text,
                     limit,
                     depth,
-                    x,
-                    y,
+                    part,
+                    against,
                     looked,
                 ) {
                     Pairs::Same(more) => {
@@ -265,13 +265,13 @@ pub fn equal(
     cells: &[u64],
     text: &[u8],
     limit: usize,
-    a: Value,
-    b: Value,
+    left: Value,
+    right: Value,
     steps: usize,
 ) -> Pairs
-    ensures { λ r. ⌜ r ≡ equalPairs limit (rooms (now (literal .entry)) (now («binding_cells» .entry)) (now («binding_text» .entry)) (now (cells .entry)) (now (text .entry))) a b steps ⌝ }
+    ensures { λ r. ⌜ r ≡ equalPairs limit (rooms (now (literal .entry)) (now («binding_cells» .entry)) (now («binding_text» .entry)) (now (cells .entry)) (now (text .entry))) left right steps ⌝ }
 {
-    let depth = nesting_of(a) as usize;
+    let depth = nesting_of(left) as usize;
     pair(
         literal,
         binding_cells,
@@ -280,8 +280,8 @@ pub fn equal(
         text,
         limit,
         depth + 1,
-        a,
-        b,
+        left,
+        right,
         steps,
     )
 }
@@ -294,13 +294,13 @@ pub fn among(
     cells: &[u64],
     text: &[u8],
     limit: usize,
-    v: Value,
+    value: Value,
     space: CellSpace,
     first: u16,
     length: u16,
     steps: usize,
 ) -> Pairs
-    ensures { λ r. ⌜ r ≡ amongIn limit (rooms (now (literal .entry)) (now («binding_cells» .entry)) (now («binding_text» .entry)) (now (cells .entry)) (now (text .entry))) v space first length steps ⌝ }
+    ensures { λ r. ⌜ r ≡ amongIn limit (rooms (now (literal .entry)) (now («binding_cells» .entry)) (now («binding_text» .entry)) (now (cells .entry)) (now (text .entry))) value space first length steps ⌝ }
 {
     let mut at = first as usize;
     let mut left = length as usize;
@@ -314,7 +314,7 @@ pub fn among(
             cells,
             text,
             limit,
-            v,
+            value,
             element,
             pairs,
         ) {

@@ -34,42 +34,32 @@ fn text_order(order: TextOrder) -> Order
 }
 
 // False comes before true.
-fn bool_order(x: bool, y: bool) -> Order
-    ensures { λ r. ⌜ r ≡ boolOrder x y ⌝ }
+fn bool_order(left: bool, right: bool) -> Order
+    ensures { λ r. ⌜ r ≡ boolOrder left right ⌝ }
 {
-    if x {
-        if y { Order::Equal } else { Order::Greater }
+    if left {
+        if right { Order::Equal } else { Order::Greater }
     } else {
-        if y { Order::Less } else { Order::Equal }
+        if right { Order::Less } else { Order::Equal }
     }
 }
 
-fn compare_bool(x: bool, other: Plain) -> Compared
-    ensures { λ r. ⌜ ((l b t : List ℕ) → r ≡ comparedOf (orderSeen (seenScalar (bool x)) (seenOf l b t other))) ⌝ }
+fn compare_bool(left: bool, other: Plain) -> Compared
+    ensures { λ r. ⌜ ((l b t : List ℕ) → r ≡ comparedOf (orderSeen (seenScalar (bool left)) (seenOf l b t other))) ⌝ }
 {
-    match other {
-        Plain::Null => Compared::Unlike,
-        Plain::Bool(y) => Compared::Is(bool_order(x, y)),
-        Plain::Number(_) => Compared::Unlike,
-        Plain::String(_, _, _) => Compared::Unlike,
-        Plain::Bytes(_, _, _) => Compared::Unlike,
-        Plain::OptionalNone => Compared::Unlike,
-        Plain::Other => Compared::Unlike,
-    }
+    let Plain::Bool(right) = other else {
+        return Compared::Unlike;
+    };
+    Compared::Is(bool_order(left, right))
 }
 
-fn compare_number(x: Number, other: Plain) -> Compared
-    ensures { λ r. ⌜ ((l b t : List ℕ) → r ≡ comparedOf (orderSeen (seenScalar (numberScalar x)) (seenOf l b t other))) ⌝ }
+fn compare_number(left: Number, other: Plain) -> Compared
+    ensures { λ r. ⌜ ((l b t : List ℕ) → r ≡ comparedOf (orderSeen (seenScalar (numberScalar left)) (seenOf l b t other))) ⌝ }
 {
-    match other {
-        Plain::Null => Compared::Unlike,
-        Plain::Bool(_) => Compared::Unlike,
-        Plain::Number(y) => Compared::Is(numbers::order::compare(x, y)),
-        Plain::String(_, _, _) => Compared::Unlike,
-        Plain::Bytes(_, _, _) => Compared::Unlike,
-        Plain::OptionalNone => Compared::Unlike,
-        Plain::Other => Compared::Unlike,
-    }
+    let Plain::Number(right) = other else {
+        return Compared::Unlike;
+    };
+    Compared::Is(numbers::order::compare(left, right))
 }
 
 fn compare_string(
@@ -83,27 +73,20 @@ fn compare_string(
 ) -> Compared
     ensures { λ r. ⌜ r ≡ comparedOf (orderSeen (seenScalar (string (part (textOf (now (literal .entry)) (now («binding_text» .entry)) (now (text .entry)) space) first length))) (seenOf (now (literal .entry)) (now («binding_text» .entry)) (now (text .entry)) other)) ⌝ }
 {
-    match other {
-        Plain::Null => Compared::Unlike,
-        Plain::Bool(_) => Compared::Unlike,
-        Plain::Number(_) => Compared::Unlike,
-        Plain::String(there, from, count) => {
-            Compared::Is(text_order(parts_compare(
-                literal,
-                binding_text,
-                text,
-                space,
-                first,
-                length,
-                there,
-                from,
-                count,
-            )))
-        }
-        Plain::Bytes(_, _, _) => Compared::Unlike,
-        Plain::OptionalNone => Compared::Unlike,
-        Plain::Other => Compared::Unlike,
-    }
+    let Plain::String(there, from, count) = other else {
+        return Compared::Unlike;
+    };
+    Compared::Is(text_order(parts_compare(
+        literal,
+        binding_text,
+        text,
+        space,
+        first,
+        length,
+        there,
+        from,
+        count,
+    )))
 }
 
 fn compare_bytes(
@@ -117,44 +100,43 @@ fn compare_bytes(
 ) -> Compared
     ensures { λ r. ⌜ r ≡ comparedOf (orderSeen (seenScalar (bytes (part (textOf (now (literal .entry)) (now («binding_text» .entry)) (now (text .entry)) space) first length))) (seenOf (now (literal .entry)) (now («binding_text» .entry)) (now (text .entry)) other)) ⌝ }
 {
-    match other {
-        Plain::Null => Compared::Unlike,
-        Plain::Bool(_) => Compared::Unlike,
-        Plain::Number(_) => Compared::Unlike,
-        Plain::String(_, _, _) => Compared::Unlike,
-        Plain::Bytes(there, from, count) => {
-            Compared::Is(text_order(parts_compare(
-                literal,
-                binding_text,
-                text,
-                space,
-                first,
-                length,
-                there,
-                from,
-                count,
-            )))
-        }
-        Plain::OptionalNone => Compared::Unlike,
-        Plain::Other => Compared::Unlike,
-    }
+    let Plain::Bytes(there, from, count) = other else {
+        return Compared::Unlike;
+    };
+    Compared::Is(text_order(parts_compare(
+        literal,
+        binding_text,
+        text,
+        space,
+        first,
+        length,
+        there,
+        from,
+        count,
+    )))
 }
 
 // The order of two values of one kind, numbers being of one kind.
-pub fn compare(literal: &[u8], binding_text: &[u8], text: &[u8], a: Value, b: Value) -> Compared
-    ensures { λ r. ⌜ r ≡ comparedOf (orderSeen (seenOf (now (literal .entry)) (now («binding_text» .entry)) (now (text .entry)) (plainOf a)) (seenOf (now (literal .entry)) (now («binding_text» .entry)) (now (text .entry)) (plainOf b))) ⌝ }
+pub fn compare(
+    literal: &[u8],
+    binding_text: &[u8],
+    text: &[u8],
+    first: Value,
+    second: Value,
+) -> Compared
+    ensures { λ r. ⌜ r ≡ comparedOf (orderSeen (seenOf (now (literal .entry)) (now («binding_text» .entry)) (now (text .entry)) (plainOf first)) (seenOf (now (literal .entry)) (now («binding_text» .entry)) (now (text .entry)) (plainOf second))) ⌝ }
 {
-    let left = plain_of(a);
-    let right = plain_of(b);
+    let left = plain_of(first);
+    let right = plain_of(second);
     match left {
         Plain::Null => Compared::Unlike,
-        Plain::Bool(x) => compare_bool(x, right),
-        Plain::Number(x) => compare_number(x, right),
-        Plain::String(space, first, length) => {
-            compare_string(literal, binding_text, text, space, first, length, right)
+        Plain::Bool(value) => compare_bool(value, right),
+        Plain::Number(number) => compare_number(number, right),
+        Plain::String(space, at, length) => {
+            compare_string(literal, binding_text, text, space, at, length, right)
         }
-        Plain::Bytes(space, first, length) => {
-            compare_bytes(literal, binding_text, text, space, first, length, right)
+        Plain::Bytes(space, at, length) => {
+            compare_bytes(literal, binding_text, text, space, at, length, right)
         }
         Plain::OptionalNone => Compared::Unlike,
         Plain::Other => Compared::Unlike,

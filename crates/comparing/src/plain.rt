@@ -18,12 +18,7 @@ fn same_null(other: Plain) -> bool
 {
     match other {
         Plain::Null => true,
-        Plain::Bool(_) => false,
-        Plain::Number(_) => false,
-        Plain::String(_, _, _) => false,
-        Plain::Bytes(_, _, _) => false,
-        Plain::OptionalNone => false,
-        Plain::Other => false,
+        _ => false,
     }
 }
 
@@ -31,43 +26,28 @@ fn same_none(other: Plain) -> bool
     ensures { λ r. ⌜ ((l b t : List ℕ) → r ≡ sameSeen seenNone (seenOf l b t other)) ⌝ }
 {
     match other {
-        Plain::Null => false,
-        Plain::Bool(_) => false,
-        Plain::Number(_) => false,
-        Plain::String(_, _, _) => false,
-        Plain::Bytes(_, _, _) => false,
         Plain::OptionalNone => true,
-        Plain::Other => false,
+        _ => false,
     }
 }
 
-fn same_bool(x: bool, other: Plain) -> bool
-    ensures { λ r. ⌜ ((l b t : List ℕ) → r ≡ sameSeen (seenScalar (bool x)) (seenOf l b t other)) ⌝ }
+fn same_bool(left: bool, other: Plain) -> bool
+    ensures { λ r. ⌜ ((l b t : List ℕ) → r ≡ sameSeen (seenScalar (bool left)) (seenOf l b t other)) ⌝ }
 {
-    match other {
-        Plain::Null => false,
-        Plain::Bool(y) => { if x { y } else { !y } }
-        Plain::Number(_) => false,
-        Plain::String(_, _, _) => false,
-        Plain::Bytes(_, _, _) => false,
-        Plain::OptionalNone => false,
-        Plain::Other => false,
-    }
+    let Plain::Bool(right) = other else {
+        return false;
+    };
+    if left { right } else { !right }
 }
 
 // Numbers of all kinds are equal where they are the same point of the exact line.
-fn same_number(x: Number, other: Plain) -> bool
-    ensures { λ r. ⌜ ((l b t : List ℕ) → r ≡ sameSeen (seenScalar (numberScalar x)) (seenOf l b t other)) ⌝ }
+fn same_number(left: Number, other: Plain) -> bool
+    ensures { λ r. ⌜ ((l b t : List ℕ) → r ≡ sameSeen (seenScalar (numberScalar left)) (seenOf l b t other)) ⌝ }
 {
-    match other {
-        Plain::Null => false,
-        Plain::Bool(_) => false,
-        Plain::Number(y) => numbers::order::equal(x, y),
-        Plain::String(_, _, _) => false,
-        Plain::Bytes(_, _, _) => false,
-        Plain::OptionalNone => false,
-        Plain::Other => false,
-    }
+    let Plain::Number(right) = other else {
+        return false;
+    };
+    numbers::order::equal(left, right)
 }
 
 fn same_string(
@@ -81,27 +61,20 @@ fn same_string(
 ) -> bool
     ensures { λ r. ⌜ r ≡ sameSeen (seenScalar (string (part (textOf (now (literal .entry)) (now («binding_text» .entry)) (now (text .entry)) space) first length))) (seenOf (now (literal .entry)) (now («binding_text» .entry)) (now (text .entry)) other) ⌝ }
 {
-    match other {
-        Plain::Null => false,
-        Plain::Bool(_) => false,
-        Plain::Number(_) => false,
-        Plain::String(there, from, count) => {
-            parts_equal(
-                literal,
-                binding_text,
-                text,
-                space,
-                first,
-                length,
-                there,
-                from,
-                count,
-            )
-        }
-        Plain::Bytes(_, _, _) => false,
-        Plain::OptionalNone => false,
-        Plain::Other => false,
-    }
+    let Plain::String(there, from, count) = other else {
+        return false;
+    };
+    parts_equal(
+        literal,
+        binding_text,
+        text,
+        space,
+        first,
+        length,
+        there,
+        from,
+        count,
+    )
 }
 
 fn same_bytes(
@@ -115,44 +88,43 @@ fn same_bytes(
 ) -> bool
     ensures { λ r. ⌜ r ≡ sameSeen (seenScalar (bytes (part (textOf (now (literal .entry)) (now («binding_text» .entry)) (now (text .entry)) space) first length))) (seenOf (now (literal .entry)) (now («binding_text» .entry)) (now (text .entry)) other) ⌝ }
 {
-    match other {
-        Plain::Null => false,
-        Plain::Bool(_) => false,
-        Plain::Number(_) => false,
-        Plain::String(_, _, _) => false,
-        Plain::Bytes(there, from, count) => {
-            parts_equal(
-                literal,
-                binding_text,
-                text,
-                space,
-                first,
-                length,
-                there,
-                from,
-                count,
-            )
-        }
-        Plain::OptionalNone => false,
-        Plain::Other => false,
-    }
+    let Plain::Bytes(there, from, count) = other else {
+        return false;
+    };
+    parts_equal(
+        literal,
+        binding_text,
+        text,
+        space,
+        first,
+        length,
+        there,
+        from,
+        count,
+    )
 }
 
 // Whether two values without parts are equal.
-pub fn plain_equal(literal: &[u8], binding_text: &[u8], text: &[u8], a: Value, b: Value) -> bool
-    ensures { λ r. ⌜ r ≡ sameSeen (seenOf (now (literal .entry)) (now («binding_text» .entry)) (now (text .entry)) (plainOf a)) (seenOf (now (literal .entry)) (now («binding_text» .entry)) (now (text .entry)) (plainOf b)) ⌝ }
+pub fn plain_equal(
+    literal: &[u8],
+    binding_text: &[u8],
+    text: &[u8],
+    first: Value,
+    second: Value,
+) -> bool
+    ensures { λ r. ⌜ r ≡ sameSeen (seenOf (now (literal .entry)) (now («binding_text» .entry)) (now (text .entry)) (plainOf first)) (seenOf (now (literal .entry)) (now («binding_text» .entry)) (now (text .entry)) (plainOf second)) ⌝ }
 {
-    let left = plain_of(a);
-    let right = plain_of(b);
+    let left = plain_of(first);
+    let right = plain_of(second);
     match left {
         Plain::Null => same_null(right),
-        Plain::Bool(x) => same_bool(x, right),
-        Plain::Number(x) => same_number(x, right),
-        Plain::String(space, first, length) => {
-            same_string(literal, binding_text, text, space, first, length, right)
+        Plain::Bool(value) => same_bool(value, right),
+        Plain::Number(number) => same_number(number, right),
+        Plain::String(space, at, length) => {
+            same_string(literal, binding_text, text, space, at, length, right)
         }
-        Plain::Bytes(space, first, length) => {
-            same_bytes(literal, binding_text, text, space, first, length, right)
+        Plain::Bytes(space, at, length) => {
+            same_bytes(literal, binding_text, text, space, at, length, right)
         }
         Plain::OptionalNone => same_none(right),
         Plain::Other => false,

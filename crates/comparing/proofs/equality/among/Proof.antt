@@ -29,7 +29,7 @@ enum-known-more c = search needs
 
 returns : tie.Need-returns Inv-loop μ-loop
 unfolding cellAt
-returns c = among-same (c .before .before .before .before .before .before .before .before .before .before .before .before .args .limit) (rooms (c .before .before .before .before .before .before .before .before .before .before .before .before .args .literal .now) (c .before .before .before .before .before .before .before .before .before .before .before .before .args .binding-cells .now) (c .before .before .before .before .before .before .before .before .before .before .before .before .args .binding-text .now) (c .before .before .before .before .before .before .before .before .before .before .before .before .args .cells .now) (c .before .before .before .before .before .before .before .before .before .before .before .before .args .text .now)) (c .before .before .before .before .before .before .before .before .before .before .before .before .args .v) (c .before .before .before .before .before .before .before .before .before .before .before .before .args .space) (c .before .before .before .before .before .before .loop .at) (c .before .before .before .before .before .before .loop .left) (c .before .before .before .before .before .before .loop .pairs) (c .before .more .given .0 .0) (c .before .before .before .equal .result) (c .before .before .before .before .before .loop-test .taken) (c .before .before .before .equal .ensures ∙ (λ i. equalPairs (c .before .before .before .before .before .before .before .before .before .before .before .before .args .limit) (rooms (c .before .before .before .before .before .before .before .before .before .before .before .before .args .literal .now) (c .before .before .before .before .before .before .before .before .before .before .before .before .args .binding-cells .now) (c .before .before .before .before .before .before .before .before .before .before .before .before .args .binding-text .now) (c .before .before .before .before .before .before .before .before .before .before .before .before .args .cells .now) (c .before .before .before .before .before .before .before .before .before .before .before .before .args .text .now)) (c .before .before .before .before .before .before .before .before .before .before .before .before .args .v) (c .before .before .before .before .cell-at .ensures i) (c .before .before .before .before .before .before .loop .pairs))) (c .before .more .given .1) ∙ c .before .before .before .before .before .before .loop .inv .1
+returns c = among-same (c .before .before .before .before .before .before .before .before .before .before .before .before .args .limit) (rooms (c .before .before .before .before .before .before .before .before .before .before .before .before .args .literal .now) (c .before .before .before .before .before .before .before .before .before .before .before .before .args .binding-cells .now) (c .before .before .before .before .before .before .before .before .before .before .before .before .args .binding-text .now) (c .before .before .before .before .before .before .before .before .before .before .before .before .args .cells .now) (c .before .before .before .before .before .before .before .before .before .before .before .before .args .text .now)) (c .before .before .before .before .before .before .before .before .before .before .before .before .args .value) (c .before .before .before .before .before .before .before .before .before .before .before .before .args .space) (c .before .before .before .before .before .before .loop .at) (c .before .before .before .before .before .before .loop .left) (c .before .before .before .before .before .before .loop .pairs) (c .before .more .given .0 .0) (c .before .before .before .equal .result) (c .before .before .before .before .before .loop-test .taken) (c .before .before .before .equal .ensures ∙ (λ i. equalPairs (c .before .before .before .before .before .before .before .before .before .before .before .before .args .limit) (rooms (c .before .before .before .before .before .before .before .before .before .before .before .before .args .literal .now) (c .before .before .before .before .before .before .before .before .before .before .before .before .args .binding-cells .now) (c .before .before .before .before .before .before .before .before .before .before .before .before .args .binding-text .now) (c .before .before .before .before .before .before .before .before .before .before .before .before .args .cells .now) (c .before .before .before .before .before .before .before .before .before .before .before .before .args .text .now)) (c .before .before .before .before .before .before .before .before .before .before .before .before .args .value) (c .before .before .before .before .cell-at .ensures i) (c .before .before .before .before .before .before .loop .pairs))) (c .before .more .given .1) ∙ c .before .before .before .before .before .before .loop .inv .1
 
 enum-known-more-2 : tie.Need-enum-known-more-2 Inv-loop μ-loop
 enum-known-more-2 c = search needs
@@ -39,7 +39,7 @@ enum-known-more-3 c = search needs
 
 returns-2 : tie.Need-returns-2 Inv-loop μ-loop
 unfolding cellAt
-returns-2 c = among-out (c .before .before .before .before .before .before .before .before .before .before .before .before .args .limit) (rooms (c .before .before .before .before .before .before .before .before .before .before .before .before .args .literal .now) (c .before .before .before .before .before .before .before .before .before .before .before .before .args .binding-cells .now) (c .before .before .before .before .before .before .before .before .before .before .before .before .args .binding-text .now) (c .before .before .before .before .before .before .before .before .before .before .before .before .args .cells .now) (c .before .before .before .before .before .before .before .before .before .before .before .before .args .text .now)) (c .before .before .before .before .before .before .before .before .before .before .before .before .args .v) (c .before .before .before .before .before .before .before .before .before .before .before .before .args .space) (c .before .before .before .before .before .before .loop .at) (c .before .before .before .before .before .before .loop .left) (c .before .before .before .before .before .before .loop .pairs) (c .before .more3 .given .0 .0) (c .before .before .before .equal .result) (c .before .before .before .before .before .loop-test .taken) (c .before .before .before .equal .ensures ∙ (λ i. equalPairs (c .before .before .before .before .before .before .before .before .before .before .before .before .args .limit) (rooms (c .before .before .before .before .before .before .before .before .before .before .before .before .args .literal .now) (c .before .before .before .before .before .before .before .before .before .before .before .before .args .binding-cells .now) (c .before .before .before .before .before .before .before .before .before .before .before .before .args .binding-text .now) (c .before .before .before .before .before .before .before .before .before .before .before .before .args .cells .now) (c .before .before .before .before .before .before .before .before .before .before .before .before .args .text .now)) (c .before .before .before .before .before .before .before .before .before .before .before .before .args .v) (c .before .before .before .before .cell-at .ensures i) (c .before .before .before .before .before .before .loop .pairs))) (c .before .more3 .given .1) ∙ c .before .before .before .before .before .before .loop .inv .1
+returns-2 c = among-out (c .before .before .before .before .before .before .before .before .before .before .before .before .args .limit) (rooms (c .before .before .before .before .before .before .before .before .before .before .before .before .args .literal .now) (c .before .before .before .before .before .before .before .before .before .before .before .before .args .binding-cells .now) (c .before .before .before .before .before .before .before .before .before .before .before .before .args .binding-text .now) (c .before .before .before .before .before .before .before .before .before .before .before .before .args .cells .now) (c .before .before .before .before .before .before .before .before .before .before .before .before .args .text .now)) (c .before .before .before .before .before .before .before .before .before .before .before .before .args .value) (c .before .before .before .before .before .before .before .before .before .before .before .before .args .space) (c .before .before .before .before .before .before .loop .at) (c .before .before .before .before .before .before .loop .left) (c .before .before .before .before .before .before .loop .pairs) (c .before .more3 .given .0 .0) (c .before .before .before .equal .result) (c .before .before .before .before .before .loop-test .taken) (c .before .before .before .equal .ensures ∙ (λ i. equalPairs (c .before .before .before .before .before .before .before .before .before .before .before .before .args .limit) (rooms (c .before .before .before .before .before .before .before .before .before .before .before .before .args .literal .now) (c .before .before .before .before .before .before .before .before .before .before .before .before .args .binding-cells .now) (c .before .before .before .before .before .before .before .before .before .before .before .before .args .binding-text .now) (c .before .before .before .before .before .before .before .before .before .before .before .before .args .cells .now) (c .before .before .before .before .before .before .before .before .before .before .before .before .args .text .now)) (c .before .before .before .before .before .before .before .before .before .before .before .before .args .value) (c .before .before .before .before .cell-at .ensures i) (c .before .before .before .before .before .before .loop .pairs))) (c .before .more3 .given .1) ∙ c .before .before .before .before .before .before .loop .inv .1
 
 add-at : tie.Need-add-at Inv-loop μ-loop
 add-at c = search needs
@@ -52,10 +52,10 @@ loop-less c = search needs
 
 loop-again : tie.Need-loop-again Inv-loop μ-loop
 unfolding cellAt
-loop-again c = (omega arith, among-on (c .before .before .before .before .before .before .before .before .before .before .before .before .args .limit) (rooms (c .before .before .before .before .before .before .before .before .before .before .before .before .args .literal .now) (c .before .before .before .before .before .before .before .before .before .before .before .before .args .binding-cells .now) (c .before .before .before .before .before .before .before .before .before .before .before .before .args .binding-text .now) (c .before .before .before .before .before .before .before .before .before .before .before .before .args .cells .now) (c .before .before .before .before .before .before .before .before .before .before .before .before .args .text .now)) (c .before .before .before .before .before .before .before .before .before .before .before .before .args .v) (c .before .before .before .before .before .before .before .before .before .before .before .before .args .space) (c .before .before .before .before .before .before .loop .at) (c .before .before .before .before .before .before .loop .left) (c .before .before .before .before .before .before .loop .pairs) (c .before .more2 .given .0 .0) (c .before .before .before .equal .result) (c .before .before .before .before .before .loop-test .taken) (c .before .before .before .equal .ensures ∙ (λ i. equalPairs (c .before .before .before .before .before .before .before .before .before .before .before .before .args .limit) (rooms (c .before .before .before .before .before .before .before .before .before .before .before .before .args .literal .now) (c .before .before .before .before .before .before .before .before .before .before .before .before .args .binding-cells .now) (c .before .before .before .before .before .before .before .before .before .before .before .before .args .binding-text .now) (c .before .before .before .before .before .before .before .before .before .before .before .before .args .cells .now) (c .before .before .before .before .before .before .before .before .before .before .before .before .args .text .now)) (c .before .before .before .before .before .before .before .before .before .before .before .before .args .v) (c .before .before .before .before .cell-at .ensures i) (c .before .before .before .before .before .before .loop .pairs))) (c .before .more2 .given .1) ∙ c .before .before .before .before .before .before .loop .inv .1)
+loop-again c = (omega arith, among-on (c .before .before .before .before .before .before .before .before .before .before .before .before .args .limit) (rooms (c .before .before .before .before .before .before .before .before .before .before .before .before .args .literal .now) (c .before .before .before .before .before .before .before .before .before .before .before .before .args .binding-cells .now) (c .before .before .before .before .before .before .before .before .before .before .before .before .args .binding-text .now) (c .before .before .before .before .before .before .before .before .before .before .before .before .args .cells .now) (c .before .before .before .before .before .before .before .before .before .before .before .before .args .text .now)) (c .before .before .before .before .before .before .before .before .before .before .before .before .args .value) (c .before .before .before .before .before .before .before .before .before .before .before .before .args .space) (c .before .before .before .before .before .before .loop .at) (c .before .before .before .before .before .before .loop .left) (c .before .before .before .before .before .before .loop .pairs) (c .before .more2 .given .0 .0) (c .before .before .before .equal .result) (c .before .before .before .before .before .loop-test .taken) (c .before .before .before .equal .ensures ∙ (λ i. equalPairs (c .before .before .before .before .before .before .before .before .before .before .before .before .args .limit) (rooms (c .before .before .before .before .before .before .before .before .before .before .before .before .args .literal .now) (c .before .before .before .before .before .before .before .before .before .before .before .before .args .binding-cells .now) (c .before .before .before .before .before .before .before .before .before .before .before .before .args .binding-text .now) (c .before .before .before .before .before .before .before .before .before .before .before .before .args .cells .now) (c .before .before .before .before .before .before .before .before .before .before .before .before .args .text .now)) (c .before .before .before .before .before .before .before .before .before .before .before .before .args .value) (c .before .before .before .before .cell-at .ensures i) (c .before .before .before .before .before .before .loop .pairs))) (c .before .more2 .given .1) ∙ c .before .before .before .before .before .before .loop .inv .1)
 
 returns-3 : tie.Need-returns-3 Inv-loop μ-loop
-returns-3 c = among-none (c .before .before .before .before .before .before .before .args .limit) (rooms (c .before .before .before .before .before .before .before .args .literal .now) (c .before .before .before .before .before .before .before .args .binding-cells .now) (c .before .before .before .before .before .before .before .args .binding-text .now) (c .before .before .before .before .before .before .before .args .cells .now) (c .before .before .before .before .before .before .before .args .text .now)) (c .before .before .before .before .before .before .before .args .v) (c .before .before .before .before .before .before .before .args .space) (c .before .loop .at) (c .before .loop .left) (c .before .loop .pairs) (c .loop-test .left) ∙ c .before .loop .inv .1
+returns-3 c = among-none (c .before .before .before .before .before .before .before .args .limit) (rooms (c .before .before .before .before .before .before .before .args .literal .now) (c .before .before .before .before .before .before .before .args .binding-cells .now) (c .before .before .before .before .before .before .before .args .binding-text .now) (c .before .before .before .before .before .before .before .args .cells .now) (c .before .before .before .before .before .before .before .args .text .now)) (c .before .before .before .before .before .before .before .args .value) (c .before .before .before .before .before .before .before .args .space) (c .before .loop .at) (c .before .loop .left) (c .before .loop .pairs) (c .loop-test .left) ∙ c .before .loop .inv .1
 
 pub among-spec : {M : Type 1} → statement M
 among-spec =

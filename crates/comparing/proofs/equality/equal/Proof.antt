@@ -21,7 +21,7 @@ pair-requires c κs = search needs
 
 returns : tie.Need-returns
 unfolding equalPairs
-returns c = c .pair .ensures ∙ ap (λ n. equalIn n (c .before .before .before .before .before .before .before .args .limit) (rooms (c .before .before .before .before .before .before .before .args .literal .now) (c .before .before .before .before .before .before .before .args .binding-cells .now) (c .before .before .before .before .before .before .before .args .binding-text .now) (c .before .before .before .before .before .before .before .args .cells .now) (c .before .before .before .before .before .before .before .args .text .now)) (c .before .before .before .before .before .before .before .args .a) (c .before .before .before .before .before .before .before .args .b) (c .before .before .before .before .before .before .before .args .steps)) (add-one (c .before .nesting-of .result) ∙ ap (λ n. n) (λ i. Prim.Native.Nat.suc (c .before .nesting-of .ensures i)))
+returns c = c .pair .ensures ∙ ap (λ n. equalIn n (c .before .before .before .before .before .before .before .args .limit) (rooms (c .before .before .before .before .before .before .before .args .literal .now) (c .before .before .before .before .before .before .before .args .binding-cells .now) (c .before .before .before .before .before .before .before .args .binding-text .now) (c .before .before .before .before .before .before .before .args .cells .now) (c .before .before .before .before .before .before .before .args .text .now)) (c .before .before .before .before .before .before .before .args .left) (c .before .before .before .before .before .before .before .args .right) (c .before .before .before .before .before .before .before .args .steps)) (add-one (c .before .nesting-of .result) ∙ ap (λ n. n) (λ i. Prim.Native.Nat.suc (c .before .nesting-of .ensures i)))
 
 pub equal-spec : {M : Type 1} → statement M
 equal-spec = tie.close (tie.spec nesting-of-requires cast-depth add-pair pair-requires returns)

@@ -1,81 +1,26 @@
 -- `order::compare_bool` meets its contract. Assumes nothing.
-use mathlib.Core.Path.{refl, _∙_, ap}
+use mathlib.Core.Path.{ap, _∙_}
 use Rattle.meaning.specs.Value.{bool}
 use Rattle.meaning.specs.Comparison.{rank}
-use Rattle.comparing.proofs.OrderMeaning.{no-order-seen, bool-order}
 use Rattle.comparing.specs.declared.order.Compared.the-variants as Compared
+use Rattle.comparing.proofs.OrderMeaning.{bool-order}
+use Rattle.comparing.proofs.Classes.{other-class, no-order-seen}
 use borrow.Author.Needs.{needs}
 use Rattle.comparing.proofs.order.compare_bool.Statement.{statement}
 use Rattle.comparing.proofs.order.compare_bool.Tie as tie
 
-enum-told : tie.Need-enum-told
-enum-told c = search needs
-
 enum-known-other : tie.Need-enum-known-other
 enum-known-other c = search needs
+
+returns : tie.Need-returns
+unfolding rank
+returns c = λ l b t. no-order-seen l b t (bool (c .before .args .left)) (c .before .args .other) (other-class 1 (c .before .args .other) (c .match .keys2))
 
 bool-order-requires : tie.Need-bool-order-requires
 bool-order-requires c κs = search needs
 
-enum-told-2 : tie.Need-enum-told-2
-enum-told-2 c = search needs
-
-enum-told-3 : tie.Need-enum-told-3
-enum-told-3 c = search needs
-
-enum-told-4 : tie.Need-enum-told-4
-enum-told-4 c = search needs
-
-enum-told-5 : tie.Need-enum-told-5
-enum-told-5 c = search needs
-
-enum-told-6 : tie.Need-enum-told-6
-enum-told-6 c = search needs
-
-returns : tie.Need-returns
-unfolding rank
-returns c = λ l b t. no-order-seen l b t (bool (c .before .before .args .x)) (c .before .before .args .other) (rw (c .enum-told .given .1) refl)
-
 returns-2 : tie.Need-returns-2
--- the same kind
-returns-2 c = λ l b t. simp (c .before .before .other .given .1) (ap Compared.Is (c .bool-order .ensures) ∙ bool-order (c .before .before .before .before .args .x) (c .before .before .other .given .0 .0))
-
-returns-3 : tie.Need-returns-3
-unfolding rank
-returns-3 c = λ l b t. no-order-seen l b t (bool (c .before .before .args .x)) (c .before .before .args .other) (rw (c .enum-told2 .given .1) refl)
-
-returns-4 : tie.Need-returns-4
-unfolding rank
-returns-4 c = λ l b t. no-order-seen l b t (bool (c .before .before .args .x)) (c .before .before .args .other) (rw (c .enum-told3 .given .1) refl)
-
-returns-5 : tie.Need-returns-5
-unfolding rank
-returns-5 c = λ l b t. no-order-seen l b t (bool (c .before .before .args .x)) (c .before .before .args .other) (rw (c .enum-told4 .given .1) refl)
-
-returns-6 : tie.Need-returns-6
-unfolding rank
-returns-6 c = λ l b t. no-order-seen l b t (bool (c .before .before .args .x)) (c .before .before .args .other) (rw (c .enum-told5 .given .1) refl)
-
-returns-7 : tie.Need-returns-7
-unfolding rank
-returns-7 c = λ l b t. no-order-seen l b t (bool (c .before .before .args .x)) (c .before .before .args .other) (rw (c .enum-told6 .given .1) refl)
+returns-2 c = λ l b t. simp (c .before .before .other .given .1) (ap Compared.Is (c .bool-order .ensures) ∙ bool-order (c .before .before .before .before .args .left) (c .before .before .other .given .0 .0))
 
 pub compare-bool-spec : {M : Type 1} → statement M
-compare-bool-spec =
-    tie.close
-    (tie.spec
-    enum-told
-    enum-known-other
-    bool-order-requires
-    enum-told-2
-    enum-told-3
-    enum-told-4
-    enum-told-5
-    enum-told-6
-    returns
-    returns-2
-    returns-3
-    returns-4
-    returns-5
-    returns-6
-    returns-7)
+compare-bool-spec = tie.close (tie.spec enum-known-other returns bool-order-requires returns-2)

@@ -1,81 +1,25 @@
--- `equality::same_bool` meets its contract. Assumes nothing.
+-- `plain::same_bool` meets its contract. Assumes nothing.
 use mathlib.Core.Bool.{true, false}
-use mathlib.Core.Path.{refl}
+use Rattle.meaning.specs.Value.{bool}
 use Rattle.meaning.specs.Comparison.{rank}
-use Rattle.comparing.proofs.ScalarLaws.{apart, apart-number, bool-same}
+use Rattle.comparing.proofs.ScalarLaws.{bool-same}
+use Rattle.comparing.proofs.Classes.{other-class, unlike-seen}
 use borrow.Author.Needs.{needs}
 use Rattle.comparing.proofs.plain.same_bool.Statement.{statement}
 use Rattle.comparing.proofs.plain.same_bool.Tie as tie
 
-enum-told : tie.Need-enum-told
-enum-told c = search needs
-
 enum-known-other : tie.Need-enum-known-other
 enum-known-other c = search needs
 
-enum-told-2 : tie.Need-enum-told-2
-enum-told-2 c = search needs
-
-enum-told-3 : tie.Need-enum-told-3
-enum-told-3 c = search needs
-
-enum-told-4 : tie.Need-enum-told-4
-enum-told-4 c = search needs
-
-enum-told-5 : tie.Need-enum-told-5
-enum-told-5 c = search needs
-
-enum-told-6 : tie.Need-enum-told-6
-enum-told-6 c = search needs
-
 returns : tie.Need-returns
 unfolding rank
-returns c = λ l b t. simp (c .enum-told .given .1) (apart _ _ refl)
+returns c = λ l b t. unlike-seen l b t (bool (c .before .args .left)) (c .before .args .other) (other-class 1 (c .before .args .other) (c .match .keys2))
 
 returns-2 : tie.Need-returns-2
-unfolding rank
 returns-2 c = λ l b t. simp (c .before .before .other .given .1, c .if1 .taken) (bool-same true _)
 
 returns-3 : tie.Need-returns-3
-unfolding rank
 returns-3 c = λ l b t. simp (c .before .before .other .given .1, c .if1 .left) (bool-same false _)
 
-returns-4 : tie.Need-returns-4
-unfolding rank
-returns-4 c = λ l b t. simp (c .enum-told2 .given .1) (apart-number _ (c .enum-told2 .given .0 .0) refl)
-
-returns-5 : tie.Need-returns-5
-unfolding rank
-returns-5 c = λ l b t. simp (c .enum-told3 .given .1) (apart _ _ refl)
-
-returns-6 : tie.Need-returns-6
-unfolding rank
-returns-6 c = λ l b t. simp (c .enum-told4 .given .1) (apart _ _ refl)
-
-returns-7 : tie.Need-returns-7
-unfolding rank
-returns-7 c = λ l b t. simp (c .enum-told5 .given .1)
-
-returns-8 : tie.Need-returns-8
-unfolding rank
-returns-8 c = λ l b t. simp (c .enum-told6 .given .1)
-
 pub same-bool-spec : {M : Type 1} → statement M
-same-bool-spec =
-    tie.close
-    (tie.spec
-    enum-told
-    enum-known-other
-    enum-told-2
-    enum-told-3
-    enum-told-4
-    enum-told-5
-    enum-told-6
-    returns
-    returns-2
-    returns-3
-    returns-4
-    returns-5
-    returns-6
-    returns-7
-    returns-8)
+same-bool-spec = tie.close (tie.spec enum-known-other returns returns-2 returns-3)

@@ -1,5 +1,5 @@
--- `equality::same_none` meets its contract. Assumes nothing.
-use Rattle.meaning.specs.Comparison.{rank, sameClass, scalarEqual}
+-- `plain::same_none` meets its contract. Assumes nothing.
+use Rattle.comparing.proofs.Classes.{other-class, none-unlike-seen}
 use borrow.Author.Needs.{needs}
 use Rattle.comparing.proofs.plain.same_none.Statement.{statement}
 use Rattle.comparing.proofs.plain.same_none.Tie as tie
@@ -7,67 +7,11 @@ use Rattle.comparing.proofs.plain.same_none.Tie as tie
 enum-told : tie.Need-enum-told
 enum-told c = search needs
 
-enum-told-2 : tie.Need-enum-told-2
-enum-told-2 c = search needs
-
-enum-told-3 : tie.Need-enum-told-3
-enum-told-3 c = search needs
-
-enum-told-4 : tie.Need-enum-told-4
-enum-told-4 c = search needs
-
-enum-told-5 : tie.Need-enum-told-5
-enum-told-5 c = search needs
-
-enum-told-6 : tie.Need-enum-told-6
-enum-told-6 c = search needs
-
-enum-told-7 : tie.Need-enum-told-7
-enum-told-7 c = search needs
-
 returns : tie.Need-returns
-unfolding scalarEqual sameClass rank
 returns c = λ l b t. simp (c .enum-told .given .1)
 
 returns-2 : tie.Need-returns-2
-unfolding scalarEqual sameClass rank
-returns-2 c = λ l b t. simp (c .enum-told2 .given .1)
-
-returns-3 : tie.Need-returns-3
-unfolding scalarEqual sameClass rank
-returns-3 c = λ l b t. simp (c .enum-told3 .given .1)
-
-returns-4 : tie.Need-returns-4
-unfolding scalarEqual sameClass rank
-returns-4 c = λ l b t. simp (c .enum-told4 .given .1)
-
-returns-5 : tie.Need-returns-5
-unfolding scalarEqual sameClass rank
-returns-5 c = λ l b t. simp (c .enum-told5 .given .1)
-
-returns-6 : tie.Need-returns-6
-unfolding scalarEqual sameClass rank
-returns-6 c = λ l b t. simp (c .enum-told6 .given .1)
-
-returns-7 : tie.Need-returns-7
-unfolding scalarEqual sameClass rank
-returns-7 c = λ l b t. simp (c .enum-told7 .given .1)
+returns-2 c = λ l b t. none-unlike-seen l b t (c .before .args .other) (other-class 5 (c .before .args .other) (c .match .keys2))
 
 pub same-none-spec : {M : Type 1} → statement M
-same-none-spec =
-    tie.close
-    (tie.spec
-    enum-told
-    enum-told-2
-    enum-told-3
-    enum-told-4
-    enum-told-5
-    enum-told-6
-    enum-told-7
-    returns
-    returns-2
-    returns-3
-    returns-4
-    returns-5
-    returns-6
-    returns-7)
+same-none-spec = tie.close (tie.spec enum-told returns returns-2)

@@ -43,7 +43,7 @@ pub pair-returns : (t : ℕ) → pair-lts.Need-returns (
   verdict-reads.Asked,
   verdict-reads.Learnt,
 ) (pair-at t) pair.Post
-pair-returns t c = pair-bottom (c .before .before .before .before .before .before .args .depth) (c .before .before .before .before .before .before .args .limit) (rooms (c .before .before .before .before .before .before .args .literal .now) (c .before .before .before .before .before .before .args .binding-cells .now) (c .before .before .before .before .before .before .args .binding-text .now) (c .before .before .before .before .before .before .args .cells .now) (c .before .before .before .before .before .before .args .text .now)) (c .before .before .before .before .before .before .args .a) (c .before .before .before .before .before .before .args .b) (c .before .before .before .before .before .before .args .steps) (c .if1 .taken)
+pair-returns t c = pair-bottom (c .before .before .before .before .before .before .args .depth) (c .before .before .before .before .before .before .args .limit) (rooms (c .before .before .before .before .before .before .args .literal .now) (c .before .before .before .before .before .before .args .binding-cells .now) (c .before .before .before .before .before .before .args .binding-text .now) (c .before .before .before .before .before .before .args .cells .now) (c .before .before .before .before .before .before .args .text .now)) (c .before .before .before .before .before .before .args .left) (c .before .before .before .before .before .before .args .right) (c .before .before .before .before .before .before .args .steps) (c .if1 .taken)
 
 pub pair-returns-2 : (t : ℕ) → pair-lts.Need-returns-2 (
   parts-of-reads.Asked,
@@ -61,7 +61,7 @@ pub pair-returns-2 : (t : ℕ) → pair-lts.Need-returns-2 (
   verdict-reads.Asked,
   verdict-reads.Learnt,
 ) (pair-at t) pair.Post
-pair-returns-2 t c = pair-out (c .before .before .before .before .before .before .before .args .depth) (c .before .before .before .before .before .before .before .args .limit) (rooms (c .before .before .before .before .before .before .before .args .literal .now) (c .before .before .before .before .before .before .before .args .binding-cells .now) (c .before .before .before .before .before .before .before .args .binding-text .now) (c .before .before .before .before .before .before .before .args .cells .now) (c .before .before .before .before .before .before .before .args .text .now)) (c .before .before .before .before .before .before .before .args .a) (c .before .before .before .before .before .before .before .args .b) (c .before .before .before .before .before .before .before .args .steps) (c .before .if1 .left) (c .if2 .taken)
+pair-returns-2 t c = pair-out (c .before .before .before .before .before .before .before .args .depth) (c .before .before .before .before .before .before .before .args .limit) (rooms (c .before .before .before .before .before .before .before .args .literal .now) (c .before .before .before .before .before .before .before .args .binding-cells .now) (c .before .before .before .before .before .before .before .args .binding-text .now) (c .before .before .before .before .before .before .before .args .cells .now) (c .before .before .before .before .before .before .before .args .text .now)) (c .before .before .before .before .before .before .before .args .left) (c .before .before .before .before .before .before .before .args .right) (c .before .before .before .before .before .before .before .args .steps) (c .before .if1 .left) (c .if2 .taken)
 
 pub pair-sub-within : (t : ℕ) → pair-lts.Need-sub-within (
   parts-of-reads.Asked,
@@ -187,7 +187,7 @@ pub pair-returns-3 : (t : ℕ) → pair-lts.Need-returns-3 (
   verdict-reads.Asked,
   verdict-reads.Learnt,
 ) (pair-at t) pair.Post
-pair-returns-3 t c = lists-uneven (c .before .before .before .before .before .before .before .before .before .before .before .before .before .before .before .before .args .depth) (c .before .before .before .before .before .before .before .before .before .before .before .before .before .before .before .before .args .limit) (rooms (c .before .before .before .before .before .before .before .before .before .before .before .before .before .before .before .before .args .literal .now) (c .before .before .before .before .before .before .before .before .before .before .before .before .before .before .before .before .args .binding-cells .now) (c .before .before .before .before .before .before .before .before .before .before .before .before .before .before .before .before .args .binding-text .now) (c .before .before .before .before .before .before .before .before .before .before .before .before .before .before .before .before .args .cells .now) (c .before .before .before .before .before .before .before .before .before .before .before .before .before .before .before .before .args .text .now)) (c .before .before .before .before .before .before .before .before .before .before .before .before .before .before .before .before .args .a) (c .before .before .before .before .before .before .before .before .before .before .before .before .before .before .before .before .args .b) (c .before .before .before .before .before .before .before .before .before .before .before .before .before .before .before .before .args .steps) (c .before .before .before .before .before .before .before .before .before .before .if1 .left) (c .before .before .before .before .before .before .before .before .before .if2 .left) (c .before .before .before .before .before .before .space .given .0 .0) (c .before .before .before .before .before .before .space .given .0 .1 .0) (c .before .before .before .before .before .before .space .given .0 .1 .1 .0) (sym (c .before .before .before .before .before .before .before .before .parts-of .ensures) ∙ c .before .before .before .before .before .before .space .given .1) (c .before .before .there .given .0 .0) (c .before .before .there .given .0 .1 .0) (c .before .before .there .given .0 .1 .1 .0) (sym (c .before .before .before .before .parts-of2 .ensures) ∙ c .before .before .there .given .1) (c .if3 .taken)
+pair-returns-3 t c = lists-uneven (c .before .before .before .before .before .before .before .before .before .before .before .before .before .before .before .before .args .depth) (c .before .before .before .before .before .before .before .before .before .before .before .before .before .before .before .before .args .limit) (rooms (c .before .before .before .before .before .before .before .before .before .before .before .before .before .before .before .before .args .literal .now) (c .before .before .before .before .before .before .before .before .before .before .before .before .before .before .before .before .args .binding-cells .now) (c .before .before .before .before .before .before .before .before .before .before .before .before .before .before .before .before .args .binding-text .now) (c .before .before .before .before .before .before .before .before .before .before .before .before .before .before .before .before .args .cells .now) (c .before .before .before .before .before .before .before .before .before .before .before .before .before .before .before .before .args .text .now)) (c .before .before .before .before .before .before .before .before .before .before .before .before .before .before .before .before .args .left) (c .before .before .before .before .before .before .before .before .before .before .before .before .before .before .before .before .args .right) (c .before .before .before .before .before .before .before .before .before .before .before .before .before .before .before .before .args .steps) (c .before .before .before .before .before .before .before .before .before .before .if1 .left) (c .before .before .before .before .before .before .before .before .before .if2 .left) (c .before .before .before .before .before .before .space .given .0 .0) (c .before .before .before .before .before .before .space .given .0 .1 .0) (c .before .before .before .before .before .before .space .given .0 .1 .1 .0) (sym (c .before .before .before .before .before .before .before .before .parts-of .ensures) ∙ c .before .before .before .before .before .before .space .given .1) (c .before .before .there .given .0 .0) (c .before .before .there .given .0 .1 .0) (c .before .before .there .given .0 .1 .1 .0) (sym (c .before .before .before .before .parts-of2 .ensures) ∙ c .before .before .there .given .1) (c .if3 .taken)
 
 pub pair-elements-requires : (t : ℕ) → pair-lts.Need-elements-requires (
   parts-of-reads.Asked,
@@ -349,7 +349,7 @@ pub pair-returns-4 : (t : ℕ) → pair-lts.Need-returns-4 (
   verdict-reads.Asked,
   verdict-reads.Learnt,
 ) (pair-at t) pair.Post
-pair-returns-4 t c = maps-uneven (c .before .before .before .before .before .before .before .before .before .before .before .before .before .before .before .before .args .depth) (c .before .before .before .before .before .before .before .before .before .before .before .before .before .before .before .before .args .limit) (rooms (c .before .before .before .before .before .before .before .before .before .before .before .before .before .before .before .before .args .literal .now) (c .before .before .before .before .before .before .before .before .before .before .before .before .before .before .before .before .args .binding-cells .now) (c .before .before .before .before .before .before .before .before .before .before .before .before .before .before .before .before .args .binding-text .now) (c .before .before .before .before .before .before .before .before .before .before .before .before .before .before .before .before .args .cells .now) (c .before .before .before .before .before .before .before .before .before .before .before .before .before .before .before .before .args .text .now)) (c .before .before .before .before .before .before .before .before .before .before .before .before .before .before .before .before .args .a) (c .before .before .before .before .before .before .before .before .before .before .before .before .before .before .before .before .args .b) (c .before .before .before .before .before .before .before .before .before .before .before .before .before .before .before .before .args .steps) (c .before .before .before .before .before .before .before .before .before .before .if1 .left) (c .before .before .before .before .before .before .before .before .before .if2 .left) (c .before .before .before .before .before .before .space2 .given .0 .0) (c .before .before .before .before .before .before .space2 .given .0 .1 .0) (c .before .before .before .before .before .before .space2 .given .0 .1 .1 .0) (sym (c .before .before .before .before .before .before .before .before .parts-of .ensures) ∙ c .before .before .before .before .before .before .space2 .given .1) (c .before .before .there2 .given .0 .0) (c .before .before .there2 .given .0 .1 .0) (c .before .before .there2 .given .0 .1 .1 .0) (sym (c .before .before .before .before .parts-of3 .ensures) ∙ c .before .before .there2 .given .1) (c .if4 .taken)
+pair-returns-4 t c = maps-uneven (c .before .before .before .before .before .before .before .before .before .before .before .before .before .before .before .before .args .depth) (c .before .before .before .before .before .before .before .before .before .before .before .before .before .before .before .before .args .limit) (rooms (c .before .before .before .before .before .before .before .before .before .before .before .before .before .before .before .before .args .literal .now) (c .before .before .before .before .before .before .before .before .before .before .before .before .before .before .before .before .args .binding-cells .now) (c .before .before .before .before .before .before .before .before .before .before .before .before .before .before .before .before .args .binding-text .now) (c .before .before .before .before .before .before .before .before .before .before .before .before .before .before .before .before .args .cells .now) (c .before .before .before .before .before .before .before .before .before .before .before .before .before .before .before .before .args .text .now)) (c .before .before .before .before .before .before .before .before .before .before .before .before .before .before .before .before .args .left) (c .before .before .before .before .before .before .before .before .before .before .before .before .before .before .before .before .args .right) (c .before .before .before .before .before .before .before .before .before .before .before .before .before .before .before .before .args .steps) (c .before .before .before .before .before .before .before .before .before .before .if1 .left) (c .before .before .before .before .before .before .before .before .before .if2 .left) (c .before .before .before .before .before .before .space2 .given .0 .0) (c .before .before .before .before .before .before .space2 .given .0 .1 .0) (c .before .before .before .before .before .before .space2 .given .0 .1 .1 .0) (sym (c .before .before .before .before .before .before .before .before .parts-of .ensures) ∙ c .before .before .before .before .before .before .space2 .given .1) (c .before .before .there2 .given .0 .0) (c .before .before .there2 .given .0 .1 .0) (c .before .before .there2 .given .0 .1 .1 .0) (sym (c .before .before .before .before .parts-of3 .ensures) ∙ c .before .before .there2 .given .1) (c .if4 .taken)
 
 pub pair-entries-requires : (t : ℕ) → pair-lts.Need-entries-requires (
   parts-of-reads.Asked,
@@ -673,7 +673,7 @@ pub pair-returns-5 : (t : ℕ) → pair-lts.Need-returns-5 (
   verdict-reads.Asked,
   verdict-reads.Learnt,
 ) (pair-at t) pair.Post
-pair-returns-5 t c = lists-even (c .before .before .before .before .before .before .before .before .before .before .before .before .before .before .before .before .before .args .depth) (c .before .before .before .before .before .before .before .before .before .before .before .before .before .before .before .before .before .args .limit) (rooms (c .before .before .before .before .before .before .before .before .before .before .before .before .before .before .before .before .before .args .literal .now) (c .before .before .before .before .before .before .before .before .before .before .before .before .before .before .before .before .before .args .binding-cells .now) (c .before .before .before .before .before .before .before .before .before .before .before .before .before .before .before .before .before .args .binding-text .now) (c .before .before .before .before .before .before .before .before .before .before .before .before .before .before .before .before .before .args .cells .now) (c .before .before .before .before .before .before .before .before .before .before .before .before .before .before .before .before .before .args .text .now)) (c .before .before .before .before .before .before .before .before .before .before .before .before .before .before .before .before .before .args .a) (c .before .before .before .before .before .before .before .before .before .before .before .before .before .before .before .before .before .args .b) (c .before .before .before .before .before .before .before .before .before .before .before .before .before .before .before .before .before .args .steps) (c .before .before .before .before .before .before .before .before .before .before .before .if1 .left) (c .before .before .before .before .before .before .before .before .before .before .if2 .left) (c .before .before .before .before .before .before .before .space .given .0 .0) (c .before .before .before .before .before .before .before .space .given .0 .1 .0) (c .before .before .before .before .before .before .before .space .given .0 .1 .1 .0) (sym (c .before .before .before .before .before .before .before .before .before .parts-of .ensures) ∙ c .before .before .before .before .before .before .before .space .given .1) (c .before .before .before .there .given .0 .0) (c .before .before .before .there .given .0 .1 .0) (c .before .before .before .there .given .0 .1 .1 .0) (c .elements .result) (sym (c .before .before .before .before .before .parts-of2 .ensures) ∙ c .before .before .before .there .given .1) (c .before .if3 .left) (c .elements .ensures)
+pair-returns-5 t c = lists-even (c .before .before .before .before .before .before .before .before .before .before .before .before .before .before .before .before .before .args .depth) (c .before .before .before .before .before .before .before .before .before .before .before .before .before .before .before .before .before .args .limit) (rooms (c .before .before .before .before .before .before .before .before .before .before .before .before .before .before .before .before .before .args .literal .now) (c .before .before .before .before .before .before .before .before .before .before .before .before .before .before .before .before .before .args .binding-cells .now) (c .before .before .before .before .before .before .before .before .before .before .before .before .before .before .before .before .before .args .binding-text .now) (c .before .before .before .before .before .before .before .before .before .before .before .before .before .before .before .before .before .args .cells .now) (c .before .before .before .before .before .before .before .before .before .before .before .before .before .before .before .before .before .args .text .now)) (c .before .before .before .before .before .before .before .before .before .before .before .before .before .before .before .before .before .args .left) (c .before .before .before .before .before .before .before .before .before .before .before .before .before .before .before .before .before .args .right) (c .before .before .before .before .before .before .before .before .before .before .before .before .before .before .before .before .before .args .steps) (c .before .before .before .before .before .before .before .before .before .before .before .if1 .left) (c .before .before .before .before .before .before .before .before .before .before .if2 .left) (c .before .before .before .before .before .before .before .space .given .0 .0) (c .before .before .before .before .before .before .before .space .given .0 .1 .0) (c .before .before .before .before .before .before .before .space .given .0 .1 .1 .0) (sym (c .before .before .before .before .before .before .before .before .before .parts-of .ensures) ∙ c .before .before .before .before .before .before .before .space .given .1) (c .before .before .before .there .given .0 .0) (c .before .before .before .there .given .0 .1 .0) (c .before .before .before .there .given .0 .1 .1 .0) (c .elements .result) (sym (c .before .before .before .before .before .parts-of2 .ensures) ∙ c .before .before .before .there .given .1) (c .before .if3 .left) (c .elements .ensures)
 
 pub pair-returns-6 : (t : ℕ) → pair-lts.Need-returns-6 (
   parts-of-reads.Asked,
@@ -691,7 +691,7 @@ pub pair-returns-6 : (t : ℕ) → pair-lts.Need-returns-6 (
   verdict-reads.Asked,
   verdict-reads.Learnt,
 ) (pair-at t) pair.Post
-pair-returns-6 t c = lists-unlike (c .before .before .before .before .before .before .before .before .before .before .before .before .before .before .args .depth) (c .before .before .before .before .before .before .before .before .before .before .before .before .before .before .args .limit) (rooms (c .before .before .before .before .before .before .before .before .before .before .before .before .before .before .args .literal .now) (c .before .before .before .before .before .before .before .before .before .before .before .before .before .before .args .binding-cells .now) (c .before .before .before .before .before .before .before .before .before .before .before .before .before .before .args .binding-text .now) (c .before .before .before .before .before .before .before .before .before .before .before .before .before .before .args .cells .now) (c .before .before .before .before .before .before .before .before .before .before .before .before .before .before .args .text .now)) (c .before .before .before .before .before .before .before .before .before .before .before .before .before .before .args .a) (c .before .before .before .before .before .before .before .before .before .before .before .before .before .before .args .b) (c .before .before .before .before .before .before .before .before .before .before .before .before .before .before .args .steps) (c .before .before .before .before .before .before .before .before .if1 .left) (c .before .before .before .before .before .before .before .if2 .left) (c .before .before .before .before .space .given .0 .0) (c .before .before .before .before .space .given .0 .1 .0) (c .before .before .before .before .space .given .0 .1 .1 .0) (sym (c .before .before .before .before .before .before .parts-of .ensures) ∙ c .before .before .before .before .space .given .1) _ (sym (c .before .before .parts-of2 .ensures) ∙ c .enum-told .given .1) refl
+pair-returns-6 t c = lists-unlike (c .before .before .before .before .before .before .before .before .before .before .before .before .before .before .args .depth) (c .before .before .before .before .before .before .before .before .before .before .before .before .before .before .args .limit) (rooms (c .before .before .before .before .before .before .before .before .before .before .before .before .before .before .args .literal .now) (c .before .before .before .before .before .before .before .before .before .before .before .before .before .before .args .binding-cells .now) (c .before .before .before .before .before .before .before .before .before .before .before .before .before .before .args .binding-text .now) (c .before .before .before .before .before .before .before .before .before .before .before .before .before .before .args .cells .now) (c .before .before .before .before .before .before .before .before .before .before .before .before .before .before .args .text .now)) (c .before .before .before .before .before .before .before .before .before .before .before .before .before .before .args .left) (c .before .before .before .before .before .before .before .before .before .before .before .before .before .before .args .right) (c .before .before .before .before .before .before .before .before .before .before .before .before .before .before .args .steps) (c .before .before .before .before .before .before .before .before .if1 .left) (c .before .before .before .before .before .before .before .if2 .left) (c .before .before .before .before .space .given .0 .0) (c .before .before .before .before .space .given .0 .1 .0) (c .before .before .before .before .space .given .0 .1 .1 .0) (sym (c .before .before .before .before .before .before .parts-of .ensures) ∙ c .before .before .before .before .space .given .1) _ (sym (c .before .before .parts-of2 .ensures) ∙ c .enum-told .given .1) refl
 
 pub pair-returns-7 : (t : ℕ) → pair-lts.Need-returns-7 (
   parts-of-reads.Asked,
@@ -709,7 +709,7 @@ pub pair-returns-7 : (t : ℕ) → pair-lts.Need-returns-7 (
   verdict-reads.Asked,
   verdict-reads.Learnt,
 ) (pair-at t) pair.Post
-pair-returns-7 t c = lists-unlike (c .before .before .before .before .before .before .before .before .before .before .before .before .before .before .args .depth) (c .before .before .before .before .before .before .before .before .before .before .before .before .before .before .args .limit) (rooms (c .before .before .before .before .before .before .before .before .before .before .before .before .before .before .args .literal .now) (c .before .before .before .before .before .before .before .before .before .before .before .before .before .before .args .binding-cells .now) (c .before .before .before .before .before .before .before .before .before .before .before .before .before .before .args .binding-text .now) (c .before .before .before .before .before .before .before .before .before .before .before .before .before .before .args .cells .now) (c .before .before .before .before .before .before .before .before .before .before .before .before .before .before .args .text .now)) (c .before .before .before .before .before .before .before .before .before .before .before .before .before .before .args .a) (c .before .before .before .before .before .before .before .before .before .before .before .before .before .before .args .b) (c .before .before .before .before .before .before .before .before .before .before .before .before .before .before .args .steps) (c .before .before .before .before .before .before .before .before .if1 .left) (c .before .before .before .before .before .before .before .if2 .left) (c .before .before .before .before .space .given .0 .0) (c .before .before .before .before .space .given .0 .1 .0) (c .before .before .before .before .space .given .0 .1 .1 .0) (sym (c .before .before .before .before .before .before .parts-of .ensures) ∙ c .before .before .before .before .space .given .1) _ (sym (c .before .before .parts-of2 .ensures) ∙ c .enum-told2 .given .1) refl
+pair-returns-7 t c = lists-unlike (c .before .before .before .before .before .before .before .before .before .before .before .before .before .before .args .depth) (c .before .before .before .before .before .before .before .before .before .before .before .before .before .before .args .limit) (rooms (c .before .before .before .before .before .before .before .before .before .before .before .before .before .before .args .literal .now) (c .before .before .before .before .before .before .before .before .before .before .before .before .before .before .args .binding-cells .now) (c .before .before .before .before .before .before .before .before .before .before .before .before .before .before .args .binding-text .now) (c .before .before .before .before .before .before .before .before .before .before .before .before .before .before .args .cells .now) (c .before .before .before .before .before .before .before .before .before .before .before .before .before .before .args .text .now)) (c .before .before .before .before .before .before .before .before .before .before .before .before .before .before .args .left) (c .before .before .before .before .before .before .before .before .before .before .before .before .before .before .args .right) (c .before .before .before .before .before .before .before .before .before .before .before .before .before .before .args .steps) (c .before .before .before .before .before .before .before .before .if1 .left) (c .before .before .before .before .before .before .before .if2 .left) (c .before .before .before .before .space .given .0 .0) (c .before .before .before .before .space .given .0 .1 .0) (c .before .before .before .before .space .given .0 .1 .1 .0) (sym (c .before .before .before .before .before .before .parts-of .ensures) ∙ c .before .before .before .before .space .given .1) _ (sym (c .before .before .parts-of2 .ensures) ∙ c .enum-told2 .given .1) refl
 
 pub pair-returns-8 : (t : ℕ) → pair-lts.Need-returns-8 (
   parts-of-reads.Asked,
@@ -727,7 +727,7 @@ pub pair-returns-8 : (t : ℕ) → pair-lts.Need-returns-8 (
   verdict-reads.Asked,
   verdict-reads.Learnt,
 ) (pair-at t) pair.Post
-pair-returns-8 t c = lists-unlike (c .before .before .before .before .before .before .before .before .before .before .before .before .before .before .args .depth) (c .before .before .before .before .before .before .before .before .before .before .before .before .before .before .args .limit) (rooms (c .before .before .before .before .before .before .before .before .before .before .before .before .before .before .args .literal .now) (c .before .before .before .before .before .before .before .before .before .before .before .before .before .before .args .binding-cells .now) (c .before .before .before .before .before .before .before .before .before .before .before .before .before .before .args .binding-text .now) (c .before .before .before .before .before .before .before .before .before .before .before .before .before .before .args .cells .now) (c .before .before .before .before .before .before .before .before .before .before .before .before .before .before .args .text .now)) (c .before .before .before .before .before .before .before .before .before .before .before .before .before .before .args .a) (c .before .before .before .before .before .before .before .before .before .before .before .before .before .before .args .b) (c .before .before .before .before .before .before .before .before .before .before .before .before .before .before .args .steps) (c .before .before .before .before .before .before .before .before .if1 .left) (c .before .before .before .before .before .before .before .if2 .left) (c .before .before .before .before .space .given .0 .0) (c .before .before .before .before .space .given .0 .1 .0) (c .before .before .before .before .space .given .0 .1 .1 .0) (sym (c .before .before .before .before .before .before .parts-of .ensures) ∙ c .before .before .before .before .space .given .1) _ (sym (c .before .before .parts-of2 .ensures) ∙ c .enum-told3 .given .1) refl
+pair-returns-8 t c = lists-unlike (c .before .before .before .before .before .before .before .before .before .before .before .before .before .before .args .depth) (c .before .before .before .before .before .before .before .before .before .before .before .before .before .before .args .limit) (rooms (c .before .before .before .before .before .before .before .before .before .before .before .before .before .before .args .literal .now) (c .before .before .before .before .before .before .before .before .before .before .before .before .before .before .args .binding-cells .now) (c .before .before .before .before .before .before .before .before .before .before .before .before .before .before .args .binding-text .now) (c .before .before .before .before .before .before .before .before .before .before .before .before .before .before .args .cells .now) (c .before .before .before .before .before .before .before .before .before .before .before .before .before .before .args .text .now)) (c .before .before .before .before .before .before .before .before .before .before .before .before .before .before .args .left) (c .before .before .before .before .before .before .before .before .before .before .before .before .before .before .args .right) (c .before .before .before .before .before .before .before .before .before .before .before .before .before .before .args .steps) (c .before .before .before .before .before .before .before .before .if1 .left) (c .before .before .before .before .before .before .before .if2 .left) (c .before .before .before .before .space .given .0 .0) (c .before .before .before .before .space .given .0 .1 .0) (c .before .before .before .before .space .given .0 .1 .1 .0) (sym (c .before .before .before .before .before .before .parts-of .ensures) ∙ c .before .before .before .before .space .given .1) _ (sym (c .before .before .parts-of2 .ensures) ∙ c .enum-told3 .given .1) refl
 
 pub pair-returns-9 : (t : ℕ) → pair-lts.Need-returns-9 (
   parts-of-reads.Asked,
@@ -745,7 +745,7 @@ pub pair-returns-9 : (t : ℕ) → pair-lts.Need-returns-9 (
   verdict-reads.Asked,
   verdict-reads.Learnt,
 ) (pair-at t) pair.Post
-pair-returns-9 t c = maps-unlike (c .before .before .before .before .before .before .before .before .before .before .before .before .before .before .args .depth) (c .before .before .before .before .before .before .before .before .before .before .before .before .before .before .args .limit) (rooms (c .before .before .before .before .before .before .before .before .before .before .before .before .before .before .args .literal .now) (c .before .before .before .before .before .before .before .before .before .before .before .before .before .before .args .binding-cells .now) (c .before .before .before .before .before .before .before .before .before .before .before .before .before .before .args .binding-text .now) (c .before .before .before .before .before .before .before .before .before .before .before .before .before .before .args .cells .now) (c .before .before .before .before .before .before .before .before .before .before .before .before .before .before .args .text .now)) (c .before .before .before .before .before .before .before .before .before .before .before .before .before .before .args .a) (c .before .before .before .before .before .before .before .before .before .before .before .before .before .before .args .b) (c .before .before .before .before .before .before .before .before .before .before .before .before .before .before .args .steps) (c .before .before .before .before .before .before .before .before .if1 .left) (c .before .before .before .before .before .before .before .if2 .left) (c .before .before .before .before .space2 .given .0 .0) (c .before .before .before .before .space2 .given .0 .1 .0) (c .before .before .before .before .space2 .given .0 .1 .1 .0) (sym (c .before .before .before .before .before .before .parts-of .ensures) ∙ c .before .before .before .before .space2 .given .1) _ (sym (c .before .before .parts-of3 .ensures) ∙ c .enum-told4 .given .1) refl
+pair-returns-9 t c = maps-unlike (c .before .before .before .before .before .before .before .before .before .before .before .before .before .before .args .depth) (c .before .before .before .before .before .before .before .before .before .before .before .before .before .before .args .limit) (rooms (c .before .before .before .before .before .before .before .before .before .before .before .before .before .before .args .literal .now) (c .before .before .before .before .before .before .before .before .before .before .before .before .before .before .args .binding-cells .now) (c .before .before .before .before .before .before .before .before .before .before .before .before .before .before .args .binding-text .now) (c .before .before .before .before .before .before .before .before .before .before .before .before .before .before .args .cells .now) (c .before .before .before .before .before .before .before .before .before .before .before .before .before .before .args .text .now)) (c .before .before .before .before .before .before .before .before .before .before .before .before .before .before .args .left) (c .before .before .before .before .before .before .before .before .before .before .before .before .before .before .args .right) (c .before .before .before .before .before .before .before .before .before .before .before .before .before .before .args .steps) (c .before .before .before .before .before .before .before .before .if1 .left) (c .before .before .before .before .before .before .before .if2 .left) (c .before .before .before .before .space2 .given .0 .0) (c .before .before .before .before .space2 .given .0 .1 .0) (c .before .before .before .before .space2 .given .0 .1 .1 .0) (sym (c .before .before .before .before .before .before .parts-of .ensures) ∙ c .before .before .before .before .space2 .given .1) _ (sym (c .before .before .parts-of3 .ensures) ∙ c .enum-told4 .given .1) refl
 
 pub pair-returns-10 : (t : ℕ) → pair-lts.Need-returns-10 (
   parts-of-reads.Asked,
@@ -763,7 +763,7 @@ pub pair-returns-10 : (t : ℕ) → pair-lts.Need-returns-10 (
   verdict-reads.Asked,
   verdict-reads.Learnt,
 ) (pair-at t) pair.Post
-pair-returns-10 t c = maps-even (c .before .before .before .before .before .before .before .before .before .before .before .before .before .before .before .before .before .args .depth) (c .before .before .before .before .before .before .before .before .before .before .before .before .before .before .before .before .before .args .limit) (rooms (c .before .before .before .before .before .before .before .before .before .before .before .before .before .before .before .before .before .args .literal .now) (c .before .before .before .before .before .before .before .before .before .before .before .before .before .before .before .before .before .args .binding-cells .now) (c .before .before .before .before .before .before .before .before .before .before .before .before .before .before .before .before .before .args .binding-text .now) (c .before .before .before .before .before .before .before .before .before .before .before .before .before .before .before .before .before .args .cells .now) (c .before .before .before .before .before .before .before .before .before .before .before .before .before .before .before .before .before .args .text .now)) (c .before .before .before .before .before .before .before .before .before .before .before .before .before .before .before .before .before .args .a) (c .before .before .before .before .before .before .before .before .before .before .before .before .before .before .before .before .before .args .b) (c .before .before .before .before .before .before .before .before .before .before .before .before .before .before .before .before .before .args .steps) (c .before .before .before .before .before .before .before .before .before .before .before .if1 .left) (c .before .before .before .before .before .before .before .before .before .before .if2 .left) (c .before .before .before .before .before .before .before .space2 .given .0 .0) (c .before .before .before .before .before .before .before .space2 .given .0 .1 .0) (c .before .before .before .before .before .before .before .space2 .given .0 .1 .1 .0) (sym (c .before .before .before .before .before .before .before .before .before .parts-of .ensures) ∙ c .before .before .before .before .before .before .before .space2 .given .1) (c .before .before .before .there2 .given .0 .0) (c .before .before .before .there2 .given .0 .1 .0) (c .before .before .before .there2 .given .0 .1 .1 .0) (c .entries .result) (sym (c .before .before .before .before .before .parts-of3 .ensures) ∙ c .before .before .before .there2 .given .1) (c .before .if4 .left) (c .entries .ensures)
+pair-returns-10 t c = maps-even (c .before .before .before .before .before .before .before .before .before .before .before .before .before .before .before .before .before .args .depth) (c .before .before .before .before .before .before .before .before .before .before .before .before .before .before .before .before .before .args .limit) (rooms (c .before .before .before .before .before .before .before .before .before .before .before .before .before .before .before .before .before .args .literal .now) (c .before .before .before .before .before .before .before .before .before .before .before .before .before .before .before .before .before .args .binding-cells .now) (c .before .before .before .before .before .before .before .before .before .before .before .before .before .before .before .before .before .args .binding-text .now) (c .before .before .before .before .before .before .before .before .before .before .before .before .before .before .before .before .before .args .cells .now) (c .before .before .before .before .before .before .before .before .before .before .before .before .before .before .before .before .before .args .text .now)) (c .before .before .before .before .before .before .before .before .before .before .before .before .before .before .before .before .before .args .left) (c .before .before .before .before .before .before .before .before .before .before .before .before .before .before .before .before .before .args .right) (c .before .before .before .before .before .before .before .before .before .before .before .before .before .before .before .before .before .args .steps) (c .before .before .before .before .before .before .before .before .before .before .before .if1 .left) (c .before .before .before .before .before .before .before .before .before .before .if2 .left) (c .before .before .before .before .before .before .before .space2 .given .0 .0) (c .before .before .before .before .before .before .before .space2 .given .0 .1 .0) (c .before .before .before .before .before .before .before .space2 .given .0 .1 .1 .0) (sym (c .before .before .before .before .before .before .before .before .before .parts-of .ensures) ∙ c .before .before .before .before .before .before .before .space2 .given .1) (c .before .before .before .there2 .given .0 .0) (c .before .before .before .there2 .given .0 .1 .0) (c .before .before .before .there2 .given .0 .1 .1 .0) (c .entries .result) (sym (c .before .before .before .before .before .parts-of3 .ensures) ∙ c .before .before .before .there2 .given .1) (c .before .if4 .left) (c .entries .ensures)
 
 pub pair-returns-11 : (t : ℕ) → pair-lts.Need-returns-11 (
   parts-of-reads.Asked,
@@ -781,7 +781,7 @@ pub pair-returns-11 : (t : ℕ) → pair-lts.Need-returns-11 (
   verdict-reads.Asked,
   verdict-reads.Learnt,
 ) (pair-at t) pair.Post
-pair-returns-11 t c = maps-unlike (c .before .before .before .before .before .before .before .before .before .before .before .before .before .before .args .depth) (c .before .before .before .before .before .before .before .before .before .before .before .before .before .before .args .limit) (rooms (c .before .before .before .before .before .before .before .before .before .before .before .before .before .before .args .literal .now) (c .before .before .before .before .before .before .before .before .before .before .before .before .before .before .args .binding-cells .now) (c .before .before .before .before .before .before .before .before .before .before .before .before .before .before .args .binding-text .now) (c .before .before .before .before .before .before .before .before .before .before .before .before .before .before .args .cells .now) (c .before .before .before .before .before .before .before .before .before .before .before .before .before .before .args .text .now)) (c .before .before .before .before .before .before .before .before .before .before .before .before .before .before .args .a) (c .before .before .before .before .before .before .before .before .before .before .before .before .before .before .args .b) (c .before .before .before .before .before .before .before .before .before .before .before .before .before .before .args .steps) (c .before .before .before .before .before .before .before .before .if1 .left) (c .before .before .before .before .before .before .before .if2 .left) (c .before .before .before .before .space2 .given .0 .0) (c .before .before .before .before .space2 .given .0 .1 .0) (c .before .before .before .before .space2 .given .0 .1 .1 .0) (sym (c .before .before .before .before .before .before .parts-of .ensures) ∙ c .before .before .before .before .space2 .given .1) _ (sym (c .before .before .parts-of3 .ensures) ∙ c .enum-told5 .given .1) refl
+pair-returns-11 t c = maps-unlike (c .before .before .before .before .before .before .before .before .before .before .before .before .before .before .args .depth) (c .before .before .before .before .before .before .before .before .before .before .before .before .before .before .args .limit) (rooms (c .before .before .before .before .before .before .before .before .before .before .before .before .before .before .args .literal .now) (c .before .before .before .before .before .before .before .before .before .before .before .before .before .before .args .binding-cells .now) (c .before .before .before .before .before .before .before .before .before .before .before .before .before .before .args .binding-text .now) (c .before .before .before .before .before .before .before .before .before .before .before .before .before .before .args .cells .now) (c .before .before .before .before .before .before .before .before .before .before .before .before .before .before .args .text .now)) (c .before .before .before .before .before .before .before .before .before .before .before .before .before .before .args .left) (c .before .before .before .before .before .before .before .before .before .before .before .before .before .before .args .right) (c .before .before .before .before .before .before .before .before .before .before .before .before .before .before .args .steps) (c .before .before .before .before .before .before .before .before .if1 .left) (c .before .before .before .before .before .before .before .if2 .left) (c .before .before .before .before .space2 .given .0 .0) (c .before .before .before .before .space2 .given .0 .1 .0) (c .before .before .before .before .space2 .given .0 .1 .1 .0) (sym (c .before .before .before .before .before .before .parts-of .ensures) ∙ c .before .before .before .before .space2 .given .1) _ (sym (c .before .before .parts-of3 .ensures) ∙ c .enum-told5 .given .1) refl
 
 pub pair-returns-12 : (t : ℕ) → pair-lts.Need-returns-12 (
   parts-of-reads.Asked,
@@ -799,7 +799,7 @@ pub pair-returns-12 : (t : ℕ) → pair-lts.Need-returns-12 (
   verdict-reads.Asked,
   verdict-reads.Learnt,
 ) (pair-at t) pair.Post
-pair-returns-12 t c = maps-unlike (c .before .before .before .before .before .before .before .before .before .before .before .before .before .before .args .depth) (c .before .before .before .before .before .before .before .before .before .before .before .before .before .before .args .limit) (rooms (c .before .before .before .before .before .before .before .before .before .before .before .before .before .before .args .literal .now) (c .before .before .before .before .before .before .before .before .before .before .before .before .before .before .args .binding-cells .now) (c .before .before .before .before .before .before .before .before .before .before .before .before .before .before .args .binding-text .now) (c .before .before .before .before .before .before .before .before .before .before .before .before .before .before .args .cells .now) (c .before .before .before .before .before .before .before .before .before .before .before .before .before .before .args .text .now)) (c .before .before .before .before .before .before .before .before .before .before .before .before .before .before .args .a) (c .before .before .before .before .before .before .before .before .before .before .before .before .before .before .args .b) (c .before .before .before .before .before .before .before .before .before .before .before .before .before .before .args .steps) (c .before .before .before .before .before .before .before .before .if1 .left) (c .before .before .before .before .before .before .before .if2 .left) (c .before .before .before .before .space2 .given .0 .0) (c .before .before .before .before .space2 .given .0 .1 .0) (c .before .before .before .before .space2 .given .0 .1 .1 .0) (sym (c .before .before .before .before .before .before .parts-of .ensures) ∙ c .before .before .before .before .space2 .given .1) _ (sym (c .before .before .parts-of3 .ensures) ∙ c .enum-told6 .given .1) refl
+pair-returns-12 t c = maps-unlike (c .before .before .before .before .before .before .before .before .before .before .before .before .before .before .args .depth) (c .before .before .before .before .before .before .before .before .before .before .before .before .before .before .args .limit) (rooms (c .before .before .before .before .before .before .before .before .before .before .before .before .before .before .args .literal .now) (c .before .before .before .before .before .before .before .before .before .before .before .before .before .before .args .binding-cells .now) (c .before .before .before .before .before .before .before .before .before .before .before .before .before .before .args .binding-text .now) (c .before .before .before .before .before .before .before .before .before .before .before .before .before .before .args .cells .now) (c .before .before .before .before .before .before .before .before .before .before .before .before .before .before .args .text .now)) (c .before .before .before .before .before .before .before .before .before .before .before .before .before .before .args .left) (c .before .before .before .before .before .before .before .before .before .before .before .before .before .before .args .right) (c .before .before .before .before .before .before .before .before .before .before .before .before .before .before .args .steps) (c .before .before .before .before .before .before .before .before .if1 .left) (c .before .before .before .before .before .before .before .if2 .left) (c .before .before .before .before .space2 .given .0 .0) (c .before .before .before .before .space2 .given .0 .1 .0) (c .before .before .before .before .space2 .given .0 .1 .1 .0) (sym (c .before .before .before .before .before .before .parts-of .ensures) ∙ c .before .before .before .before .space2 .given .1) _ (sym (c .before .before .parts-of3 .ensures) ∙ c .enum-told6 .given .1) refl
 
 pub pair-returns-13 : (t : ℕ) → pair-lts.Need-returns-13 (
   parts-of-reads.Asked,
@@ -817,7 +817,7 @@ pub pair-returns-13 : (t : ℕ) → pair-lts.Need-returns-13 (
   verdict-reads.Asked,
   verdict-reads.Learnt,
 ) (pair-at t) pair.Post
-pair-returns-13 t c = presents-unlike (c .before .before .before .before .before .before .before .before .before .before .before .before .before .before .args .depth) (c .before .before .before .before .before .before .before .before .before .before .before .before .before .before .args .limit) (rooms (c .before .before .before .before .before .before .before .before .before .before .before .before .before .before .args .literal .now) (c .before .before .before .before .before .before .before .before .before .before .before .before .before .before .args .binding-cells .now) (c .before .before .before .before .before .before .before .before .before .before .before .before .before .before .args .binding-text .now) (c .before .before .before .before .before .before .before .before .before .before .before .before .before .before .args .cells .now) (c .before .before .before .before .before .before .before .before .before .before .before .before .before .before .args .text .now)) (c .before .before .before .before .before .before .before .before .before .before .before .before .before .before .args .a) (c .before .before .before .before .before .before .before .before .before .before .before .before .before .before .args .b) (c .before .before .before .before .before .before .before .before .before .before .before .before .before .before .args .steps) (c .before .before .before .before .before .before .before .before .if1 .left) (c .before .before .before .before .before .before .before .if2 .left) (c .before .before .before .before .space3 .given .0 .0) (c .before .before .before .before .space3 .given .0 .1 .0) (sym (c .before .before .before .before .before .before .parts-of .ensures) ∙ c .before .before .before .before .space3 .given .1) _ (sym (c .before .before .parts-of4 .ensures) ∙ c .enum-told7 .given .1) refl
+pair-returns-13 t c = presents-unlike (c .before .before .before .before .before .before .before .before .before .before .before .before .before .before .args .depth) (c .before .before .before .before .before .before .before .before .before .before .before .before .before .before .args .limit) (rooms (c .before .before .before .before .before .before .before .before .before .before .before .before .before .before .args .literal .now) (c .before .before .before .before .before .before .before .before .before .before .before .before .before .before .args .binding-cells .now) (c .before .before .before .before .before .before .before .before .before .before .before .before .before .before .args .binding-text .now) (c .before .before .before .before .before .before .before .before .before .before .before .before .before .before .args .cells .now) (c .before .before .before .before .before .before .before .before .before .before .before .before .before .before .args .text .now)) (c .before .before .before .before .before .before .before .before .before .before .before .before .before .before .args .left) (c .before .before .before .before .before .before .before .before .before .before .before .before .before .before .args .right) (c .before .before .before .before .before .before .before .before .before .before .before .before .before .before .args .steps) (c .before .before .before .before .before .before .before .before .if1 .left) (c .before .before .before .before .before .before .before .if2 .left) (c .before .before .before .before .space3 .given .0 .0) (c .before .before .before .before .space3 .given .0 .1 .0) (sym (c .before .before .before .before .before .before .parts-of .ensures) ∙ c .before .before .before .before .space3 .given .1) _ (sym (c .before .before .parts-of4 .ensures) ∙ c .enum-told7 .given .1) refl
 
 pub pair-returns-14 : (t : ℕ) → pair-lts.Need-returns-14 (
   parts-of-reads.Asked,
@@ -835,7 +835,7 @@ pub pair-returns-14 : (t : ℕ) → pair-lts.Need-returns-14 (
   verdict-reads.Asked,
   verdict-reads.Learnt,
 ) (pair-at t) pair.Post
-pair-returns-14 t c = presents-unlike (c .before .before .before .before .before .before .before .before .before .before .before .before .before .before .args .depth) (c .before .before .before .before .before .before .before .before .before .before .before .before .before .before .args .limit) (rooms (c .before .before .before .before .before .before .before .before .before .before .before .before .before .before .args .literal .now) (c .before .before .before .before .before .before .before .before .before .before .before .before .before .before .args .binding-cells .now) (c .before .before .before .before .before .before .before .before .before .before .before .before .before .before .args .binding-text .now) (c .before .before .before .before .before .before .before .before .before .before .before .before .before .before .args .cells .now) (c .before .before .before .before .before .before .before .before .before .before .before .before .before .before .args .text .now)) (c .before .before .before .before .before .before .before .before .before .before .before .before .before .before .args .a) (c .before .before .before .before .before .before .before .before .before .before .before .before .before .before .args .b) (c .before .before .before .before .before .before .before .before .before .before .before .before .before .before .args .steps) (c .before .before .before .before .before .before .before .before .if1 .left) (c .before .before .before .before .before .before .before .if2 .left) (c .before .before .before .before .space3 .given .0 .0) (c .before .before .before .before .space3 .given .0 .1 .0) (sym (c .before .before .before .before .before .before .parts-of .ensures) ∙ c .before .before .before .before .space3 .given .1) _ (sym (c .before .before .parts-of4 .ensures) ∙ c .enum-told8 .given .1) refl
+pair-returns-14 t c = presents-unlike (c .before .before .before .before .before .before .before .before .before .before .before .before .before .before .args .depth) (c .before .before .before .before .before .before .before .before .before .before .before .before .before .before .args .limit) (rooms (c .before .before .before .before .before .before .before .before .before .before .before .before .before .before .args .literal .now) (c .before .before .before .before .before .before .before .before .before .before .before .before .before .before .args .binding-cells .now) (c .before .before .before .before .before .before .before .before .before .before .before .before .before .before .args .binding-text .now) (c .before .before .before .before .before .before .before .before .before .before .before .before .before .before .args .cells .now) (c .before .before .before .before .before .before .before .before .before .before .before .before .before .before .args .text .now)) (c .before .before .before .before .before .before .before .before .before .before .before .before .before .before .args .left) (c .before .before .before .before .before .before .before .before .before .before .before .before .before .before .args .right) (c .before .before .before .before .before .before .before .before .before .before .before .before .before .before .args .steps) (c .before .before .before .before .before .before .before .before .if1 .left) (c .before .before .before .before .before .before .before .if2 .left) (c .before .before .before .before .space3 .given .0 .0) (c .before .before .before .before .space3 .given .0 .1 .0) (sym (c .before .before .before .before .before .before .parts-of .ensures) ∙ c .before .before .before .before .space3 .given .1) _ (sym (c .before .before .parts-of4 .ensures) ∙ c .enum-told8 .given .1) refl
 
 pub pair-returns-15 : (t : ℕ) → pair-lts.Need-returns-15 (
   parts-of-reads.Asked,
@@ -854,7 +854,7 @@ pub pair-returns-15 : (t : ℕ) → pair-lts.Need-returns-15 (
   verdict-reads.Learnt,
 ) (pair-at t) pair.Post
 unfolding cellAt
-pair-returns-15 t c = presents-parts (c .before .before .before .before .before .before .before .before .before .before .before .before .before .before .before .before .before .before .args .depth) (c .before .before .before .before .before .before .before .before .before .before .before .before .before .before .before .before .before .before .args .limit) (rooms (c .before .before .before .before .before .before .before .before .before .before .before .before .before .before .before .before .before .before .args .literal .now) (c .before .before .before .before .before .before .before .before .before .before .before .before .before .before .before .before .before .before .args .binding-cells .now) (c .before .before .before .before .before .before .before .before .before .before .before .before .before .before .before .before .before .before .args .binding-text .now) (c .before .before .before .before .before .before .before .before .before .before .before .before .before .before .before .before .before .before .args .cells .now) (c .before .before .before .before .before .before .before .before .before .before .before .before .before .before .before .before .before .before .args .text .now)) (c .before .before .before .before .before .before .before .before .before .before .before .before .before .before .before .before .before .before .args .a) (c .before .before .before .before .before .before .before .before .before .before .before .before .before .before .before .before .before .before .args .b) (c .before .before .before .before .before .before .before .before .before .before .before .before .before .before .before .before .before .before .args .steps) (c .before .before .before .before .before .before .before .before .before .before .before .before .if1 .left) (c .before .before .before .before .before .before .before .before .before .before .before .if2 .left) (c .before .before .before .before .before .before .before .before .space3 .given .0 .0) (c .before .before .before .before .before .before .before .before .space3 .given .0 .1 .0) (sym (c .before .before .before .before .before .before .before .before .before .before .parts-of .ensures) ∙ c .before .before .before .before .before .before .before .before .space3 .given .1) (c .before .before .before .before .there3 .given .0 .0) (c .before .before .before .before .there3 .given .0 .1 .0) (c .pair .result) (sym (c .before .before .before .before .before .before .parts-of4 .ensures) ∙ c .before .before .before .before .there3 .given .1) (c .pair .ensures ∙ (λ i. equalIn (c .before .before .before .before .before .before .before .before .before .before .before .before .before .before .before .before .before .before .args .depth - 1) (c .before .before .before .before .before .before .before .before .before .before .before .before .before .before .before .before .before .before .args .limit) (rooms (c .before .before .before .before .before .before .before .before .before .before .before .before .before .before .before .before .before .before .args .literal .now) (c .before .before .before .before .before .before .before .before .before .before .before .before .before .before .before .before .before .before .args .binding-cells .now) (c .before .before .before .before .before .before .before .before .before .before .before .before .before .before .before .before .before .before .args .binding-text .now) (c .before .before .before .before .before .before .before .before .before .before .before .before .before .before .before .before .before .before .args .cells .now) (c .before .before .before .before .before .before .before .before .before .before .before .before .before .before .before .before .before .before .args .text .now)) (c .before .before .cell-at .ensures i) (c .before .cell-at2 .ensures i) (c .before .before .before .before .before .before .before .before .before .before .before .before .before .before .before .before .before .before .args .steps + 1)))
+pair-returns-15 t c = presents-parts (c .before .before .before .before .before .before .before .before .before .before .before .before .before .before .before .before .before .before .args .depth) (c .before .before .before .before .before .before .before .before .before .before .before .before .before .before .before .before .before .before .args .limit) (rooms (c .before .before .before .before .before .before .before .before .before .before .before .before .before .before .before .before .before .before .args .literal .now) (c .before .before .before .before .before .before .before .before .before .before .before .before .before .before .before .before .before .before .args .binding-cells .now) (c .before .before .before .before .before .before .before .before .before .before .before .before .before .before .before .before .before .before .args .binding-text .now) (c .before .before .before .before .before .before .before .before .before .before .before .before .before .before .before .before .before .before .args .cells .now) (c .before .before .before .before .before .before .before .before .before .before .before .before .before .before .before .before .before .before .args .text .now)) (c .before .before .before .before .before .before .before .before .before .before .before .before .before .before .before .before .before .before .args .left) (c .before .before .before .before .before .before .before .before .before .before .before .before .before .before .before .before .before .before .args .right) (c .before .before .before .before .before .before .before .before .before .before .before .before .before .before .before .before .before .before .args .steps) (c .before .before .before .before .before .before .before .before .before .before .before .before .if1 .left) (c .before .before .before .before .before .before .before .before .before .before .before .if2 .left) (c .before .before .before .before .before .before .before .before .space3 .given .0 .0) (c .before .before .before .before .before .before .before .before .space3 .given .0 .1 .0) (sym (c .before .before .before .before .before .before .before .before .before .before .parts-of .ensures) ∙ c .before .before .before .before .before .before .before .before .space3 .given .1) (c .before .before .before .before .there3 .given .0 .0) (c .before .before .before .before .there3 .given .0 .1 .0) (c .pair .result) (sym (c .before .before .before .before .before .before .parts-of4 .ensures) ∙ c .before .before .before .before .there3 .given .1) (c .pair .ensures ∙ (λ i. equalIn (c .before .before .before .before .before .before .before .before .before .before .before .before .before .before .before .before .before .before .args .depth - 1) (c .before .before .before .before .before .before .before .before .before .before .before .before .before .before .before .before .before .before .args .limit) (rooms (c .before .before .before .before .before .before .before .before .before .before .before .before .before .before .before .before .before .before .args .literal .now) (c .before .before .before .before .before .before .before .before .before .before .before .before .before .before .before .before .before .before .args .binding-cells .now) (c .before .before .before .before .before .before .before .before .before .before .before .before .before .before .before .before .before .before .args .binding-text .now) (c .before .before .before .before .before .before .before .before .before .before .before .before .before .before .before .before .before .before .args .cells .now) (c .before .before .before .before .before .before .before .before .before .before .before .before .before .before .before .before .before .before .args .text .now)) (c .before .before .cell-at .ensures i) (c .before .cell-at2 .ensures i) (c .before .before .before .before .before .before .before .before .before .before .before .before .before .before .before .before .before .before .args .steps + 1)))
 
 pub pair-returns-16 : (t : ℕ) → pair-lts.Need-returns-16 (
   parts-of-reads.Asked,
@@ -872,7 +872,7 @@ pub pair-returns-16 : (t : ℕ) → pair-lts.Need-returns-16 (
   verdict-reads.Asked,
   verdict-reads.Learnt,
 ) (pair-at t) pair.Post
-pair-returns-16 t c = presents-unlike (c .before .before .before .before .before .before .before .before .before .before .before .before .before .before .args .depth) (c .before .before .before .before .before .before .before .before .before .before .before .before .before .before .args .limit) (rooms (c .before .before .before .before .before .before .before .before .before .before .before .before .before .before .args .literal .now) (c .before .before .before .before .before .before .before .before .before .before .before .before .before .before .args .binding-cells .now) (c .before .before .before .before .before .before .before .before .before .before .before .before .before .before .args .binding-text .now) (c .before .before .before .before .before .before .before .before .before .before .before .before .before .before .args .cells .now) (c .before .before .before .before .before .before .before .before .before .before .before .before .before .before .args .text .now)) (c .before .before .before .before .before .before .before .before .before .before .before .before .before .before .args .a) (c .before .before .before .before .before .before .before .before .before .before .before .before .before .before .args .b) (c .before .before .before .before .before .before .before .before .before .before .before .before .before .before .args .steps) (c .before .before .before .before .before .before .before .before .if1 .left) (c .before .before .before .before .before .before .before .if2 .left) (c .before .before .before .before .space3 .given .0 .0) (c .before .before .before .before .space3 .given .0 .1 .0) (sym (c .before .before .before .before .before .before .parts-of .ensures) ∙ c .before .before .before .before .space3 .given .1) _ (sym (c .before .before .parts-of4 .ensures) ∙ c .enum-told9 .given .1) refl
+pair-returns-16 t c = presents-unlike (c .before .before .before .before .before .before .before .before .before .before .before .before .before .before .args .depth) (c .before .before .before .before .before .before .before .before .before .before .before .before .before .before .args .limit) (rooms (c .before .before .before .before .before .before .before .before .before .before .before .before .before .before .args .literal .now) (c .before .before .before .before .before .before .before .before .before .before .before .before .before .before .args .binding-cells .now) (c .before .before .before .before .before .before .before .before .before .before .before .before .before .before .args .binding-text .now) (c .before .before .before .before .before .before .before .before .before .before .before .before .before .before .args .cells .now) (c .before .before .before .before .before .before .before .before .before .before .before .before .before .before .args .text .now)) (c .before .before .before .before .before .before .before .before .before .before .before .before .before .before .args .left) (c .before .before .before .before .before .before .before .before .before .before .before .before .before .before .args .right) (c .before .before .before .before .before .before .before .before .before .before .before .before .before .before .args .steps) (c .before .before .before .before .before .before .before .before .if1 .left) (c .before .before .before .before .before .before .before .if2 .left) (c .before .before .before .before .space3 .given .0 .0) (c .before .before .before .before .space3 .given .0 .1 .0) (sym (c .before .before .before .before .before .before .parts-of .ensures) ∙ c .before .before .before .before .space3 .given .1) _ (sym (c .before .before .parts-of4 .ensures) ∙ c .enum-told9 .given .1) refl
 
 pub pair-returns-17 : (t : ℕ) → pair-lts.Need-returns-17 (
   parts-of-reads.Asked,
@@ -891,4 +891,4 @@ pub pair-returns-17 : (t : ℕ) → pair-lts.Need-returns-17 (
   verdict-reads.Learnt,
 ) (pair-at t) pair.Post
 unfolding seenIn
-pair-returns-17 t c = plains (c .before .before .before .before .before .before .before .before .before .before .before .before .args .depth) (c .before .before .before .before .before .before .before .before .before .before .before .before .args .limit) (rooms (c .before .before .before .before .before .before .before .before .before .before .before .before .args .literal .now) (c .before .before .before .before .before .before .before .before .before .before .before .before .args .binding-cells .now) (c .before .before .before .before .before .before .before .before .before .before .before .before .args .binding-text .now) (c .before .before .before .before .before .before .before .before .before .before .before .before .args .cells .now) (c .before .before .before .before .before .before .before .before .before .before .before .before .args .text .now)) (c .before .before .before .before .before .before .before .before .before .before .before .before .args .a) (c .before .before .before .before .before .before .before .before .before .before .before .before .args .b) (c .before .before .before .before .before .before .before .before .before .before .before .before .args .steps) (c .before .before .before .before .before .before .if1 .left) (c .before .before .before .before .before .if2 .left) (sym (c .before .before .before .before .parts-of .ensures) ∙ c .before .before .enum-told10 .given .1) (c .before .plain-equal .result) (c .verdict .result) (c .verdict .ensures) (c .before .plain-equal .ensures)
+pair-returns-17 t c = plains (c .before .before .before .before .before .before .before .before .before .before .before .before .args .depth) (c .before .before .before .before .before .before .before .before .before .before .before .before .args .limit) (rooms (c .before .before .before .before .before .before .before .before .before .before .before .before .args .literal .now) (c .before .before .before .before .before .before .before .before .before .before .before .before .args .binding-cells .now) (c .before .before .before .before .before .before .before .before .before .before .before .before .args .binding-text .now) (c .before .before .before .before .before .before .before .before .before .before .before .before .args .cells .now) (c .before .before .before .before .before .before .before .before .before .before .before .before .args .text .now)) (c .before .before .before .before .before .before .before .before .before .before .before .before .args .left) (c .before .before .before .before .before .before .before .before .before .before .before .before .args .right) (c .before .before .before .before .before .before .before .before .before .before .before .before .args .steps) (c .before .before .before .before .before .before .if1 .left) (c .before .before .before .before .before .if2 .left) (sym (c .before .before .before .before .parts-of .ensures) ∙ c .before .before .enum-told10 .given .1) (c .before .plain-equal .result) (c .verdict .result) (c .verdict .ensures) (c .before .plain-equal .ensures)
