@@ -2,11 +2,9 @@
 -- value has no size and is no index. Assumes nothing.
 use Prim.Native.Nat.{ℕ}
 use mathlib.Core.Path.{_≡_, refl, sym, ap, _∙_, subst}
-use mathlib.Core.Logic.{_⊎_, inl, inr}
 use mathlib.Core.Bool.{Bool, true, false, _||_, cond, true≢false}
 use mathlib.Core.List.{List, [], _∷_}
 use lib.Dec.{eqb}
-use borrow.Author.Tests.{eq-eqb, ne-eqb}
 use mir.Val.{hasKey}
 use types.Run.{OneOf}
 use denote.Enum.Declared.{tagOf}
@@ -27,24 +25,9 @@ use Rattle.comparing.specs.declared.sizes.Position.the-variants as Posit
 use Rattle.comparing.specs.Equality.{numberScalar, seenScalar, seenNone, seenOf, sameSeen}
 use Rattle.comparing.specs.Order.{orderSeen, comparedOf}
 use Rattle.comparing.specs.Sizes.{sizeOf, positionOf}
+use Rattle.rooms.proofs.Variants.{left-out, no-tag}
 use Rattle.comparing.proofs.ScalarLaws.{apart, apart-number, number-class}
 use Rattle.comparing.proofs.OrderMeaning.{no-order, no-order-number}
-
--- ---- which variants are left
-
-neither : (a b : Bool) → a || b ≡ false → (a ≡ false) × (b ≡ false)
-neither true b e = absurd (true≢false e)
-neither false b e = (refl, e)
-
--- a number of a list is none that is not in it
-pub left-out : (ks : List ℕ) (k x : ℕ) → hasKey ks k ≡ false → OneOf ks x → eqb k x ≡ false
-left-out [] k x e h = absurd h
-left-out (j ∷ []) k x e h = ne-eqb k x (λ q. true≢false (sym (eq-eqb j k (sym h ∙ sym q)) ∙ neither (eqb j k) false e .0))
-left-out (j ∷ i ∷ ks) k x e (inl h) = ne-eqb k x (λ q. true≢false (sym (eq-eqb j k (sym h ∙ sym q)) ∙ neither (eqb j k) (hasKey (i ∷ ks) k) e .0))
-left-out (j ∷ i ∷ ks) k x e (inr h) = left-out (i ∷ ks) k x (neither (eqb j k) (hasKey (i ∷ ks) k) e .1) h
-
-no-tag : (ks : List ℕ) (k : ℕ) → hasKey ks k ≡ false → OneOf ks k → ⊥
-no-tag ks k e h = true≢false (sym (eq-eqb k k refl) ∙ left-out ks k k e h)
 
 -- ---- values without parts
 

@@ -11,5 +11,6 @@ pub mod Frame
 pub mod Pasted
 pub mod ReadBack
 pub mod Scopes
+pub mod Variants
 pub mod Words
 pub mod Zeroed
