@@ -1,9 +1,10 @@
 -- What a count of pairs comes to under a limit, for tallies joined as the definition joins them. Assumes nothing.
-use Prim.Native.Nat.{ℕ, zero, suc, _+_}
+use Prim.Native.Nat.{ℕ, zero, suc, _+_, _≤_, _<_}
 use mathlib.Core.Path.{_≡_, refl, sym, _∙_, ap, fun-ext}
 use mathlib.Core.Bool.{Bool, true, false, cond}
 use native.Mathlib.Omega.{arith}
 use lib.Dec.{ltb}
+use borrow.Author.Tests.{lt-ltb, ltb-true, ltb-false}
 use Rattle.meaning.specs.Comparison.{Tally, tick, both, either}
 use Rattle.comparing.specs.declared.equality.Pairs.{Pairs}
 use Rattle.comparing.specs.declared.equality.Pairs.the-variants as Pairs
@@ -59,3 +60,28 @@ either-paid limit k t u f h = pays-then (λ p. orElse p f) (λ j. refl) limit k 
 pub tick-paid : (limit k : ℕ) (t : Tally Bool) → pair (ltb k limit) k (paid limit (suc k) t) ≡ paid limit k (tick t)
 unfolding paid tick
 tick-paid limit k t = refl
+
+-- A count that stays within the limit comes to the answer, one pair after the other.
+pub paid-within : (limit k n : ℕ) (b : Bool) → k + n ≤ limit → paid limit k (n, b) ≡ decided b (k + n)
+unfolding paid
+paid-within limit k zero b h = ap (decided b) (plus-zero k)
+  where
+    plus-zero : (a : ℕ) → a ≡ a + 0
+    plus-zero a = omega arith
+paid-within limit k (suc n) b h = ap (λ t. pair t k (pays limit (suc k) n (decided b))) (lt-ltb k limit (omega arith)) ∙ paid-within limit (suc k) n b (omega arith) ∙ ap (decided b) (shift k n)
+  where
+    shift : (a i : ℕ) → suc a + i ≡ a + suc i
+    shift a i = omega arith
+
+-- A count that would pass the limit comes to `Out` at the limit, whatever the answer would have been.
+pub paid-over : (limit k n : ℕ) (b : Bool) → k ≤ limit → limit < k + n → paid limit k (n, b) ≡ Pairs.Out limit
+unfolding paid
+paid-over limit k zero b h l = absurd (omega arith)
+paid-over limit k (suc n) b h l = go (ltb k limit) refl (λ m. paid-over limit (suc k) n b m (omega arith))
+  where
+    last : limit ≤ k → k ≡ limit
+    last m = omega arith
+
+    go : (t : Bool) → ltb k limit ≡ t → (suc k ≤ limit → pays limit (suc k) n (decided b) ≡ Pairs.Out limit) → pair t k (pays limit (suc k) n (decided b)) ≡ Pairs.Out limit
+    go true e m = m (ltb-true k limit e)
+    go false e m = ap Pairs.Out (last (ltb-false k limit e))

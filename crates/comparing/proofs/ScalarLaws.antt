@@ -14,8 +14,6 @@ use Rattle.numbers.specs.Order.{orderOf, isEqual, numberPoint, sizeOrder, signe
 use Rattle.text.specs.declared.bytes.TextOrder.{TextOrder}
 use Rattle.text.specs.declared.bytes.TextOrder.the-variants as TextOrder
 use Rattle.text.specs.Bytes as Bytes
-use Rattle.text.specs.Bytes.{equalOf}
-use Rattle.text.proofs.BytesLaws.{order-equal, equal-decides}
 use Rattle.meaning.specs.Value.{Scalar, null, bool, int, uint, double, string, bytes}
 use Rattle.meaning.specs.Comparison.{rank, textOrder, thenText, rankOrder, sameClass, scalarEqual}
 use Rattle.comparing.specs.Equality.{numberScalar}
@@ -67,32 +65,10 @@ bool-same true false = refl
 bool-same false true = refl
 bool-same false false = refl
 
-is-equal : (o : TextOrder) → isEqual (textOrder o) ≡ true → o ≡ TextOrder.Equal
-unfolding textOrder
-is-equal TextOrder.Less e = absurd (true≢false (sym e))
-is-equal TextOrder.Equal e = refl
-is-equal TextOrder.Greater e = absurd (true≢false (sym e))
-
--- two tests that hold together are one
-same-test : (a b : Bool) → (a ≡ true → b ≡ true) → (b ≡ true → a ≡ true) → a ≡ b
-same-test true b f g = sym (f refl)
-same-test false true f g = g refl
-same-test false false f g = refl
-
-pub text-same : (s t : List ℕ) → equalOf s t ≡ isEqual (textOrder (Bytes.orderOf s t))
-unfolding textOrder
-text-same s t = same-test (equalOf s t) (isEqual (textOrder (Bytes.orderOf s t))) there back
-  where
-    there : equalOf s t ≡ true → isEqual (textOrder (Bytes.orderOf s t)) ≡ true
-    there e = rw (order-equal s t .1 (equal-decides s t .0 e)) refl
-
-    back : isEqual (textOrder (Bytes.orderOf s t)) ≡ true → equalOf s t ≡ true
-    back e = equal-decides s t .1 (order-equal s t .0 (is-equal (Bytes.orderOf s t) e))
-
-pub string-same : (s t : List ℕ) → equalOf s t ≡ scalarEqual (string s) (string t)
+pub string-same : (s t : List ℕ) → isEqual (textOrder (Bytes.orderOf s t)) ≡ scalarEqual (string s) (string t)
 unfolding scalarEqual sameClass rankOrder rank orderOf signedOrder sizeOrder wholePoint thenText
-string-same s t = text-same s t
+string-same s t = refl
 
-pub bytes-same : (s t : List ℕ) → equalOf s t ≡ scalarEqual (bytes s) (bytes t)
+pub bytes-same : (s t : List ℕ) → isEqual (textOrder (Bytes.orderOf s t)) ≡ scalarEqual (bytes s) (bytes t)
 unfolding scalarEqual sameClass rankOrder rank orderOf signedOrder sizeOrder wholePoint thenText
-bytes-same s t = text-same s t
+bytes-same s t = refl

@@ -2,16 +2,19 @@
 ghost use mathlib.Core.Path.{_≡_};
 ghost use mathlib.Core.List.{List};
 ghost use Prim.Native.Nat.{ℕ};
+ghost use Rattle.numbers.specs.Order.{isEqual};
 ghost use Rattle.meaning.specs.Value.{null, bool, string, bytes};
+ghost use Rattle.meaning.specs.Comparison.{textOrder};
 ghost use Rattle.rooms.specs.Value.{plainOf};
 ghost use Rattle.rooms.specs.Rooms.{part, textOf};
 ghost use Rattle.comparing.specs.Equality.{seenScalar, seenNone, numberScalar, seenOf, sameSeen};
-use crate::texts::parts_equal;
+use crate::texts::parts_compare;
 use numbers::order::Number;
 use rooms::value::Plain;
 use rooms::value::TextSpace;
 use rooms::value::Value;
 use rooms::value::plain_of;
+use text::bytes::TextOrder;
 
 fn same_null(other: Plain) -> bool
     ensures { λ r. ⌜ ((l b t : List ℕ) → r ≡ sameSeen (seenScalar null) (seenOf l b t other)) ⌝ }
@@ -50,6 +53,16 @@ fn same_number(left: Number, other: Plain) -> bool
     numbers::order::equal(left, right)
 }
 
+fn same_text(order: TextOrder) -> bool
+    ensures { λ r. ⌜ r ≡ isEqual (textOrder order) ⌝ }
+{
+    match order {
+        TextOrder::Less => false,
+        TextOrder::Equal => true,
+        TextOrder::Greater => false,
+    }
+}
+
 fn same_string(
     literal: &[u8],
     binding_text: &[u8],
@@ -64,7 +77,7 @@ fn same_string(
     let Plain::String(there, from, count) = other else {
         return false;
     };
-    parts_equal(
+    same_text(parts_compare(
         literal,
         binding_text,
         text,
@@ -74,7 +87,7 @@ fn same_string(
         there,
         from,
         count,
-    )
+    ))
 }
 
 fn same_bytes(
@@ -91,7 +104,7 @@ fn same_bytes(
     let Plain::Bytes(there, from, count) = other else {
         return false;
     };
-    parts_equal(
+    same_text(parts_compare(
         literal,
         binding_text,
         text,
@@ -101,7 +114,7 @@ fn same_bytes(
         there,
         from,
         count,
-    )
+    ))
 }
 
 // Whether two values without parts are equal.

@@ -1,4 +1,4 @@
--- `equality::find` meets its contract. Assumes nothing.
+-- `lookup::find` meets its contract. Assumes nothing.
 use borrow.Author.Needs.{needs}
 use Prim.Native.Nat.{_+_, _*_, _≤_}
 use mathlib.Core.Path.{_≡_, refl, ap, _∙_}

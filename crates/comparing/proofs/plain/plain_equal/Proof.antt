@@ -1,4 +1,4 @@
--- `equality::plain_equal` meets its contract. Assumes nothing.
+-- `plain::plain_equal` meets its contract. Assumes nothing.
 
 use borrow.Author.Needs.{needs}
 use Rattle.comparing.proofs.plain.plain_equal.Statement.{statement}

@@ -1,10 +1,11 @@
 -- `plain::same_bytes` meets its contract. Assumes nothing.
-use mathlib.Core.Path.{_∙_}
+use mathlib.Core.Path.{ap, _∙_}
 use Rattle.meaning.specs.Value.{bytes}
 use Rattle.rooms.specs.Rooms.{part, textOf}
-use Rattle.meaning.specs.Comparison.{rank}
+use Rattle.meaning.specs.Comparison.{rank, textOrder}
 use Rattle.comparing.proofs.ScalarLaws.{bytes-same}
 use Rattle.comparing.proofs.Classes.{other-class, unlike-seen}
+use Rattle.numbers.specs.Order.{isEqual}
 use borrow.Author.Needs.{needs}
 use Rattle.comparing.proofs.plain.same_bytes.Statement.{statement}
 use Rattle.comparing.proofs.plain.same_bytes.Tie as tie
@@ -16,11 +17,14 @@ returns : tie.Need-returns
 unfolding rank
 returns c = unlike-seen (c .before .before .before .before .args .literal .now) (c .before .before .before .before .args .binding-text .now) (c .before .before .before .before .args .text .now) (bytes (part (textOf (c .before .before .before .before .args .literal .now) (c .before .before .before .before .args .binding-text .now) (c .before .before .before .before .args .text .now) (c .before .before .before .before .args .space)) (c .before .before .before .before .args .first) (c .before .before .before .before .args .length))) (c .before .before .before .before .args .other) (other-class 4 (c .before .before .before .before .args .other) (c .match .keys2))
 
-parts-equal-requires : tie.Need-parts-equal-requires
-parts-equal-requires c κs = search needs
+parts-compare-requires : tie.Need-parts-compare-requires
+parts-compare-requires c κs = search needs
+
+same-text-requires : tie.Need-same-text-requires
+same-text-requires c κs = search needs
 
 returns-2 : tie.Need-returns-2
-returns-2 c = simp (c .before .before .other .given .1) (c .parts-equal .ensures ∙ bytes-same _ _)
+returns-2 c = simp (c .before .before .before .other .given .1) (c .same-text .ensures ∙ ap (λ o. isEqual (textOrder o)) (c .before .parts-compare .ensures) ∙ bytes-same _ _)
 
 pub same-bytes-spec : {M : Type 1} → statement M
-same-bytes-spec = tie.close (tie.spec enum-known-other returns parts-equal-requires returns-2)
+same-bytes-spec = tie.close (tie.spec enum-known-other returns parts-compare-requires same-text-requires returns-2)

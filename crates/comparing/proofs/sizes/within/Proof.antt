@@ -1,4 +1,4 @@
--- `order::within` meets its contract. Assumes nothing.
+-- `sizes::within` meets its contract. Assumes nothing.
 use borrow.Author.Tests.{le-ltb, lt-ltb}
 use Rattle.comparing.proofs.sizes.within.Statement.{statement}
 use Rattle.comparing.proofs.sizes.within.Tie as tie
