@@ -52,3 +52,13 @@ pair-at t = and 5 pair-kinds.ps (is 5 pair-kinds.ps μ-pair t) pair.Pre
 
 abbrev pub pair-below : ℕ → In 5 pair-kinds.ps
 pair-below t = and 5 pair-kinds.ps (falls 5 pair-kinds.ps _<_ μ-pair t) pair.Pre
+
+-- what each member knows of the functions that it calls
+abbrev pub elements-claims : ℕ → elements-lts.Claims
+elements-claims t = (cell-at-reads.Asked, cell-at-reads.Learnt, pair-below t, pair.Post)
+
+abbrev pub entries-claims : ℕ → entries-lts.Claims
+entries-claims t = (cell-at-reads.Asked, cell-at-reads.Learnt, find-reads.Asked, find-reads.Learnt, pair-below t, pair.Post)
+
+abbrev pub pair-claims : ℕ → pair-lts.Claims
+pair-claims t = (parts-of-reads.Asked, parts-of-reads.Learnt, elements-below t, elements.Post, entries-below t, entries.Post, cell-at-reads.Asked, cell-at-reads.Learnt, pair-below t, pair.Post, plain-equal-reads.Asked, plain-equal-reads.Learnt, verdict-reads.Asked, verdict-reads.Learnt)
