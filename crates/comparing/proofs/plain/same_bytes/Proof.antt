@@ -15,7 +15,7 @@ enum-known-other c = search needs
 
 returns : tie.Need-returns
 unfolding rank
-returns c = unlike-seen (c .before .before .before .before .args .literal .now) (c .before .before .before .before .args .binding-text .now) (c .before .before .before .before .args .text .now) (bytes (part (textOf (c .before .before .before .before .args .literal .now) (c .before .before .before .before .args .binding-text .now) (c .before .before .before .before .args .text .now) (c .before .before .before .before .args .space)) (c .before .before .before .before .args .first) (c .before .before .before .before .args .length))) (c .before .before .before .before .args .other) (other-class 4 (c .before .before .before .before .args .other) (c .match .keys2))
+returns c = let given = c .before .before .before .before .args in unlike-seen (given .literal .now) (given .binding-text .now) (given .text .now) (bytes (part (textOf (given .literal .now) (given .binding-text .now) (given .text .now) (given .space)) (given .first) (given .length))) (given .other) (other-class 4 (given .other) (c .match .keys2))
 
 parts-compare-requires : tie.Need-parts-compare-requires
 parts-compare-requires c κs = search needs
