@@ -10,3 +10,4 @@ pub mod Calls
 pub mod Containers
 pub mod Comprehension
 pub mod Machine
+pub mod Refines

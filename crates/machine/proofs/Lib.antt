@@ -1,0 +1,6 @@
+-- The theorem that the machine refines the meaning, with its laws, from the words up.
+pub mod Words
+pub mod Keeping
+pub mod Taking
+pub mod Traces
+pub mod Match
