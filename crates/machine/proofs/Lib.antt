@@ -4,3 +4,6 @@ pub mod Keeping
 pub mod Taking
 pub mod Traces
 pub mod Match
+pub mod Charges
+pub mod Steps
+pub mod Operands

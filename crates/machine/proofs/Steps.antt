@@ -1,0 +1,124 @@
+-- Pairs of values are charged a step each, by equality and by the look-up of a key. Rests on Charges and on the crate rooms. Assumes nothing.
+use Prim.Native.Nat.{ℕ, zero, suc, _+_, _≤_, _<_}
+use mathlib.Core.Path.{_≡_, refl, sym, ap, ap₂, _∙_, subst}
+use mathlib.Core.List.{List, [], _∷_, _++_, append-nil}
+use mathlib.Core.Option.{Option, none, some}
+use mathlib.Core.Bool.{Bool, true, false, cond}
+use native.Mathlib.Omega.{arith}
+use lib.Dec.{leb, ltb}
+use lib.ListN.{replicate}
+use Rattle.meaning.specs.Limits.{Counts}
+use Rattle.meaning.specs.Value as Meaning
+use Rattle.meaning.specs.Run.{Charge, step, Trace, Result, value, error, Rule, pure, charged, after, onValue, _>>=_, placed}
+use Rattle.meaning.specs.Comprehension as Comprehension
+use Rattle.meaning.specs.Comparison.{Tally, compared}
+use Rattle.meaning.specs.Limited as Limited
+use Rattle.meaning.specs.Limited.{spend, outcome, charge, fits}
+use Rattle.rooms.specs.declared.value.CellSpace.{CellSpace}
+use Rattle.rooms.specs.declared.equality.Pairs.{Pairs}
+use Rattle.rooms.specs.declared.equality.Pairs.the-variants as Pairs
+use Rattle.rooms.specs.declared.equality.Found.{Found}
+use Rattle.rooms.specs.declared.equality.Found.the-variants as Found
+use Rattle.rooms.specs.declared.scope.Scope.{Scope}
+use Rattle.rooms.specs.Rooms.{Rooms, cellAt}
+use Rattle.rooms.specs.Stands.{Alive, Stands}
+use Rattle.rooms.specs.Equality.{pays, paysFound, pair, pairFound, decided, paid}
+use Rattle.rooms.proofs.EqualMeaning.{FoundIs, Finds}
+use Rattle.machine.specs.declared.outcome.Used.{Used}
+use Rattle.machine.specs.declared.outcome.Limit.the-variants as Limit
+use Rattle.machine.specs.declared.outcome.Outcome.{Outcome}
+use Rattle.machine.specs.declared.outcome.Outcome.the-variants as Outcome
+use Rattle.machine.specs.Outcomes.{Res, withSteps}
+use Rattle.machine.specs.Comparison.{onPairs}
+use Rattle.machine.specs.Refines.{usedOf, Matches, Start}
+use Rattle.machine.proofs.Keeping.{upto-same, keeps-same}
+use Rattle.machine.proofs.Traces.{from-charge}
+use Rattle.machine.proofs.Traces as Traces
+use Rattle.machine.proofs.Match.{Says}
+use Rattle.machine.proofs.Charges.{walked, restep, start-walked}
+
+-- n charges of a step, where nothing else is done
+abbrev payIn : {X : Type 0} → (ℕ → X) → (limit k n : ℕ) → (ℕ → X) → X
+payIn out limit k zero f = f k
+payIn out limit k (suc n) f = cond (ltb k limit) (payIn out limit (suc k) n f) (out k)
+
+pays-in : (limit k n : ℕ) (f : ℕ → Pairs) → pays limit k n f ≡ payIn (λ j. Pairs.Out j) limit k n f
+pays-in limit k zero f = refl
+pays-in limit k (suc n) f = ap (pair (ltb k limit) k) (pays-in limit (suc k) n f) ∙ go (ltb k limit)
+  where
+    go : (b : Bool) → pair b k (payIn (λ j. Pairs.Out j) limit (suc k) n f) ≡ cond b (payIn (λ j. Pairs.Out j) limit (suc k) n f) (Pairs.Out k)
+    go true = refl
+    go false = refl
+
+found-in : (limit k n : ℕ) (f : ℕ → Found) → paysFound limit k n f ≡ payIn (λ j. Found.Out j) limit k n f
+found-in limit k zero f = refl
+found-in limit k (suc n) f = ap (pairFound (ltb k limit) k) (found-in limit (suc k) n f) ∙ go (ltb k limit)
+  where
+    go : (b : Bool) → pairFound b k (payIn (λ j. Found.Out j) limit (suc k) n f) ≡ cond b (payIn (λ j. Found.Out j) limit (suc k) n f) (Found.Out k)
+    go true = refl
+    go false = refl
+
+-- pairs compared, then a rule
+compared-is : {A : Type 0} (t : Tally A) (k : A → Rule Meaning.Value) → _≡_ {A = Rule Meaning.Value} (_>>=_ (compared t) k) (replicate (t .0) step ++ (k (t .1)) .0, (k (t .1)) .1)
+unfolding _>>=_ compared after onValue charged pure
+compared-is t k = ap (λ x. (x ++ (k (t .1)) .0, (k (t .1)) .1)) (append-nil (replicate (t .0) step))
+
+module _ (l : Counts) (src : List ℕ) where
+  module _ {X : Type 0} (out : ℕ → X) (G : X → Res) (L : Alive) (u : Counts) (r : Rooms) (s : Scope) (t : Comprehension.Scope) (p : ℕ) (ends : (k : ℕ) → G (out k) ≡ (Outcome.Exhausted Limit.Steps (usedOf (walked u k)), r)) (f : ℕ → X) (ρ : Rule Meaning.Value) where
+    -- from k steps on
+    abbrev After : ℕ → ℕ → Type 0
+    After k n = Matches L (walked u k) r (G (payIn out (l .steps) k n f)) (outcome (placed p (ρ .1)) (spend l (replicate n step ++ ρ .0) (walked u k))) (replicate n step ++ ρ .0)
+
+    one-step : (k n : ℕ) → Start l src L (walked u k) r s t → After (suc k) n → After k (suc n)
+    unfolding charge fits Limited.limitOf
+    one-step k n a h = subst (λ end. Matches L (walked u k) r (G (payIn out (l .steps) k (suc n) f)) end (step ∷ (replicate n step ++ ρ .0))) (sym (from-charge l step (replicate n step ++ ρ .0, placed p (ρ .1)) (walked u k))) (go (ltb k (l .steps)))
+      where
+        rest : X
+        rest = payIn out (l .steps) (suc k) n f
+        go : (b : Bool) → Matches L (walked u k) r (G (cond b rest (out k))) (Traces.paid b step (walked u k) (λ d. outcome (placed p (ρ .1)) (spend l (replicate n step ++ ρ .0) d))) (step ∷ (replicate n step ++ ρ .0))
+        go true = restep L (walked u k) (suc k) r (G rest) (outcome (placed p (ρ .1)) (spend l (replicate n step ++ ρ .0) (walked u (suc k)))) (replicate n step ++ ρ .0) h
+        go false = subst (λ x. Matches L (walked u k) r x (Limited.exhausted (Limited.limitOf step) (walked u k)) (step ∷ (replicate n step ++ ρ .0))) (sym (ends k)) (record { good = refl; keeps = keeps-same (walked u k) (walked u k) r (upto-same (walked u k)) (a .roomy) })
+
+    steps-then : (n k : ℕ) → Start l src L (walked u k) r s t → (Start l src L (walked u (k + n)) r s t → Says l src p L (walked u (k + n)) r (G (f (k + n))) ρ) → After k n
+    steps-then zero k a g = subst (λ j. Start l src L (walked u j) r s t → Says l src p L (walked u j) r (G (f j)) ρ) (plus-zero k) g a
+      where
+        plus-zero : (a : ℕ) → a + 0 ≡ a
+        plus-zero a = omega arith
+    steps-then (suc n) k a g = one-step k n a (steps-then n (suc k) (start-walked l src a (suc k)) (subst (λ j. Start l src L (walked u j) r s t → Says l src p L (walked u j) r (G (f j)) ρ) (shift k n) g))
+      where
+        shift : (a b : ℕ) → a + suc b ≡ suc a + b
+        shift a b = omega arith
+
+  -- two values are compared, or one is looked for in a list
+  pub pairs-then : {L : Alive} {u : Counts} {r : Rooms} {s : Scope} {t : Comprehension.Scope} → Start l src L u r s t → (p : ℕ) (n : Tally Bool) (x : Pairs) → x ≡ paid (l .steps) (u .steps) n → (f : Bool → Used → Outcome) (k : Bool → Rule Meaning.Value)
+      → ((c : Counts) → Start l src L c r s t → (b : Bool) → Says l src p L c r (f b (usedOf c), r) (k b))
+      → Says l src p L u r (onPairs x (usedOf u) f, r) (_>>=_ (compared n) k)
+  unfolding paid
+  pairs-then {L} {u} {r} {s} {t} a p n x e f k g =
+      subst (λ ρ. Says l src p L u r (onPairs x (usedOf u) f, r) ρ) (sym (compared-is n k))
+      (subst (λ y. Matches L u r (onPairs y (usedOf u) f, r) (outcome (placed p ((k (n .1)) .1)) (spend l (replicate (n .0) step ++ (k (n .1)) .0) u)) (replicate (n .0) step ++ (k (n .1)) .0)) (sym (e ∙ pays-in (l .steps) (u .steps) (n .0) (decided (n .1))))
+      (steps-then (λ j. Pairs.Out j) (λ y. (onPairs y (usedOf u) f, r)) L u r s t p (λ j. refl) (decided (n .1)) (k (n .1)) (n .0) (u .steps) a (λ b. end (n .1) b)))
+    where
+      c : Counts
+      c = walked u (u .steps + n .0)
+      end : (b : Bool) → Start l src L c r s t → Says l src p L c r (onPairs (decided b (u .steps + n .0)) (usedOf u) f, r) (k b)
+      end true z = g c z true
+      end false z = g c z false
+
+  -- a key is looked up
+  pub found-then : {L : Alive} {u : Counts} {r : Rooms} {s : Scope} {t : Comprehension.Scope} → Start l src L u r s t → (p : ℕ) (space : CellSpace) (n : Tally (Option Meaning.Value)) (x : Found) → Finds L r space (l .steps) (u .steps) n x
+      → (G : Found → Res) (k : Option Meaning.Value → Rule Meaning.Value)
+      → ((j : ℕ) → G (Found.Out j) ≡ (Outcome.Exhausted Limit.Steps (usedOf (walked u j)), r))
+      → ((j : ℕ) → Start l src L (walked u j) r s t → Says l src p L (walked u j) r (G (Found.Missing j)) (k none))
+      → ((j : ℕ) → Start l src L (walked u j) r s t → (v : Meaning.Value) (c : ℕ) → L .cells space c → Stands v L r (cellAt r space c) → Says l src p L (walked u j) r (G (Found.At c j)) (k (some v)))
+      → Says l src p L u r (G x) (_>>=_ (compared n) k)
+  found-then {L} {u} {r} {s} {t} a p space n x h G k ends missing at =
+      subst (λ ρ. Says l src p L u r (G x) ρ) (sym (compared-is n k))
+      (subst (λ y. Matches L u r (G y) (outcome (placed p ((k (n .1)) .1)) (spend l (replicate (n .0) step ++ (k (n .1)) .0) u)) (replicate (n .0) step ++ (k (n .1)) .0)) (sym (h .2 ∙ found-in (l .steps) (u .steps) (n .0) (h .0)))
+      (steps-then (λ j. Found.Out j) G L u r s t p ends (h .0) (k (n .1)) (n .0) (u .steps) a (λ b. end (n .1) (h .1) b)))
+    where
+      j : ℕ
+      j = u .steps + n .0
+      end : (o : Option Meaning.Value) → FoundIs L r space o (h .0) → Start l src L (walked u j) r s t → Says l src p L (walked u j) r (G (h .0 j)) (k o)
+      end none i z = subst (λ (f : ℕ → Found). Says l src p L (walked u j) r (G (f j)) (k none)) (sym i) (missing j z)
+      end (some v) i z = subst (λ (f : ℕ → Found). Says l src p L (walked u j) r (G (f j)) (k (some v))) (sym (i .1)) (at j z v (i .0) (i .2) (i .3))
