@@ -7,3 +7,5 @@ pub mod Match
 pub mod Charges
 pub mod Steps
 pub mod Operands
+pub mod Seen
+pub mod Logic

@@ -11,3 +11,4 @@ pub mod Containers
 pub mod Comprehension
 pub mod Machine
 pub mod Refines
+pub mod Accepted

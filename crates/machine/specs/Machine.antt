@@ -3,7 +3,7 @@ use Prim.Native.Nat.{ℕ, _*_}
 use mathlib.Core.List.{List}
 use mathlib.Core.Bool.{Bool, true, false, cond, _&&_}
 use mathlib.Core.Option.{Option, none, some}
-use Rattle.meaning.specs.Expr.{Unary, notOp, negateOp, notStrictlyFalse, Arith, add, sub, div, mul, rem, Binary, logic, equals, notEquals, index, optIndex, optSelect, arith, compare, isIn, Expr, literal, name, unary, binary, conditional, select, listOf, mapOf, comprehension, call, noneCall, orValue, Elements, noElements, element, markedElement, Pairs, noPairs, pair, markedPair, countElements, countPairs}
+use Rattle.meaning.specs.Expr.{Unary, notOp, negateOp, notStrictlyFalse, Arith, add, sub, div, mul, rem, Binary, logic, equals, notEquals, index, optIndex, optSelect, arith, compare, isIn, Function, Expr, literal, name, unary, binary, conditional, select, listOf, mapOf, comprehension, call, noneCall, orValue, Elements, noElements, element, markedElement, Pairs, noPairs, pair, markedPair, countElements, countPairs}
 use Rattle.meaning.specs.Containers.{cellsAnEntry}
 use Rattle.meaning.specs.Look.{ofName, named}
 use Rattle.meaning.specs.Meaning.{look}
@@ -70,52 +70,56 @@ leftOf (arith a) o = wantsValue o
 leftOf (compare c) o = wantsValue o
 leftOf isIn o = wantsValue o
 
-module _ (table : List ℕ) (limit : ℕ) where
-  -- both operands are values; the left one's counts are past
-  abbrev pub both : Outcome → Rooms → (Value → Res) → Res
-  both (Outcome.Value v z) r k = k v
-  both (Outcome.Error e p z) r k = (Outcome.Error e p z, r)
-  both (Outcome.Exhausted x z) r k = (Outcome.Exhausted x z, r)
+-- both operands are values; the left one's counts are past
+abbrev pub both : Outcome → Rooms → (Value → Res) → Res
+both (Outcome.Value v z) r k = k v
+both (Outcome.Error e p z) r k = (Outcome.Error e p z, r)
+both (Outcome.Exhausted x z) r k = (Outcome.Exhausted x z, r)
 
-  abbrev pub rightOf : ℕ → Binary → Outcome → Value → Used → Rooms → Res
-  rightOf p (logic fold) left w u r = (logicRight fold p left w u, r)
-  rightOf p equals left w u r = both left r (λ v. (equalOut limit true v w u r, r))
-  rightOf p notEquals left w u r = both left r (λ v. (equalOut limit false v w u r, r))
-  rightOf p index left w u r = both left r (λ v. Selection.index limit p false v w u r)
-  rightOf p optIndex left w u r = both left r (λ v. Selection.index limit p true v w u r)
-  rightOf p optSelect left w u r = both left r (λ v. Selection.optSelect limit p v w u r)
-  rightOf p (arith o) left w u r = both left r (λ v. arithmetic p o v w u r)
-  rightOf p (compare c) left w u r = both left r (λ v. (compareOut c p v w u r, r))
-  rightOf p isIn left w u r = both left r (λ v. (inParts limit p r v u (partsOf w), r))
+abbrev pub rightOf : (limit : ℕ) → ℕ → Binary → Outcome → Value → Used → Rooms → Res
+rightOf limit p (logic fold) left w u r = (logicRight fold p left w u, r)
+rightOf limit p equals left w u r = both left r (λ v. (equalOut limit true v w u r, r))
+rightOf limit p notEquals left w u r = both left r (λ v. (equalOut limit false v w u r, r))
+rightOf limit p index left w u r = both left r (λ v. Selection.index limit p false v w u r)
+rightOf limit p optIndex left w u r = both left r (λ v. Selection.index limit p true v w u r)
+rightOf limit p optSelect left w u r = both left r (λ v. Selection.optSelect limit p v w u r)
+rightOf limit p (arith o) left w u r = both left r (λ v. arithmetic p o v w u r)
+rightOf limit p (compare c) left w u r = both left r (λ v. (compareOut c p v w u r, r))
+rightOf limit p isIn left w u r = both left r (λ v. (inParts limit p r v u (partsOf w), r))
 
-  abbrev pub onLeft : Option Used → Outcome → Rooms → (Used → Rooms → Res) → Res
-  onLeft none left r k = (left, r)
-  onLeft (some u) left r k = k u r
+abbrev pub onLeft : Option Used → Outcome → Rooms → (Used → Rooms → Res) → Res
+onLeft none left r k = (left, r)
+onLeft (some u) left r k = k u r
 
-  abbrev pub binaryDoes : ℕ → Binary → Does → Does → Does
-  binaryDoes p o left right s u r =
-      let x : Res = left s u r in
-      onLeft (leftOf o (x .0)) (x .0) (x .1) (λ w q.
-      let y : Res = right s w q in
-      withValue (y .0) (y .1) (λ v z d. rightOf p o (x .0) v z d))
+abbrev pub binaryDoes : (limit : ℕ) → ℕ → Binary → Does → Does → Does
+binaryDoes limit p o left right s u r =
+    let x : Res = left s u r in
+    onLeft (leftOf o (x .0)) (x .0) (x .1) (λ w q.
+    let y : Res = right s w q in
+    withValue (y .0) (y .1) (λ v z d. rightOf limit p o (x .0) v z d))
 
-  abbrev pub conditionalDoes : ℕ → Does → Does → Does → Does
-  conditionalDoes p condition ifTrue ifFalse s u r =
-      let x : Res = condition s u r in
-      withValue (x .0) (x .1) (λ v w q. branch p w q (boolIn v) (λ z d. ifTrue s z d) (λ z d. ifFalse s z d))
+abbrev pub conditionalDoes : ℕ → Does → Does → Does → Does
+conditionalDoes p condition ifTrue ifFalse s u r =
+    let x : Res = condition s u r in
+    withValue (x .0) (x .1) (λ v w q. branch p w q (boolIn v) (λ z d. ifTrue s z d) (λ z d. ifFalse s z d))
 
-  abbrev pub selectDoes : ℕ → Bool → Does → Does
-  selectDoes p test operand s u r =
-      let x : Res = operand s u r in
-      withValue (x .0) (x .1) (λ v w q. selectField limit p test (fieldValue table p) v w q)
+abbrev pub selectDoes : (limit : ℕ) → ℕ → Bool → Value → Does → Does
+selectDoes limit p test field operand s u r =
+    let x : Res = operand s u r in
+    withValue (x .0) (x .1) (λ v w q. selectField limit p test field v w q)
 
-  -- the argument comes before the target
-  abbrev pub orValueDoes : ℕ → Does → Does → Does
-  orValueDoes p target argument s u r =
-      let x : Res = argument s u r in
-      withValue (x .0) (x .1) (λ default w q.
-      let y : Res = target s w q in
-      withValue (y .0) (y .1) (λ v z d. (orValueOut p default z d (optionalIn v), d)))
+abbrev pub callDoes : ℕ → Function → Does → Does
+callDoes p f operand s u r =
+    let x : Res = operand s u r in
+    withValue (x .0) (x .1) (λ v w q. called p f v w q)
+
+-- the argument comes before the target
+abbrev pub orValueDoes : ℕ → Does → Does → Does
+orValueDoes p target argument s u r =
+    let x : Res = argument s u r in
+    withValue (x .0) (x .1) (λ default w q.
+    let y : Res = target s w q in
+    withValue (y .0) (y .1) (λ v z d. (orValueOut p default z d (optionalIn v), d)))
 
 -- ---- the append path
 
@@ -151,11 +155,11 @@ module _ (table : List ℕ) (limit : ℕ) where
     body (literal p x) s u r = (Outcome.Value (literalValue table p x) u, r)
     body (name p n) s u r = (nameOut p (slotOf s n) u, r)
     body (unary p o e) s u r = unaryDoes p o (recorded limit (λ t w q. body e t w q)) s u r
-    body (binary p o e f) s u r = binaryDoes table limit p o (recorded limit (λ t w q. body e t w q)) (recorded limit (λ t w q. body f t w q)) s u r
+    body (binary p o e f) s u r = binaryDoes limit p o (recorded limit (λ t w q. body e t w q)) (recorded limit (λ t w q. body f t w q)) s u r
     body (conditional p c e f) s u r =
-        conditionalDoes table limit p (recorded limit (λ t w q. body c t w q)) (recorded limit (λ t w q. body e t w q))
+        conditionalDoes p (recorded limit (λ t w q. body c t w q)) (recorded limit (λ t w q. body e t w q))
         (recorded limit (λ t w q. body f t w q)) s u r
-    body (select p test field e) s u r = selectDoes table limit p test (recorded limit (λ t w q. body e t w q)) s u r
+    body (select p test field e) s u r = selectDoes limit p test (fieldValue table p) (recorded limit (λ t w q. body e t w q)) s u r
     body (listOf p es) s u r = taking (countElements es) u r (λ w q. elements es s (u .cells) 0 0 w q)
     body (mapOf p es) s u r = taking (cellsAnEntry * countPairs es) u r (λ w q. entries p es s (u .cells) 0 0 w q)
     body (comprehension p a i range init condition step result) s u r =
@@ -171,11 +175,9 @@ module _ (table : List ℕ) (limit : ℕ) where
         })
         (cond ((look condition) .isLiteral && named a ((look result) .isName)) (appendStep a step) none)
         (recorded limit (λ t w q. body init t w q)) (recorded limit (λ t w q. body range t w q)) s u r
-    body (call p f e) s u r =
-        let x : Res = recorded limit (λ t w q. body e t w q) s u r in
-        withValue (x .0) (x .1) (λ v w q. called p f v w q)
+    body (call p f e) s u r = callDoes p f (recorded limit (λ t w q. body e t w q)) s u r
     body (noneCall p) s u r = (Outcome.Value Value.OptionalNone u, r)
-    body (orValue p target argument) s u r = orValueDoes table limit p (recorded limit (λ t w q. body target t w q)) (recorded limit (λ t w q. body argument t w q)) s u r
+    body (orValue p target argument) s u r = orValueDoes p (recorded limit (λ t w q. body target t w q)) (recorded limit (λ t w q. body argument t w q)) s u r
 
     -- the elements that are left, and the entries
     pub elements : Elements → Scope → (base m d : ℕ) → Used → Rooms → Res
