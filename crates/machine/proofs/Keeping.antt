@@ -154,6 +154,9 @@ keeps-agrees L u c r q b k =
 pub agrees-sub : (L M : Alive) (r : Rooms) → ((space : CellSpace) (i : ℕ) → L .cells space i → M .cells space i) → L .bytes ≤ M .bytes → Agrees L M r r
 agrees-sub L M r s l = record { sub = s; same = λ space i h. refl; longer = l; texts = refl; literals = refl; bindingTexts = refl }
 
+pub agrees-narrow : (L M : Alive) (r q : Rooms) → Agrees L M r q → Agrees L L r q
+agrees-narrow L M r q a = record { sub = λ space i h. h; same = a .same; longer = omega arith; texts = a .texts; literals = a .literals; bindingTexts = a .bindingTexts }
+
 pub agrees-then : (L M N : Alive) (r q p : Rooms) → Agrees L M r q → Agrees M N q p → Agrees L N r p
 agrees-then L M N r q p a b =
     record {

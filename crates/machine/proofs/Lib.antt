@@ -9,3 +9,5 @@ pub mod Steps
 pub mod Operands
 pub mod Seen
 pub mod Logic
+pub mod Texts
+pub mod Building

@@ -110,15 +110,15 @@ module _ (l : Counts) (src : List ℕ) where
       → (G : Found → Res) (k : Option Meaning.Value → Rule Meaning.Value)
       → ((j : ℕ) → G (Found.Out j) ≡ (Outcome.Exhausted Limit.Steps (usedOf (walked u j)), r))
       → ((j : ℕ) → Start l src L (walked u j) r s t → Says l src p L (walked u j) r (G (Found.Missing j)) (k none))
-      → ((j : ℕ) → Start l src L (walked u j) r s t → (v : Meaning.Value) (c : ℕ) → L .cells space c → Stands v L r (cellAt r space c) → Says l src p L (walked u j) r (G (Found.At c j)) (k (some v)))
+      → ((j : ℕ) → Start l src L (walked u j) r s t → (v : Meaning.Value) → n .1 ≡ some v → (c : ℕ) → L .cells space c → Stands v L r (cellAt r space c) → Says l src p L (walked u j) r (G (Found.At c j)) (k (some v)))
       → Says l src p L u r (G x) (_>>=_ (compared n) k)
   found-then {L} {u} {r} {s} {t} a p space n x h G k ends missing at =
       subst (λ ρ. Says l src p L u r (G x) ρ) (sym (compared-is n k))
       (subst (λ y. Matches L u r (G y) (outcome (placed p ((k (n .1)) .1)) (spend l (replicate (n .0) step ++ (k (n .1)) .0) u)) (replicate (n .0) step ++ (k (n .1)) .0)) (sym (h .2 ∙ found-in (l .steps) (u .steps) (n .0) (h .0)))
-      (steps-then (λ j. Found.Out j) G L u r s t p ends (h .0) (k (n .1)) (n .0) (u .steps) a (λ b. end (n .1) (h .1) b)))
+      (steps-then (λ j. Found.Out j) G L u r s t p ends (h .0) (k (n .1)) (n .0) (u .steps) a (λ b. end (n .1) refl (h .1) b)))
     where
       j : ℕ
       j = u .steps + n .0
-      end : (o : Option Meaning.Value) → FoundIs L r space o (h .0) → Start l src L (walked u j) r s t → Says l src p L (walked u j) r (G (h .0 j)) (k o)
-      end none i z = subst (λ (f : ℕ → Found). Says l src p L (walked u j) r (G (f j)) (k none)) (sym i) (missing j z)
-      end (some v) i z = subst (λ (f : ℕ → Found). Says l src p L (walked u j) r (G (f j)) (k (some v))) (sym (i .1)) (at j z v (i .0) (i .2) (i .3))
+      end : (o : Option Meaning.Value) → n .1 ≡ o → FoundIs L r space o (h .0) → Start l src L (walked u j) r s t → Says l src p L (walked u j) r (G (h .0 j)) (k o)
+      end none e i z = subst (λ (f : ℕ → Found). Says l src p L (walked u j) r (G (f j)) (k none)) (sym i) (missing j z)
+      end (some v) e i z = subst (λ (f : ℕ → Found). Says l src p L (walked u j) r (G (f j)) (k (some v))) (sym (i .1)) (at j z v e (i .0) (i .2) (i .3))
