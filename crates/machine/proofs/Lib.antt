@@ -11,3 +11,5 @@ pub mod Seen
 pub mod Logic
 pub mod Texts
 pub mod Building
+pub mod Numbers
+pub mod Arithmetic
