@@ -13,3 +13,5 @@ pub mod Texts
 pub mod Building
 pub mod Numbers
 pub mod Arithmetic
+pub mod Comparing
+pub mod LookUp
