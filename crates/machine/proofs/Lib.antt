@@ -15,3 +15,4 @@ pub mod Numbers
 pub mod Arithmetic
 pub mod Comparing
 pub mod LookUp
+pub mod Selecting
