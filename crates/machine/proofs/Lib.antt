@@ -16,3 +16,5 @@ pub mod Arithmetic
 pub mod Comparing
 pub mod LookUp
 pub mod Selecting
+pub mod Calls
+pub mod Literals
