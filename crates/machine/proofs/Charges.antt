@@ -36,10 +36,10 @@ use Rattle.machine.specs.declared.outcome.Limit.the-variants as Limit
 use Rattle.machine.specs.declared.outcome.Outcome.{Outcome}
 use Rattle.machine.specs.declared.outcome.Outcome.the-variants as Outcome
 use Rattle.machine.specs.Outcomes.{Res, Does, stepped, withSteps, withCells, withBytes, withWords, afterStep, recorded, onTaken, taking, whole}
-use Rattle.machine.specs.Refines.{usedOf, from, countsOf, Worded, Held, Live, Roomy, Keeps, Logged, Matches, Start, Meets}
+use Rattle.machine.specs.Refines.{usedOf, from, countsOf, Worded, Held, Live, Roomy, Keeps, Logged, Good, Matches, Start, Meets}
 use Rattle.machine.proofs.Keeping.{upto-same, keeps-same, keeps-steps}
 use Rattle.machine.proofs.Taking.{took, taken}
-use Rattle.machine.proofs.Traces.{paid, from-charge}
+use Rattle.machine.proofs.Traces.{paid, from-charge, cells-step, text-step}
 use Rattle.machine.proofs.Match.{Says}
 
 -- so many bytes, and so many steps, more
@@ -49,15 +49,32 @@ wrote u n = record { steps = u .steps; cells = u .cells; bytes = u .bytes + n }
 abbrev pub walked : Counts → ℕ → Counts
 walked u n = record { steps = n; cells = u .cells; bytes = u .bytes }
 
--- ---- steps change neither rooms nor what was built
+-- ---- what was built, and from where, said otherwise
 
-pub restep : (L : Alive) (u : Counts) (n : ℕ) (r : Rooms) (x : Res) (end : Limited.Outcome) (t : Trace) → Matches L (walked u n) r x end t → Matches L u r x end (step ∷ t)
-unfolding cellsBuilt textBuilt
-restep L u n r x (Limited.value v c) t z =
-    record { good = (z .good .0, z .good .1, z .good .2, record { cells = z .good .3 .cells; counted = z .good .3 .counted; bytes = z .good .3 .bytes; bytesCounted = z .good .3 .bytesCounted }); keeps = keeps-steps (walked u n) c u c r (x .1) refl refl refl refl (z .keeps) }
-restep L u n r x (Limited.error e c) t z =
-    record { good = (z .good .0, record { cells = z .good .1 .cells; counted = z .good .1 .counted; bytes = z .good .1 .bytes; bytesCounted = z .good .1 .bytesCounted }); keeps = keeps-steps (walked u n) c u c r (x .1) refl refl refl refl (z .keeps) }
-restep L u n r x (Limited.exhausted y c) t z = record { good = z .good; keeps = keeps-steps (walked u n) c u c r (x .1) refl refl refl refl (z .keeps) }
+logged-as : (L : Alive) (lo hi low : Counts) (q : Rooms) (t v : Trace) → cellsBuilt t ≡ cellsBuilt v → textBuilt t ≡ textBuilt v → lo .cells ≡ low .cells → lo .bytes ≡ low .bytes → Logged t L lo hi q → Logged v L low hi q
+logged-as L lo hi low q t v e f a b h =
+    record {
+      cells = subst (λ n. StandsCells (cellsBuilt v) (record { cells = λ space i. L .cells space i ⊎ ((space ≡ Cells.Evaluation) × (n ≤ i) × (i < hi .cells)); bytes = hi .bytes }) q Cells.Evaluation n) a (subst (λ vs. StandsCells vs (Live L lo hi) q Cells.Evaluation (lo .cells)) e (h .cells));
+      counted = omega (arith, ap count e, a, h .counted);
+      bytes = subst (λ n. part (q .text) n (length (textBuilt v)) ≡ textBuilt v) b (subst (λ z. part (q .text) (lo .bytes) (length z) ≡ z) f (h .bytes));
+      bytesCounted = omega (arith, ap length f, b, h .bytesCounted);
+    }
+
+held-low : (L : Alive) (lo hi low : Counts) (v : Meaning.Value) (q : Rooms) (m : Value) → lo .cells ≡ low .cells → Held v (Live L lo hi) q m → Held v (Live L low hi) q m
+held-low L lo hi low v q m a h = subst (λ n. Held v (record { cells = λ space i. L .cells space i ⊎ ((space ≡ Cells.Evaluation) × (n ≤ i) × (i < hi .cells)); bytes = hi .bytes }) q m) a h
+
+good-as : (L : Alive) (lo low : Counts) (q : Rooms) (o : Outcome) (end : Limited.Outcome) (t v : Trace) → cellsBuilt t ≡ cellsBuilt v → textBuilt t ≡ textBuilt v → lo .cells ≡ low .cells → lo .bytes ≡ low .bytes → Good L lo q o t end → Good L low q o v end
+good-as L lo low q o (Limited.value w c) t v e f a b h = (h .0, h .1, held-low L lo c low w q (h .0) a (h .2), logged-as L lo c low q t v e f a b (h .3))
+good-as L lo low q o (Limited.error x c) t v e f a b h = (h .0, logged-as L lo c low q t v e f a b (h .1))
+good-as L lo low q o (Limited.exhausted x c) t v e f a b h = h
+
+-- traces that build the same
+pub relog : (L : Alive) (lo : Counts) (r : Rooms) (x : Res) (end : Limited.Outcome) (t v : Trace) → cellsBuilt t ≡ cellsBuilt v → textBuilt t ≡ textBuilt v → Matches L lo r x end t → Matches L lo r x end v
+relog L lo r x end t v e f z = record { good = good-as L lo lo (x .1) (x .0) end t v e f refl refl (z .good); keeps = z .keeps }
+
+-- counts that differ in steps alone
+pub relow : (L : Alive) (lo low : Counts) (r : Rooms) (x : Res) (end : Limited.Outcome) (t : Trace) → lo .cells ≡ low .cells → lo .bytes ≡ low .bytes → Matches L lo r x end t → Matches L low r x end t
+relow L lo low r x end t a b z = record { good = good-as L lo low (x .1) (x .0) end t t refl refl a b (z .good); keeps = keeps-steps lo (countsOf end) low (countsOf end) r (x .1) a b refl refl (z .keeps) }
 
 module _ (l : Counts) (src : List ℕ) where
   pub start-walked : {L : Alive} {u : Counts} {r : Rooms} {s : Scope} {t : Comprehension.Scope} → Start l src L u r s t → (n : ℕ) → Start l src L (walked u n) r s t
@@ -79,7 +96,7 @@ module _ (l : Counts) (src : List ℕ) where
       w : Counts
       w = walked u (suc (u .steps))
       go : (b : Bool) → Matches L u r (afterStep b (usedOf u) r (λ z. body s z r)) (paid b step u (λ d. outcome (placed p (ρ .1)) (spend l (ρ .0) d))) (step ∷ ρ .0)
-      go true = subst (λ n. Matches L u r (body s (record { steps = n; cells = u .cells; bytes = u .bytes }) r) (outcome (placed p (ρ .1)) (spend l (ρ .0) w)) (step ∷ ρ .0)) (sym (add-one (u .steps))) (restep L u (suc (u .steps)) r (body s (usedOf w) r) (outcome (placed p (ρ .1)) (spend l (ρ .0) w)) (ρ .0) (g (start-walked a (suc (u .steps)))))
+      go true = subst (λ n. Matches L u r (body s (record { steps = n; cells = u .cells; bytes = u .bytes }) r) (outcome (placed p (ρ .1)) (spend l (ρ .0) w)) (step ∷ ρ .0)) (sym (add-one (u .steps))) (relog L u r (body s (usedOf w) r) (outcome (placed p (ρ .1)) (spend l (ρ .0) w)) (ρ .0) (step ∷ ρ .0) (cells-step [] (ρ .0)) (text-step [] (ρ .0)) (relow L w u r (body s (usedOf w) r) (outcome (placed p (ρ .1)) (spend l (ρ .0) w)) (ρ .0) refl refl (g (start-walked a (suc (u .steps))))))
       go false = record { good = refl; keeps = stops a }
 
   -- cells are taken, or not

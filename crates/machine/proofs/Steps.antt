@@ -30,12 +30,12 @@ use Rattle.machine.specs.declared.outcome.Outcome.{Outcome}
 use Rattle.machine.specs.declared.outcome.Outcome.the-variants as Outcome
 use Rattle.machine.specs.Outcomes.{Res, withSteps}
 use Rattle.machine.specs.Comparison.{onPairs}
-use Rattle.machine.specs.Refines.{usedOf, Matches, Start}
+use Rattle.machine.specs.Refines.{usedOf, Keeps, Matches, Start}
 use Rattle.machine.proofs.Keeping.{upto-same, keeps-same}
-use Rattle.machine.proofs.Traces.{from-charge}
+use Rattle.machine.proofs.Traces.{from-charge, cells-step, text-step}
 use Rattle.machine.proofs.Traces as Traces
 use Rattle.machine.proofs.Match.{Says}
-use Rattle.machine.proofs.Charges.{walked, restep, start-walked}
+use Rattle.machine.proofs.Charges.{walked, relog, relow, start-walked}
 
 -- n charges of a step, where nothing else is done
 abbrev payIn : {X : Type 0} → (ℕ → X) → (limit k n : ℕ) → (ℕ → X) → X
@@ -63,31 +63,36 @@ compared-is : {A : Type 0} (t : Tally A) (k : A → Rule Meaning.Value) → _≡
 unfolding _>>=_ compared after onValue charged pure
 compared-is t k = ap (λ x. (x ++ (k (t .1)) .0, (k (t .1)) .1)) (append-nil (replicate (t .0) step))
 
+-- n steps, seen from counts lo and after what `before` built; G goes on from what the pairs come to
+module _ (l : Counts) {X : Type 0} (out : ℕ → X) (G : X → Res) (L : Alive) (lo u : Counts) (r : Rooms) (p : ℕ) (ends : (k : ℕ) → G (out k) ≡ (Outcome.Exhausted Limit.Steps (usedOf (walked u k)), r)) (kept : (k : ℕ) → Keeps lo (walked u k) r r) (before : Trace) (f : ℕ → X) (ρ : Rule Meaning.Value) where
+  -- from k steps on
+  abbrev After : ℕ → ℕ → Type 0
+  After k n = Matches L lo r (G (payIn out (l .steps) k n f)) (outcome (placed p (ρ .1)) (spend l (replicate n step ++ ρ .0) (walked u k))) (before ++ (replicate n step ++ ρ .0))
+
+  one-step : (k n : ℕ) → After (suc k) n → After k (suc n)
+  unfolding charge fits Limited.limitOf
+  one-step k n h = subst (λ end. Matches L lo r (G (payIn out (l .steps) k (suc n) f)) end (before ++ (step ∷ (replicate n step ++ ρ .0)))) (sym (from-charge l step (replicate n step ++ ρ .0, placed p (ρ .1)) (walked u k))) (go (ltb k (l .steps)))
+    where
+      rest : X
+      rest = payIn out (l .steps) (suc k) n f
+      go : (b : Bool) → Matches L lo r (G (cond b rest (out k))) (Traces.paid b step (walked u k) (λ d. outcome (placed p (ρ .1)) (spend l (replicate n step ++ ρ .0) d))) (before ++ (step ∷ (replicate n step ++ ρ .0)))
+      go true = relog L lo r (G rest) (outcome (placed p (ρ .1)) (spend l (replicate n step ++ ρ .0) (walked u (suc k)))) (before ++ (replicate n step ++ ρ .0)) (before ++ (step ∷ (replicate n step ++ ρ .0))) (cells-step before (replicate n step ++ ρ .0)) (text-step before (replicate n step ++ ρ .0)) h
+      go false = subst (λ x. Matches L lo r x (Limited.exhausted (Limited.limitOf step) (walked u k)) (before ++ (step ∷ (replicate n step ++ ρ .0)))) (sym (ends k)) (record { good = refl; keeps = kept k })
+
+  pub steps-then : (n k : ℕ) → Matches L lo r (G (f (k + n))) (outcome (placed p (ρ .1)) (spend l (ρ .0) (walked u (k + n)))) (before ++ ρ .0) → After k n
+  steps-then zero k g = subst (λ j. Matches L lo r (G (f j)) (outcome (placed p (ρ .1)) (spend l (ρ .0) (walked u j))) (before ++ ρ .0)) (plus-zero k) g
+    where
+      plus-zero : (a : ℕ) → a + 0 ≡ a
+      plus-zero a = omega arith
+  steps-then (suc n) k g = one-step k n (steps-then n (suc k) (subst (λ j. Matches L lo r (G (f j)) (outcome (placed p (ρ .1)) (spend l (ρ .0) (walked u j))) (before ++ ρ .0)) (shift k n) g))
+    where
+      shift : (a b : ℕ) → a + suc b ≡ suc a + b
+      shift a b = omega arith
+
 module _ (l : Counts) (src : List ℕ) where
-  module _ {X : Type 0} (out : ℕ → X) (G : X → Res) (L : Alive) (u : Counts) (r : Rooms) (s : Scope) (t : Comprehension.Scope) (p : ℕ) (ends : (k : ℕ) → G (out k) ≡ (Outcome.Exhausted Limit.Steps (usedOf (walked u k)), r)) (f : ℕ → X) (ρ : Rule Meaning.Value) where
-    -- from k steps on
-    abbrev After : ℕ → ℕ → Type 0
-    After k n = Matches L (walked u k) r (G (payIn out (l .steps) k n f)) (outcome (placed p (ρ .1)) (spend l (replicate n step ++ ρ .0) (walked u k))) (replicate n step ++ ρ .0)
-
-    one-step : (k n : ℕ) → Start l src L (walked u k) r s t → After (suc k) n → After k (suc n)
-    unfolding charge fits Limited.limitOf
-    one-step k n a h = subst (λ end. Matches L (walked u k) r (G (payIn out (l .steps) k (suc n) f)) end (step ∷ (replicate n step ++ ρ .0))) (sym (from-charge l step (replicate n step ++ ρ .0, placed p (ρ .1)) (walked u k))) (go (ltb k (l .steps)))
-      where
-        rest : X
-        rest = payIn out (l .steps) (suc k) n f
-        go : (b : Bool) → Matches L (walked u k) r (G (cond b rest (out k))) (Traces.paid b step (walked u k) (λ d. outcome (placed p (ρ .1)) (spend l (replicate n step ++ ρ .0) d))) (step ∷ (replicate n step ++ ρ .0))
-        go true = restep L (walked u k) (suc k) r (G rest) (outcome (placed p (ρ .1)) (spend l (replicate n step ++ ρ .0) (walked u (suc k)))) (replicate n step ++ ρ .0) h
-        go false = subst (λ x. Matches L (walked u k) r x (Limited.exhausted (Limited.limitOf step) (walked u k)) (step ∷ (replicate n step ++ ρ .0))) (sym (ends k)) (record { good = refl; keeps = keeps-same (walked u k) (walked u k) r (upto-same (walked u k)) (a .roomy) })
-
-    steps-then : (n k : ℕ) → Start l src L (walked u k) r s t → (Start l src L (walked u (k + n)) r s t → Says l src p L (walked u (k + n)) r (G (f (k + n))) ρ) → After k n
-    steps-then zero k a g = subst (λ j. Start l src L (walked u j) r s t → Says l src p L (walked u j) r (G (f j)) ρ) (plus-zero k) g a
-      where
-        plus-zero : (a : ℕ) → a + 0 ≡ a
-        plus-zero a = omega arith
-    steps-then (suc n) k a g = one-step k n a (steps-then n (suc k) (start-walked l src a (suc k)) (subst (λ j. Start l src L (walked u j) r s t → Says l src p L (walked u j) r (G (f j)) ρ) (shift k n) g))
-      where
-        shift : (a b : ℕ) → a + suc b ≡ suc a + b
-        shift a b = omega arith
+  -- nothing but steps since the start
+  same-rooms : {L : Alive} {u : Counts} {r : Rooms} {s : Scope} {t : Comprehension.Scope} → Start l src L u r s t → (k : ℕ) → Keeps u (walked u k) r r
+  same-rooms {L} {u} {r} a k = keeps-same u (walked u k) r (record { cells = omega arith; bytes = omega arith }) (record { cells = a .roomy .cells; bytes = a .roomy .bytes })
 
   -- two values are compared, or one is looked for in a list
   pub pairs-then : {L : Alive} {u : Counts} {r : Rooms} {s : Scope} {t : Comprehension.Scope} → Start l src L u r s t → (p : ℕ) (n : Tally Bool) (x : Pairs) → x ≡ paid (l .steps) (u .steps) n → (f : Bool → Used → Outcome) (k : Bool → Rule Meaning.Value)
@@ -97,7 +102,7 @@ module _ (l : Counts) (src : List ℕ) where
   pairs-then {L} {u} {r} {s} {t} a p n x e f k g =
       subst (λ ρ. Says l src p L u r (onPairs x (usedOf u) f, r) ρ) (sym (compared-is n k))
       (subst (λ y. Matches L u r (onPairs y (usedOf u) f, r) (outcome (placed p ((k (n .1)) .1)) (spend l (replicate (n .0) step ++ (k (n .1)) .0) u)) (replicate (n .0) step ++ (k (n .1)) .0)) (sym (e ∙ pays-in (l .steps) (u .steps) (n .0) (decided (n .1))))
-      (steps-then (λ j. Pairs.Out j) (λ y. (onPairs y (usedOf u) f, r)) L u r s t p (λ j. refl) (decided (n .1)) (k (n .1)) (n .0) (u .steps) a (λ b. end (n .1) b)))
+      (steps-then l (λ j. Pairs.Out j) (λ y. (onPairs y (usedOf u) f, r)) L u u r p (λ j. refl) (same-rooms a) [] (decided (n .1)) (k (n .1)) (n .0) (u .steps) (relow L c u r _ _ _ refl refl (end (n .1) (start-walked l src a (u .steps + n .0))))))
     where
       c : Counts
       c = walked u (u .steps + n .0)
@@ -115,7 +120,7 @@ module _ (l : Counts) (src : List ℕ) where
   found-then {L} {u} {r} {s} {t} a p space n x h G k ends missing at =
       subst (λ ρ. Says l src p L u r (G x) ρ) (sym (compared-is n k))
       (subst (λ y. Matches L u r (G y) (outcome (placed p ((k (n .1)) .1)) (spend l (replicate (n .0) step ++ (k (n .1)) .0) u)) (replicate (n .0) step ++ (k (n .1)) .0)) (sym (h .2 ∙ found-in (l .steps) (u .steps) (n .0) (h .0)))
-      (steps-then (λ j. Found.Out j) G L u r s t p ends (h .0) (k (n .1)) (n .0) (u .steps) a (λ b. end (n .1) refl (h .1) b)))
+      (steps-then l (λ j. Found.Out j) G L u u r p ends (same-rooms a) [] (h .0) (k (n .1)) (n .0) (u .steps) (relow L (walked u j) u r _ _ _ refl refl (end (n .1) refl (h .1) (start-walked l src a j)))))
     where
       j : ℕ
       j = u .steps + n .0

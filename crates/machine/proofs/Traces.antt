@@ -136,3 +136,20 @@ text-append (nest d ∷ t) u = text-append t u
 -- two parts of a list, one behind the other
 pub part-add : (l : List ℕ) (a n m : ℕ) → part l a (n + m) ≡ part l a n ++ part l (a + n) m
 part-add l a n m = take-add n m (drop a l) ∙ ap (λ x. take n (drop a l) ++ take m x) (drop-drop n a l)
+
+-- a step builds nothing
+pub cells-step : (t u : Trace) → cellsBuilt (t ++ u) ≡ cellsBuilt (t ++ (step ∷ u))
+unfolding cellsBuilt
+cells-step [] u = refl
+cells-step (step ∷ t) u = cells-step t u
+cells-step (cells vs ∷ t) u = ap (join vs) (cells-step t u)
+cells-step (text s ∷ t) u = cells-step t u
+cells-step (nest d ∷ t) u = cells-step t u
+
+pub text-step : (t u : Trace) → textBuilt (t ++ u) ≡ textBuilt (t ++ (step ∷ u))
+unfolding textBuilt
+text-step [] u = refl
+text-step (step ∷ t) u = text-step t u
+text-step (cells vs ∷ t) u = text-step t u
+text-step (text s ∷ t) u = ap (λ x. s ++ x) (text-step t u)
+text-step (nest d ∷ t) u = text-step t u
