@@ -18,3 +18,4 @@ pub mod LookUp
 pub mod Selecting
 pub mod Calls
 pub mod Literals
+pub mod Filling
