@@ -19,3 +19,4 @@ pub mod Selecting
 pub mod Calls
 pub mod Literals
 pub mod Filling
+pub mod Makings
