@@ -31,10 +31,12 @@ use Rattle.machine.specs.declared.outcome.Outcome.the-variants as Outcom
 use Rattle.machine.specs.Outcomes.{Res, Does, written}
 use Rattle.machine.specs.Refines.{usedOf, errorOf, limitOf, countsOf, Worded, Held, Live, Upto, Roomy, Keeps, Logged, Matches, Below, Start, Refines}
 use Rattle.machine.proofs.Words.{settled-stands, low-cell, store-same, store-other, store-keeps, store-worded}
-use Rattle.machine.proofs.Keeping.{upto-same, upto-then, keeps-same, keeps-lower, keeps-higher, keeps-both, keeps-back, keeps-roomy, keeps-agrees, roomy-same, agrees-sub, agrees-then, held-frame, scopes-frame}
+use Rattle.machine.proofs.Keeping.{upto-same, upto-then, keeps-same, keeps-lower, keeps-higher, keeps-both, keeps-back, keeps-roomy, keeps-agrees, roomy-same, agrees-sub, agrees-narrow, agrees-then, held-frame, scopes-frame}
 use Rattle.machine.proofs.Traces.{count-join, join-nil, join-assoc, stands-join, spend-append, from-grows, cells-append, text-append, part-add}
 use Rattle.machine.proofs.Match.{raisedPlace, operand-here, move, HandsOut}
 use Rattle.machine.proofs.Charges.{walked, relog, start-walked}
+use Rattle.machine.proofs.Taking as Taking
+use Rattle.machine.proofs.Taking.{took, taken-keeps, taken-null}
 
 -- ---- cells, and Null behind them
 
@@ -221,3 +223,40 @@ module _ (l : Counts) (src : List ℕ) where
             subst (λ vs. StandsCells vs M r Cells.Evaluation (o .cells)) (sym (pad-split rc n (left .0) (left .1)))
             (stands-join M r rc (pad (left .0) nil) Cells.Evaluation (o .cells) (frame-cells L M r r wide rc Cells.Evaluation (o .cells) (a .filled))
             (null-cells M r (left .0) (o .cells + count rc) (λ i f g. inr (refl, omega arith, omega (arith, left .1, a .taken))) (λ i f g. a .nulls i f (omega (arith, left .1)))))
+
+  -- just taken: nothing is ready
+  pub empty-filling : {L : Alive} {u : Counts} {r : Rooms} {s : Scope} {t : Comprehension.Scope} → Start l src L u r s t → (n : ℕ) (f : Roomy (took u n) r) → Filling L L u n nil [] (took u n) (Taking.taken u n r f) s t
+  unfolding count Stands cellsBuilt textBuilt
+  empty-filling {L} {u} {r} {s} {t} a n f =
+      record {
+        begun = record {
+            below = record { cells = λ i y. wide i (a .below .cells i y); bytes = a .below .bytes };
+            cellLimit = moved .cellLimit;
+            textLimit = moved .textLimit;
+            literals = moved .literals;
+            roomy = moved .roomy;
+            worded = moved .worded;
+            scope = scopes-frame L L r q (agrees-narrow L (Live L u (took u n)) r q (keeps-agrees L u (took u n) r q (a .below) k)) t s (a .scope);
+          };
+        sub = λ space i y. inl y;
+        hole = λ i y z z′. clash i (a .below .cells i y) z;
+        filled = tt;
+        inside = omega arith;
+        taken = omega arith;
+        nulls = λ i y z. taken-null u n r f i (omega arith) z;
+        built = tt;
+        counted = omega arith;
+        bytes = refl;
+        bytesCounted = omega arith;
+      }
+    where
+      q : Rooms
+      q = Taking.taken u n r f
+      k : Keeps u (took u n) r q
+      k = taken-keeps u n r f
+      moved : Start l src (Live L u (took u n)) (took u n) q s t
+      moved = move l src a k
+      wide : (i : ℕ) → i < u .cells → i < u .cells + n
+      wide i y = omega arith
+      clash : (i : ℕ) → i < u .cells → u .cells + 0 ≤ i → ⊥
+      clash i y z = omega arith

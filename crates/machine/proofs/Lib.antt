@@ -20,3 +20,4 @@ pub mod Calls
 pub mod Literals
 pub mod Filling
 pub mod Makings
+pub mod Lists
