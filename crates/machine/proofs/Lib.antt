@@ -21,3 +21,4 @@ pub mod Literals
 pub mod Filling
 pub mod Makings
 pub mod Lists
+pub mod Maps

@@ -38,7 +38,7 @@ use Rattle.machine.proofs.Match.{Says}
 use Rattle.machine.proofs.Charges.{walked, relog, relow, start-walked}
 
 -- n charges of a step, where nothing else is done
-abbrev payIn : {X : Type 0} → (ℕ → X) → (limit k n : ℕ) → (ℕ → X) → X
+abbrev pub payIn : {X : Type 0} → (ℕ → X) → (limit k n : ℕ) → (ℕ → X) → X
 payIn out limit k zero f = f k
 payIn out limit k (suc n) f = cond (ltb k limit) (payIn out limit (suc k) n f) (out k)
 
@@ -50,7 +50,7 @@ pays-in limit k (suc n) f = ap (pair (ltb k limit) k) (pays-in limit (suc k) n f
     go true = refl
     go false = refl
 
-found-in : (limit k n : ℕ) (f : ℕ → Found) → paysFound limit k n f ≡ payIn (λ j. Found.Out j) limit k n f
+pub found-in : (limit k n : ℕ) (f : ℕ → Found) → paysFound limit k n f ≡ payIn (λ j. Found.Out j) limit k n f
 found-in limit k zero f = refl
 found-in limit k (suc n) f = ap (pairFound (ltb k limit) k) (found-in limit (suc k) n f) ∙ go (ltb k limit)
   where
