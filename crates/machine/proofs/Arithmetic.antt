@@ -44,31 +44,31 @@ use Rattle.rooms.specs.declared.value.Parts.{Parts}
 use Rattle.rooms.specs.declared.value.Parts.the-variants as Parts
 use Rattle.rooms.specs.declared.scope.Scope.{Scope}
 use Rattle.rooms.specs.Value.{plainOf, partsOf, nestingOf, doubleValue}
-use Rattle.rooms.specs.Cells.{wordOf}
+use Rattle.rooms.specs.Cells.{wordOf, Fits}
 use Rattle.rooms.specs.Rooms.{Rooms}
-use Rattle.rooms.specs.Stands.{Alive, TextAt, StandsScalar, Stands, StandsCells}
-use Rattle.rooms.proofs.EqualMeaning.{stands-nesting}
+use Rattle.rooms.specs.Stands.{Alive, TextAt, StandsScalar, Stands, StandsCells, Holds}
 use Rattle.machine.specs.declared.outcome.Used.{Used}
 use Rattle.machine.specs.declared.outcome.Outcome.{Outcome}
 use Rattle.machine.specs.declared.outcome.Outcome.the-variants as Outcome
 use Rattle.machine.specs.Outcomes.{Res, noOverload}
 use Rattle.machine.specs.Numbers as Machine
 use Rattle.machine.specs.Numbers.{intOut, uintOut, doubleOut, doublesOut, numberArith, negatePlain, textSum, stringSum, bytesSum, bothLists, listSum, partsArith, plainArith, arithmetic}
-use Rattle.machine.specs.Refines.{usedOf, Worded, Held, Start}
-use Rattle.machine.proofs.Words.{bits-worded}
+use Rattle.machine.specs.Refines.{usedOf, Start}
+use Rattle.machine.proofs.Words.{bits-fit}
 use Rattle.machine.proofs.Match.{Says, value-now, error-now}
 use Rattle.machine.proofs.Seen.{scalar-parts}
 use Rattle.machine.proofs.Numbers.{small, held-int, held-uint, held-double, twice, never, intPlain, uintPlain, doublePlain, stringPlain, bytesPlain, plain-double, int-view, uint-view, DoubleView, double-view, TextView, string-text, bytes-text, ListView, list-view, intOr, number-int, uintOr, number-uint, doubleOr, number-double, textOr, string-sum, bytes-sum}
 use Rattle.machine.proofs.Building.{Spelling, lists-say, texts-say, string-spelling, bytes-spelling}
+use Rattle.rooms.proofs.Depths.{stands-nesting}
 
 -- a number that words hold
-int-small : (L : Alive) (r : Rooms) (z : ℤ) (m : Value) → Held (scalar (int z)) L r m → mag z < 2 ^ 63
+int-small : (L : Alive) (r : Rooms) (z : ℤ) (m : Value) → Holds (scalar (int z)) L r m → mag z < 2 ^ 63
 unfolding Stands StandsScalar
-int-small L r z m h = subst Worded (h .stands) (h .worded) .0
+int-small L r z m h = subst Fits (h .stands) (h .fits)
 
-uint-small : (L : Alive) (r : Rooms) (n : ℕ) (m : Value) → Held (scalar (uint n)) L r m → n < 2 ^ 64
+uint-small : (L : Alive) (r : Rooms) (n : ℕ) (m : Value) → Holds (scalar (uint n)) L r m → n < 2 ^ 64
 unfolding Stands StandsScalar
-uint-small L r n m h = subst Worded (h .stands) (h .worded) .0
+uint-small L r n m h = subst Fits (h .stands) (h .fits)
 
 module _ (l : Counts) (src : List ℕ) {L : Alive} {u : Counts} {r : Rooms} {s : Scope} {t : Comprehension.Scope} (st : Start l src L u r s t) (p : ℕ) where
   -- ---- answers of the crate numbers
@@ -155,11 +155,11 @@ module _ (l : Counts) (src : List ℕ) {L : Alive} {u : Counts} {r : Rooms} {s :
 
   -- ---- both operands known
 
-  module _ (o : Arith) (w : Meaning.Value) (n : Value) (k : Held w L r n) where
+  module _ (o : Arith) (w : Meaning.Value) (n : Value) (k : Holds w L r n) where
     abbrev Goal : Value → Meaning.Value → Type 0
     Goal m v = Says l src p L u r (arithmetic p o m n (usedOf u) r) (arithRule o v w)
 
-    pub arith-says : (v : Meaning.Value) (m : Value) → Held v L r m → Goal m v
+    pub arith-says : (v : Meaning.Value) (m : Value) → Holds v L r m → Goal m v
     unfolding arithRule scalarArith Stands StandsScalar nesting
     arith-says (scalar null) m h = subst (λ x. Goal x (scalar null)) (sym (h .stands)) (subst (λ ρ. Says l src p L u r (noOverload p (usedOf u), r) ρ) (sym (never (scalarOf w))) (error-now l src st p NoOverload))
     arith-says (scalar (bool b)) m h = subst (λ x. Goal x (scalar (bool b))) (sym (h .stands)) (subst (λ ρ. Says l src p L u r (noOverload p (usedOf u), r) ρ) (sym (never (scalarOf w))) (error-now l src st p NoOverload))
@@ -191,7 +191,7 @@ module _ (l : Counts) (src : List ℕ) {L : Alive} {u : Counts} {r : Rooms} {s :
         (text-end o bytes (λ f j. Value.Bytes Text.Evaluation f j) (bytes-spelling l src) v (h .stands .0) (h .stands .1) (h .stands .3) (bind (scalarOf w) bytesIn) (bytesPlain (plainOf n)) (bytes-text L r w n (k .stands)))))
     arith-says (list vs) m h =
         subst (λ x. Goal x (list vs)) (sym (h .stands .2))
-        (list-end o (max (suc (nestingIn vs)) (nestingOf n)) vs (h .stands .0) (h .stands .1) (h .nests) (h .stands .3) n (elementsOf w) (list-view L r w n (k .stands)) (omega (arith, stands-nesting L r 0 w n (k .stands), k .nests)) refl)
+        (list-end o (max (suc (nestingIn vs)) (nestingOf n)) vs (h .stands .0) (h .stands .1) (h .nests) (h .stands .3) n (elementsOf w) (list-view L r w n (k .stands)) (omega (arith, stands-nesting L r w n (k .stands), k .nests)) refl)
     arith-says (map es) m h = subst (λ x. Goal x (map es)) (sym (h .stands .2)) (error-now l src st p NoOverload)
     arith-says optionalNone m h = subst (λ x. Goal x optionalNone) (sym (h .stands)) (error-now l src st p NoOverload)
     arith-says (optionalOf v) m h = subst (λ x. Goal x (optionalOf v)) (sym (h .stands .2)) (error-now l src st p NoOverload)
@@ -201,7 +201,7 @@ module _ (l : Counts) (src : List ℕ) {L : Alive} {u : Counts} {r : Rooms} {s :
   abbrev Negates : Value → Meaning.Value → Type 0
   Negates m v = Says l src p L u r (negatePlain p (usedOf u) (plainOf m), r) (negateRule v)
 
-  pub negate-says : (v : Meaning.Value) (m : Value) → Held v L r m → Negates m v
+  pub negate-says : (v : Meaning.Value) (m : Value) → Holds v L r m → Negates m v
   unfolding negateRule scalarNegate scalarOf _>>=_ after onValue charged orFail fail pure Stands StandsScalar Doubles.negOf
   negate-says (scalar null) m h = subst (λ x. Negates x (scalar null)) (sym (h .stands)) (error-now l src st p NoOverload)
   negate-says (scalar (bool b)) m h = subst (λ x. Negates x (scalar (bool b))) (sym (h .stands)) (error-now l src st p NoOverload)

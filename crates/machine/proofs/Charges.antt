@@ -20,27 +20,28 @@ use Rattle.meaning.specs.Limited.{spend, onward, make, ended, outcome, cellsBui
 use Rattle.rooms.specs.declared.value.Value.{Value}
 use Rattle.rooms.specs.declared.value.CellSpace.the-variants as Cells
 use Rattle.rooms.specs.declared.building.Taken.the-variants as Taken
-use Rattle.rooms.specs.declared.equality.Pairs.{Pairs}
-use Rattle.rooms.specs.declared.equality.Pairs.the-variants as Pairs
-use Rattle.rooms.specs.declared.equality.Found.{Found}
-use Rattle.rooms.specs.declared.equality.Found.the-variants as Found
+use Rattle.comparing.specs.declared.equality.Pairs.{Pairs}
+use Rattle.comparing.specs.declared.equality.Pairs.the-variants as Pairs
+use Rattle.comparing.specs.declared.lookup.Found.{Found}
+use Rattle.comparing.specs.declared.lookup.Found.the-variants as Found
 use Rattle.rooms.specs.declared.scope.Scope.{Scope}
 use Rattle.rooms.specs.Rooms.{Rooms, part}
-use Rattle.rooms.specs.Stands.{Alive, Stands, StandsCells}
+use Rattle.rooms.specs.Stands.{Alive, Stands, StandsCells, Holds}
 use Rattle.rooms.specs.Building.{cellRoom, textRoom, takenOf, cellsTaken}
-use Rattle.rooms.specs.Equality.{pays, paysFound, pair, pairFound, decided}
-use Rattle.rooms.specs.Equality as Equality
+use Rattle.comparing.specs.Equality.{pays, paysFound, pair, pairFound, decided}
+use Rattle.comparing.specs.Equality as Equality
 use Rattle.rooms.proofs.BuildingSteps.{cells-kept}
 use Rattle.machine.specs.declared.outcome.Used.{Used}
 use Rattle.machine.specs.declared.outcome.Limit.the-variants as Limit
 use Rattle.machine.specs.declared.outcome.Outcome.{Outcome}
 use Rattle.machine.specs.declared.outcome.Outcome.the-variants as Outcome
 use Rattle.machine.specs.Outcomes.{Res, Does, stepped, withSteps, withCells, withBytes, withWords, afterStep, recorded, onTaken, taking, whole}
-use Rattle.machine.specs.Refines.{usedOf, from, countsOf, Worded, Held, Live, Roomy, Keeps, Logged, Good, Matches, Start, Meets}
+use Rattle.machine.specs.Refines.{usedOf, from, countsOf, Live, Roomy, Keeps, Logged, Good, Matches, Start, Meets}
 use Rattle.machine.proofs.Keeping.{upto-same, keeps-same, keeps-steps}
 use Rattle.machine.proofs.Taking.{took, taken}
 use Rattle.machine.proofs.Traces.{paid, from-charge, cells-step, text-step}
 use Rattle.machine.proofs.Match.{Says}
+use Rattle.rooms.specs.Cells.{Fits}
 
 -- so many bytes, and so many steps, more
 abbrev pub wrote : Counts → ℕ → Counts
@@ -60,8 +61,8 @@ logged-as L lo hi low q t v e f a b h =
       bytesCounted = omega (arith, ap length f, b, h .bytesCounted);
     }
 
-held-low : (L : Alive) (lo hi low : Counts) (v : Meaning.Value) (q : Rooms) (m : Value) → lo .cells ≡ low .cells → Held v (Live L lo hi) q m → Held v (Live L low hi) q m
-held-low L lo hi low v q m a h = subst (λ n. Held v (record { cells = λ space i. L .cells space i ⊎ ((space ≡ Cells.Evaluation) × (n ≤ i) × (i < hi .cells)); bytes = hi .bytes }) q m) a h
+held-low : (L : Alive) (lo hi low : Counts) (v : Meaning.Value) (q : Rooms) (m : Value) → lo .cells ≡ low .cells → Holds v (Live L lo hi) q m → Holds v (Live L low hi) q m
+held-low L lo hi low v q m a h = subst (λ n. Holds v (record { cells = λ space i. L .cells space i ⊎ ((space ≡ Cells.Evaluation) × (n ≤ i) × (i < hi .cells)); bytes = hi .bytes }) q m) a h
 
 good-as : (L : Alive) (lo low : Counts) (q : Rooms) (o : Outcome) (end : Limited.Outcome) (t v : Trace) → cellsBuilt t ≡ cellsBuilt v → textBuilt t ≡ textBuilt v → lo .cells ≡ low .cells → lo .bytes ≡ low .bytes → Good L lo q o t end → Good L low q o v end
 good-as L lo low q o (Limited.value w c) t v e f a b h = (h .0, h .1, held-low L lo c low w q (h .0) a (h .2), logged-as L lo c low q t v e f a b (h .3))
@@ -79,7 +80,7 @@ relow L lo low r x end t a b z = record { good = good-as L lo low (x .1) (x .0) 
 module _ (l : Counts) (src : List ℕ) where
   pub start-walked : {L : Alive} {u : Counts} {r : Rooms} {s : Scope} {t : Comprehension.Scope} → Start l src L u r s t → (n : ℕ) → Start l src L (walked u n) r s t
   start-walked a n =
-      record { below = record { cells = a .below .cells; bytes = a .below .bytes }; cellLimit = a .cellLimit; textLimit = a .textLimit; literals = a .literals; roomy = record { cells = a .roomy .cells; bytes = a .roomy .bytes }; worded = a .worded; scope = a .scope }
+      record { below = record { cells = a .below .cells; bytes = a .below .bytes }; cellLimit = a .cellLimit; textLimit = a .textLimit; literals = a .literals; roomy = record { cells = a .roomy .cells; bytes = a .roomy .bytes }; fitting = a .fitting; scope = a .scope }
 
   -- nothing was charged that would pass its limit
   stops : {L : Alive} {u : Counts} {r : Rooms} {s : Scope} {t : Comprehension.Scope} → Start l src L u r s t → Keeps u u r r
@@ -138,13 +139,13 @@ module _ (l : Counts) (src : List ℕ) where
       go false h = record { good = refl; keeps = stops a }
 
   -- a new value is whole: its nesting is judged
-  pub wholes : (p : ℕ) (L : Alive) (lo u : Counts) (r q : Rooms) (d : ℕ) (make : ℕ → Value) (v : Meaning.Value) (t : Trace) → suc d ≡ nesting v → Keeps lo u r q → (nesting v ≤ deepestValue → Stands v (Live L lo u) q (make (d + 1)) × Worded (make (d + 1))) → Logged t L lo u q
+  pub wholes : (p : ℕ) (L : Alive) (lo u : Counts) (r q : Rooms) (d : ℕ) (make : ℕ → Value) (v : Meaning.Value) (t : Trace) → suc d ≡ nesting v → Keeps lo u r q → (nesting v ≤ deepestValue → Stands v (Live L lo u) q (make (d + 1)) × Fits (make (d + 1))) → Logged t L lo u q
       → Matches L lo r (whole d make (usedOf u), q) (outcome (placed p (value v)) (spend l (nest (nesting v) ∷ []) u)) t
   unfolding charge fits Limited.limitOf spend placed outcome ended onward make
   wholes p L lo u r q d make v t e k h j = subst (λ n. Matches L lo r (whole d make (usedOf u), q) (outcome (value v) (onward (λ c. through c) (cond (leb n deepestValue) (through u) (stopped (Limited.limitOf (nest (nesting v))) u)))) t) e (go (leb (suc d) deepestValue) refl)
     where
       go : (b : Bool) → leb (suc d) deepestValue ≡ b → Matches L lo r (cond b (Outcome.Value (make (d + 1)) (usedOf u)) (Outcome.Exhausted Limit.Nesting (usedOf u)), q) (outcome (value v) (onward (λ c. through c) (cond b (through u) (stopped (Limited.limitOf (nest (nesting v))) u)))) t
-      go true i = record { good = (make (d + 1), refl, record { stands = h deep .0; worded = h deep .1; nests = deep }, j); keeps = k }
+      go true i = record { good = (make (d + 1), refl, record { stands = h deep .0; fits = h deep .1; nests = deep }, j); keeps = k }
         where
           deep : nesting v ≤ deepestValue
           deep = subst (λ n. n ≤ deepestValue) e (leb-true (suc d) deepestValue i)

@@ -16,25 +16,26 @@ use Rattle.meaning.specs.Comparison.{rank, scalarOrder, holds, ordered, compare
 use Rattle.meaning.specs.Comprehension as Comprehension
 use Rattle.meaning.specs.Meaning.{ofTwo}
 use Rattle.rooms.specs.declared.value.Value.{Value}
-use Rattle.rooms.specs.declared.comparison.Compared.{Compared}
+use Rattle.comparing.specs.declared.order.Compared.{Compared}
 use Rattle.rooms.specs.declared.scope.Scope.{Scope}
 use Rattle.rooms.specs.Rooms.{Rooms}
-use Rattle.rooms.specs.Stands.{Alive, Stands, Agrees}
-use Rattle.rooms.specs.Equality.{Seen, seenScalar, seenNone, seenOther, seenIn}
-use Rattle.rooms.specs.Comparison.{orderSeen, comparedOf}
-use Rattle.rooms.proofs.EqualMeaning.{scalar-seen, equal-pairs}
+use Rattle.rooms.specs.Stands.{Alive, Stands, Agrees, Holds}
+use Rattle.comparing.specs.Equality.{Seen, seenScalar, seenNone, seenOther, seenIn}
+use Rattle.comparing.specs.Order.{orderSeen, comparedOf}
+use Rattle.comparing.proofs.EqualMeaning.{equal-pairs}
 use Rattle.machine.specs.declared.outcome.Used.{Used}
 use Rattle.machine.specs.declared.outcome.Outcome.{Outcome}
 use Rattle.machine.specs.declared.outcome.Outcome.the-variants as Outcome
 use Rattle.machine.specs.Outcomes.{Res, Does, truthOut, noOverload, withValue}
 use Rattle.machine.specs.Comparison.{equalOut, comparedOut, compareOut}
 use Rattle.machine.specs.Machine.{wantsValue, onLeft, both}
-use Rattle.machine.specs.Refines.{usedOf, Held, Start, Refines}
-use Rattle.machine.proofs.Keeping.{held-frame}
+use Rattle.machine.specs.Refines.{usedOf, Start, Refines}
 use Rattle.machine.proofs.Match.{Says, raises, error-now}
 use Rattle.machine.proofs.Operands.{of-operand, value-of}
 use Rattle.machine.proofs.Steps.{pairs-then}
 use Rattle.machine.proofs.Logic.{truth-now}
+use Rattle.rooms.proofs.Frame.{holds-frame}
+use Rattle.comparing.proofs.SeenMeaning.{scalar-seen}
 
 -- ---- what is seen
 
@@ -91,7 +92,7 @@ order-rule c v w = go (scalarOf v) (scalarOf w)
 module _ (l : Counts) (src : List ℕ) where
   -- ---- comparison of two values
 
-  pub equal-says : {L : Alive} {u : Counts} {r : Rooms} {s : Scope} {t : Comprehension.Scope} → Start l src L u r s t → (p : ℕ) (wanted : Bool) (m n : Value) (v w : Meaning.Value) → Held v L r m → Held w L r n → Says l src p L u r (equalOut (l .steps) wanted m n (usedOf u) r, r) (equalRule wanted v w)
+  pub equal-says : {L : Alive} {u : Counts} {r : Rooms} {s : Scope} {t : Comprehension.Scope} → Start l src L u r s t → (p : ℕ) (wanted : Bool) (m n : Value) (v w : Meaning.Value) → Holds v L r m → Holds w L r n → Says l src p L u r (equalOut (l .steps) wanted m n (usedOf u) r, r) (equalRule wanted v w)
   unfolding equalRule
   equal-says {L} {u} {r} a p wanted m n v w h k =
       pairs-then l src a p (equal v w) _ (equal-pairs L r (l .steps) v w m n (u .steps) (h .stands) (k .stands)) (λ b z. truthOut (Bool·beq wanted b) z) (λ b. truth (Bool·beq wanted b)) (λ c z b. truth-now l src z p (Bool·beq wanted b))
@@ -104,7 +105,7 @@ module _ (l : Counts) (src : List ℕ) where
   order-end a p c (some Order.Greater) = truth-now l src a p (holds c Order.Greater)
   order-end a p c (some Order.Unordered) = error-now l src a p Unordered
 
-  pub compare-says : {L : Alive} {u : Counts} {r : Rooms} {s : Scope} {t : Comprehension.Scope} → Start l src L u r s t → (p : ℕ) (c : Comparison) (m n : Value) (v w : Meaning.Value) → Held v L r m → Held w L r n → Says l src p L u r (compareOut c p m n (usedOf u) r, r) (compareRule c v w)
+  pub compare-says : {L : Alive} {u : Counts} {r : Rooms} {s : Scope} {t : Comprehension.Scope} → Start l src L u r s t → (p : ℕ) (c : Comparison) (m n : Value) (v w : Meaning.Value) → Holds v L r m → Holds w L r n → Says l src p L u r (compareOut c p m n (usedOf u) r, r) (compareRule c v w)
   compare-says {L} {u} {r} a p c m n v w h k =
       subst (λ ρ. Says l src p L u r (compareOut c p m n (usedOf u) r, r) ρ) (sym (order-rule c v w))
       (subst (λ o. Says l src p L u r (comparedOut c p (usedOf u) (comparedOf o), r) (orderRule c (orderOption (scalarOf v) (scalarOf w)))) (sym (ap₂ orderSeen (seen-view L r v m (h .stands)) (seen-view L r w n (k .stands)) ∙ order-seen v w)) (order-end a p c (orderOption (scalarOf v) (scalarOf w))))
@@ -117,11 +118,11 @@ module _ (l : Counts) (src : List ℕ) where
 
   pub two-says : {L : Alive} {u : Counts} {r : Rooms} {s : Scope} {t : Comprehension.Scope} → Start l src L u r s t → (p : ℕ) (left : Does) (f : Comprehension.Scope → Eval Meaning.Value) → Refines l src left f → (right : Does) (g : Comprehension.Scope → Eval Meaning.Value) → Refines l src right g
       → (op : Value → Value → Used → Rooms → Res) (rule : Meaning.Value → Meaning.Value → Rule Meaning.Value)
-      → ((M : Alive) (c : Counts) (q : Rooms) → Start l src M c q s t → (m n : Value) (v w : Meaning.Value) → Held v M q m → Held w M q n → Says l src p M c q (op m n (usedOf c) q) (rule v w))
+      → ((M : Alive) (c : Counts) (q : Rooms) → Start l src M c q s t → (m n : Value) (v w : Meaning.Value) → Holds v M q m → Holds w M q n → Says l src p M c q (op m n (usedOf c) q) (rule v w))
       → Says l src p L u r (twoDoes right op s (left s (usedOf u) r)) (ofTwo (f t) (g t) rule)
   unfolding ofTwo _>>=_ onValue
   two-says {L} {u} {r} {s} {t} a p left f hf right g hg op rule h =
       of-operand l src a p left f hf (twoDoes right op s) (onValue (λ v. _>>=_ (operand (g t)) (λ w. rule v w)))
-      (λ M c q b j m v k. value-of l src b p right g hg (λ n z d. op m n z d) (λ w. rule v w) (λ N e o b′ j′ n w i. h N e o b′ m n v w (held-frame M N q o j′ v m k) i))
+      (λ M c q b j m v k. value-of l src b p right g hg (λ n z d. op m n z d) (λ w. rule v w) (λ N e o b′ j′ n w i. h N e o b′ m n v w (holds-frame M N q o j′ v m k) i))
       (λ M c q b j e. raises l src b p e)
       (λ x z q. refl)

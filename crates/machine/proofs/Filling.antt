@@ -22,21 +22,23 @@ use Rattle.rooms.specs.declared.value.Value.the-variants as Value
 use Rattle.rooms.specs.declared.value.CellSpace.{CellSpace}
 use Rattle.rooms.specs.declared.value.CellSpace.the-variants as Cells
 use Rattle.rooms.specs.declared.scope.Scope.{Scope}
-use Rattle.rooms.specs.Cells.{settled}
+use Rattle.rooms.specs.Cells.{settled, Fits}
 use Rattle.rooms.specs.Rooms.{Rooms, cellAt, part}
-use Rattle.rooms.specs.Stands.{Alive, StandsScalar, Stands, StandsCells, Agrees}
-use Rattle.rooms.proofs.Frame.{frame, frame-cells, part-same}
+use Rattle.rooms.specs.Stands.{Alive, StandsScalar, Stands, StandsCells, Agrees, Holds}
+use Rattle.rooms.proofs.Built.{settled-stands}
+use Rattle.rooms.proofs.Frame.{frame, frame-cells, part-same, holds-frame}
 use Rattle.machine.specs.declared.outcome.Outcome.{Outcome}
 use Rattle.machine.specs.declared.outcome.Outcome.the-variants as Outcome
 use Rattle.machine.specs.Outcomes.{Res, Does, written}
-use Rattle.machine.specs.Refines.{usedOf, errorOf, limitOf, countsOf, Worded, Held, Live, Upto, Roomy, Keeps, Logged, Matches, Below, Start, Refines}
-use Rattle.machine.proofs.Words.{settled-stands, low-cell, store-same, store-other, store-keeps, store-worded}
-use Rattle.machine.proofs.Keeping.{upto-same, upto-then, keeps-same, keeps-lower, keeps-higher, keeps-both, keeps-back, keeps-roomy, keeps-agrees, roomy-same, agrees-sub, agrees-narrow, agrees-then, held-frame, scopes-frame}
+use Rattle.machine.specs.Refines.{usedOf, errorOf, limitOf, countsOf, Live, Upto, Roomy, Keeps, Logged, Matches, Below, Start, Refines}
+use Rattle.machine.proofs.Words.{low-cell, store-same, store-other, store-keeps}
+use Rattle.machine.proofs.Keeping.{upto-same, upto-then, keeps-same, keeps-lower, keeps-higher, keeps-both, keeps-back, keeps-roomy, keeps-agrees, roomy-same, agrees-sub, agrees-narrow, agrees-then}
 use Rattle.machine.proofs.Traces.{count-join, join-nil, join-assoc, stands-join, spend-append, from-grows, cells-append, text-append, part-add}
 use Rattle.machine.proofs.Match.{raisedPlace, operand-here, move, HandsOut}
 use Rattle.machine.proofs.Charges.{walked, relog, start-walked}
 use Rattle.machine.proofs.Taking as Taking
 use Rattle.machine.proofs.Taking.{took, taken-keeps, taken-null}
+use Rattle.rooms.proofs.Scopes.{scope-frame}
 
 -- ---- cells, and Null behind them
 
@@ -142,7 +144,7 @@ module _ (l : Counts) (src : List ℕ) where
         }
 
     -- a value is stored in the next cell
-    module _ (m : Value) (v : Meaning.Value) (h : Stands v L r m) (w : Worded m) (free : count rc < n) where
+    module _ (m : Value) (v : Meaning.Value) (h : Stands v L r m) (w : Fits m) (free : count rc < n) where
       abbrev next : ℕ
       next = o .cells + count rc
 
@@ -167,12 +169,12 @@ module _ (l : Counts) (src : List ℕ) where
                 textLimit = a .begun .textLimit;
                 literals = a .begun .literals;
                 roomy = roomy-same u r q (kept .sized) refl (a .begun .roomy);
-                worded = kept .worded (a .begun .worded);
-                scope = scopes-frame L N r q stored-agrees t s (a .begun .scope);
+                fitting = kept .fitting (a .begun .fitting);
+                scope = scope-frame L N r q stored-agrees t s (a .begun .scope);
               };
             sub = sub′;
             hole = hole′;
-            filled = stands-join N q rc (cons v nil) Cells.Evaluation (o .cells) (frame-cells L N r q stored-agrees rc Cells.Evaluation (o .cells) (a .filled)) (unfold Stands in (inr (refl, refl), subst (λ x. Stands v N q x) (sym (store-same r next m cell-there w)) (frame L N r q stored-agrees v (settled m) (settled-stands v L r m h w)), tt));
+            filled = stands-join N q rc (cons v nil) Cells.Evaluation (o .cells) (frame-cells L N r q stored-agrees rc Cells.Evaluation (o .cells) (a .filled)) (unfold Stands in (inr (refl, refl), subst (λ x. Stands v N q x) (sym (store-same r next m cell-there w)) (frame L N r q stored-agrees v (settled m) (settled-stands L r v m w h)), tt));
             inside = omega (arith, longer);
             taken = a .taken;
             nulls = λ i f g. store-other r next i m (apart i f) ∙ a .nulls i (omega (arith, longer)) g;
@@ -235,8 +237,8 @@ module _ (l : Counts) (src : List ℕ) where
             textLimit = moved .textLimit;
             literals = moved .literals;
             roomy = moved .roomy;
-            worded = moved .worded;
-            scope = scopes-frame L L r q (agrees-narrow L (Live L u (took u n)) r q (keeps-agrees L u (took u n) r q (a .below) k)) t s (a .scope);
+            fitting = moved .fitting;
+            scope = scope-frame L L r q (agrees-narrow L (Live L u (took u n)) r q (keeps-agrees L u (took u n) r q (a .below) k)) t s (a .scope);
           };
         sub = λ space i y. inl y;
         hole = λ i y z z′. clash i (a .below .cells i y) z;

@@ -5,20 +5,13 @@ use mathlib.Core.Logic.{_⊎_, inl, inr}
 use mathlib.Core.List.{List}
 use native.Mathlib.Omega.{arith}
 use lib.ListN.{length, take, drop}
-use Rattle.meaning.specs.Limits.{Counts, mostCells, mostBytes, names}
-use Rattle.meaning.specs.Value as Meaning
-use Rattle.meaning.specs.Comprehension as Comprehension
-use mathlib.Core.Option.{Option, none, some}
-use Rattle.rooms.specs.declared.value.Value.{Value}
+use Rattle.meaning.specs.Limits.{Counts, mostCells, mostBytes}
 use Rattle.rooms.specs.declared.value.CellSpace.{CellSpace}
 use Rattle.rooms.specs.declared.value.CellSpace.the-variants as Cells
-use Rattle.rooms.specs.declared.scope.Scope.{Scope}
 use Rattle.rooms.specs.Rooms.{Rooms, cellAt}
-use Rattle.rooms.specs.Scope.{slotOf}
-use Rattle.rooms.specs.Stands.{Alive, Stands, StandsCells, Agrees}
+use Rattle.rooms.specs.Stands.{Alive, Stands, StandsCells, Agrees, Holds}
 use Rattle.rooms.specs.Building.{cellRoom, textRoom}
-use Rattle.rooms.proofs.Frame.{frame}
-use Rattle.machine.specs.Refines.{WordedCells, Held, Slot, Scopes, Live, Upto, Roomy, Keeps, Below}
+use Rattle.machine.specs.Refines.{FitCells, Live, Upto, Roomy, Keeps, Below}
 use Rattle.machine.proofs.Words.{take-lower, drop-higher, low-cell, binding-cell}
 
 -- ---- counts
@@ -56,7 +49,7 @@ module _ (lo hi : Counts) (r q : Rooms) (k : Keeps lo hi r q) where
 
 pub keeps-same : (lo hi : Counts) (r : Rooms) → Upto lo hi → Roomy hi r → Keeps lo hi r r
 keeps-same lo hi r g f =
-    record { literals = refl; bindingCells = refl; bindingTexts = refl; sized = refl; low = refl; high = refl; textSized = refl; textLow = refl; textHigh = refl; grows = g; fits = f; worded = λ w. w }
+    record { literals = refl; bindingCells = refl; bindingTexts = refl; sized = refl; low = refl; high = refl; textSized = refl; textLow = refl; textHigh = refl; grows = g; fits = f; fitting = λ w. w }
 
 -- the low end may be lower, the high end higher
 pub keeps-lower : (o lo hi : Counts) (r q : Rooms) → Upto o lo → Keeps lo hi r q → Keeps o hi r q
@@ -73,7 +66,7 @@ keeps-lower o lo hi r q b k =
       textHigh = k .textHigh;
       grows = upto-then o lo hi b (k .grows);
       fits = k .fits;
-      worded = k .worded;
+      fitting = k .fitting;
     }
 
 pub keeps-higher : (lo hi top : Counts) (r q : Rooms) → Upto hi top → Roomy top r → Keeps lo hi r q → Keeps lo top r q
@@ -90,7 +83,7 @@ keeps-higher lo hi top r q b f k =
       textHigh = drop-higher (hi .bytes) (top .bytes) (r .text) (q .text) (b .bytes) (k .textHigh);
       grows = upto-then lo hi top (k .grows) b;
       fits = f;
-      worded = k .worded;
+      fitting = k .fitting;
     }
 
 -- two runs between the same counts
@@ -108,7 +101,7 @@ keeps-both lo hi r q p a b =
       textHigh = b .textHigh ∙ a .textHigh;
       grows = a .grows;
       fits = a .fits;
-      worded = λ w. b .worded (a .worded w);
+      fitting = λ w. b .fitting (a .fitting w);
     }
 
 -- one run after the other
@@ -131,7 +124,7 @@ keeps-steps lo hi low high r q a b c d k =
       textHigh = subst (λ n. drop n (q .text) ≡ drop n (r .text)) d (k .textHigh);
       grows = record { cells = omega (arith, k .grows .cells); bytes = omega (arith, k .grows .bytes) };
       fits = record { cells = omega (arith, k .fits .cells); bytes = omega (arith, k .fits .bytes) };
-      worded = k .worded;
+      fitting = k .fitting;
     }
 
 -- ---- what is alive
@@ -184,15 +177,3 @@ live-sub L lo mid hi a b space i (inr h) = inr (h .0, omega (arith, h .1, a .cel
 pub live-wider : (L : Alive) (lo mid hi : Counts) → Upto mid hi → (space : CellSpace) (i : ℕ) → (Live L lo mid) .cells space i → (Live L lo hi) .cells space i
 live-wider L lo mid hi b space i (inl h) = inl h
 live-wider L lo mid hi b space i (inr h) = inr (h .0, h .1, omega (arith, h .2, b .cells))
-
--- ---- values and scopes
-
-pub held-frame : (L M : Alive) (r q : Rooms) → Agrees L M r q → (v : Meaning.Value) (m : Value) → Held v L r m → Held v M q m
-held-frame L M r q g v m h = record { stands = frame L M r q g v m (h .stands); worded = h .worded; nests = h .nests }
-
-slot-frame : (L M : Alive) (r q : Rooms) → Agrees L M r q → (o : Option Meaning.Value) (m : Value) → Slot o L r m → Slot o M q m
-slot-frame L M r q g none m h = h
-slot-frame L M r q g (some v) m h = held-frame L M r q g v m h
-
-pub scopes-frame : (L M : Alive) (r q : Rooms) → Agrees L M r q → (t : Comprehension.Scope) (s : Scope) → Scopes t L r s → Scopes t M q s
-scopes-frame L M r q g t s h = record { sized = h .sized; slots = λ n b. slot-frame L M r q g (t n) (slotOf s n) (h .slots n b) }

@@ -22,18 +22,17 @@ use Rattle.rooms.specs.declared.value.CellSpace.the-variants as Cells
 use Rattle.rooms.specs.declared.scope.Scope.{Scope}
 use Rattle.rooms.specs.Value.{nestingOf}
 use Rattle.rooms.specs.Rooms.{Rooms, cellAt}
-use Rattle.rooms.specs.Stands.{Alive, Stands, StandsCells, Agrees}
+use Rattle.rooms.specs.Stands.{Alive, Stands, StandsCells, Agrees, Holds}
 use Rattle.rooms.proofs.Frame.{frame-cells}
 use Rattle.rooms.proofs.CellLaws.{written-length}
-use Rattle.rooms.proofs.EqualMeaning.{stands-nesting}
 use Rattle.machine.specs.declared.outcome.Used.{Used}
 use Rattle.machine.specs.declared.outcome.Outcome.{Outcome}
 use Rattle.machine.specs.declared.outcome.Outcome.the-variants as Outcome
 use Rattle.machine.specs.Outcomes.{Res, Does, written, withValue, taking, whole}
 use Rattle.machine.specs.Views.{partIn, unmarkedIn, optionalIn}
 use Rattle.machine.specs.Containers.{addElement, element, listDone}
-use Rattle.machine.specs.Refines.{usedOf, countsOf, Worded, Held, Live, Upto, Roomy, Keeps, Logged, Matches, Start, Refines}
-use Rattle.machine.proofs.Keeping.{upto-same, keeps-agrees, keeps-both, keeps-higher, keeps-back, agrees-sub, agrees-narrow, roomy-same, scopes-frame}
+use Rattle.machine.specs.Refines.{usedOf, countsOf, Live, Upto, Roomy, Keeps, Logged, Matches, Start, Refines}
+use Rattle.machine.proofs.Keeping.{upto-same, keeps-agrees, keeps-both, keeps-higher, keeps-back, agrees-sub, agrees-narrow, roomy-same}
 use Rattle.machine.proofs.Taking.{took, upto-took, taken, taken-keeps, taken-null}
 use Rattle.machine.proofs.Traces.{count-join, nesting-join, from-grows}
 use Rattle.machine.proofs.Match.{Says}
@@ -41,6 +40,9 @@ use Rattle.machine.proofs.Charges.{takes}
 use Rattle.machine.proofs.Selecting.{UnwrapView, unwrap-view}
 use Rattle.machine.proofs.Filling.{Filling, pad-count, stored-keeps, fill-store, Stored, empty-filling}
 use Rattle.machine.proofs.Makings.{closing, FillsTo, fills-error, fills-done, fills-then}
+use Rattle.rooms.specs.Cells.{Fits}
+use Rattle.rooms.proofs.Scopes.{scope-frame}
+use Rattle.rooms.proofs.Depths.{stands-nesting}
 
 -- one element more
 pub longer : (vs : Values) (v : Meaning.Value) → count (join vs (cons v nil)) ≡ count vs + 1
@@ -69,8 +71,8 @@ module _ (l : Counts) (src : List ℕ) (p : ℕ) where
       fills-done l src p itself list st dn refl (nestingIn dn) (λ k. Value.List k Cells.Evaluation (o .cells) (count dn)) (unfold nesting in refl)
       (λ deep. unfold Stands nesting in ((Cells.Evaluation, o .cells, ap (λ k. Value.List k Cells.Evaluation (o .cells) (count dn)) (add-one (nestingIn dn)), frame-cells L (Live B o u) r r (agrees-sub L (Live B o u) r (st .sub) (st .begun .below .bytes)) dn Cells.Evaluation (o .cells) (st .filled)), small deep))
     where
-      small : nesting (list dn) ≤ deepestValue → Worded (Value.List (nestingIn dn + 1) Cells.Evaluation (o .cells) (count dn))
-      small deep = ((omega arith, omega (arith, st .taken, st .begun .roomy .cells), omega (arith, st .inside, st .taken, st .begun .roomy .cells)), omega (arith, st .taken, st .begun .roomy .cells))
+      small : nesting (list dn) ≤ deepestValue → Fits (Value.List (nestingIn dn + 1) Cells.Evaluation (o .cells) (count dn))
+      small deep = (omega arith, omega (arith, st .taken, st .begun .roomy .cells), omega (arith, st .inside, st .taken, st .begun .roomy .cells))
 
   module _ (F : Scope → (base m d : ℕ) → Used → Rooms → Res) (M : Comprehension.Scope → Values → Making Values) (z : ℕ) (ih : ListFills F M z) where
     module _ {B L : Alive} {o : Counts} {n : ℕ} {dn : Values} {tr : Trace} {u : Counts} {r : Rooms} {s : Scope} {t : Comprehension.Scope} (st : Filling l src B L o n dn tr u r s t) (i : count dn + suc z ≤ n) where
@@ -78,19 +80,19 @@ module _ (l : Counts) (src : List ℕ) (p : ℕ) where
       added x = addElement (o .cells) (count dn) (nestingIn dn) x (usedOf u) r (λ m d w q. F s (o .cells) m d w q)
 
       -- a value is stored
-      store-ok : (m : Value) (v : Meaning.Value) → Held v L r m → FillsTo l src p itself list B o n tr u r (added (some m)) (M t (join dn (cons v nil)))
+      store-ok : (m : Value) (v : Meaning.Value) → Holds v L r m → FillsTo l src p itself list B o n tr u r (added (some m)) (M t (join dn (cons v nil)))
       store-ok m v h =
           let free : count dn < n = omega arith in
           let q : Rooms = written r (o .cells + count dn) m in
           let next : FillsTo l src p itself list B o n tr u q (F s (o .cells) (count (join dn (cons v nil))) (nestingIn (join dn (cons v nil))) (usedOf u) q) (M t (join dn (cons v nil))) =
-              ih B (Stored L (o .cells + count dn)) o n (join dn (cons v nil)) tr u q s t (fill-store l src st m v (h .stands) (h .worded) free) (omega (arith, longer dn v)) in
+              ih B (Stored L (o .cells + count dn)) o n (join dn (cons v nil)) tr u q s t (fill-store l src st m v (h .stands) (h .fits) free) (omega (arith, longer dn v)) in
           let said : FillsTo l src p itself list B o n tr u q (F s (o .cells) (count dn + 1) (max (nestingIn dn) (nestingOf m)) (usedOf u) q) (M t (join dn (cons v nil))) =
               subst (λ k. FillsTo l src p itself list B o n tr u q (F s (o .cells) k (max (nestingIn dn) (nestingOf m)) (usedOf u) q) (M t (join dn (cons v nil)))) (longer dn v)
-              (subst (λ k. FillsTo l src p itself list B o n tr u q (F s (o .cells) (count (join dn (cons v nil))) k (usedOf u) q) (M t (join dn (cons v nil)))) (deeper dn v ∙ ap (max (nestingIn dn)) (sym (stands-nesting L r 0 v m (h .stands)))) next) in
+              (subst (λ k. FillsTo l src p itself list B o n tr u q (F s (o .cells) (count (join dn (cons v nil))) k (usedOf u) q) (M t (join dn (cons v nil)))) (deeper dn v ∙ ap (max (nestingIn dn)) (sym (stands-nesting L r v m (h .stands)))) next) in
           let hi : Counts = countsOf (outcome (placed p ((after (M t (join dn (cons v nil))) (closing l src p itself list)) .1)) (spend l ((after (M t (join dn (cons v nil))) (closing l src p itself list)) .0) u)) in
           record {
             good = said .good;
-            keeps = keeps-both o hi r q _ (stored-keeps l src st m v (h .stands) (h .worded) free hi (from-grows l _ u) (roomy-same hi q r (sym (written-length (r .cells) (o .cells + count dn) m)) refl (said .keeps .fits))) (said .keeps);
+            keeps = keeps-both o hi r q _ (stored-keeps l src st m v (h .stands) (h .fits) free hi (from-grows l _ u) (roomy-same hi q r (sym (written-length (r .cells) (o .cells + count dn) m)) refl (said .keeps .fits))) (said .keeps);
           }
 
       -- nothing is
@@ -104,7 +106,7 @@ module _ (l : Counts) (src : List ℕ) (p : ℕ) where
       unmarked-ok m (Some v) h = subst (λ y. FillsTo l src p itself list B o n tr u r (added (unmarkedIn r m y)) (M t (join dn (cons v nil)))) (sym (h .2)) (store-ok (cellAt r (h .0) (h .1)) v (h .3))
       unmarked-ok m None h = subst (λ y. FillsTo l src p itself list B o n tr u r (added (unmarkedIn r y (optionalIn y))) (M t dn)) (sym h) skip-ok
 
-      part-ok : (marked : Bool) (m : Value) (v : Meaning.Value) → Held v L r m → FillsTo l src p itself list B o n tr u r (added (partIn r marked m)) (M t (append dn (kept marked v)))
+      part-ok : (marked : Bool) (m : Value) (v : Meaning.Value) → Holds v L r m → FillsTo l src p itself list B o n tr u r (added (partIn r marked m)) (M t (append dn (kept marked v)))
       unfolding kept append
       part-ok true m v h = unmarked-ok m (unwrapOptional v) (unwrap-view l src (st .begun) v m h)
       part-ok false m v h = store-ok m v h

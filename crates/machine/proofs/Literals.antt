@@ -8,7 +8,7 @@ use native.Mathlib.Omega.{arith}
 use lib.ListN.{length}
 use Rattle.numbers.specs.declared.double.Double.{Double}
 use Rattle.numbers.specs.declared.double.Double.the-variants as Bits
-use Rattle.meaning.specs.Limits.{Counts, names}
+use Rattle.meaning.specs.Limits.{Counts}
 use Rattle.meaning.specs.Errors.{UndeclaredReference}
 use Rattle.meaning.specs.Value as Meaning
 use Rattle.meaning.specs.Value.{Scalar, null, bool, int, uint, double, string, bytes, scalar, list, map, optionalNone, optionalOf, nesting}
@@ -20,13 +20,13 @@ use Rattle.rooms.specs.declared.value.TextSpace.the-variants as Text
 use Rattle.rooms.specs.declared.scope.Scope.{Scope}
 use Rattle.rooms.specs.Value.{doubleValue}
 use Rattle.rooms.specs.Rooms.{Rooms, part}
-use Rattle.rooms.specs.Scope.{slotOf}
-use Rattle.rooms.specs.Stands.{Alive, TextAt, StandsScalar, Stands}
+use Rattle.rooms.specs.Scope.{slotOf, StandsSlot}
+use Rattle.rooms.specs.Stands.{Alive, TextAt, StandsScalar, Stands, Holds}
 use Rattle.machine.specs.declared.outcome.Used.{Used}
 use Rattle.machine.specs.declared.outcome.Outcome.the-variants as Outcome
 use Rattle.machine.specs.Literals.{wordIn, literalValue, fieldValue, nameOut}
 use Rattle.machine.specs.Accepted.{Spells, AcceptedLiteral}
-use Rattle.machine.specs.Refines.{usedOf, Held, Slot, Start}
+use Rattle.machine.specs.Refines.{usedOf, Start}
 use Rattle.machine.proofs.Match.{Says, value-now, error-now}
 use Rattle.machine.proofs.Seen.{held-bool}
 use Rattle.machine.proofs.Numbers.{held-int, held-uint, held-double}
@@ -37,19 +37,19 @@ module _ (table src : List ℕ) (L : Alive) (r : Rooms) (e : r .literal ≡ src)
   spelled-at : (s : List ℕ) (a n : ℕ) → Spells table src s a n → TextAt s L r Text.Literal a
   spelled-at s a n h = record { within = tt; spells = subst (λ k. part (r .literal) a k ≡ s) (h .long) (ap (λ x. part x a n) e ∙ h .spelled) }
 
-  pub held-string : (s : List ℕ) (a n : ℕ) → Spells table src s a n → Held (scalar (string s)) L r (Value.String Text.Literal a n)
+  pub held-string : (s : List ℕ) (a n : ℕ) → Spells table src s a n → Holds (scalar (string s)) L r (Value.String Text.Literal a n)
   unfolding Stands StandsScalar nesting
-  held-string s a n h = record { stands = (Text.Literal, a, ap (λ k. Value.String Text.Literal a k) (h .long), spelled-at s a n h); worded = ((h .offsetFits, h .sizeFits), omega (arith, h .offsetFits)); nests = omega arith }
+  held-string s a n h = record { stands = (Text.Literal, a, ap (λ k. Value.String Text.Literal a k) (h .long), spelled-at s a n h); fits = (h .offsetFits, h .sizeFits); nests = omega arith }
 
-  held-bytes : (s : List ℕ) (a n : ℕ) → Spells table src s a n → Held (scalar (bytes s)) L r (Value.Bytes Text.Literal a n)
+  held-bytes : (s : List ℕ) (a n : ℕ) → Spells table src s a n → Holds (scalar (bytes s)) L r (Value.Bytes Text.Literal a n)
   unfolding Stands StandsScalar nesting
-  held-bytes s a n h = record { stands = (Text.Literal, a, ap (λ k. Value.Bytes Text.Literal a k) (h .long), spelled-at s a n h); worded = ((h .offsetFits, h .sizeFits), omega (arith, h .offsetFits)); nests = omega arith }
+  held-bytes s a n h = record { stands = (Text.Literal, a, ap (λ k. Value.Bytes Text.Literal a k) (h .long), spelled-at s a n h); fits = (h .offsetFits, h .sizeFits); nests = omega arith }
 
-  held-null : Held (scalar null) L r Value.Null
+  held-null : Holds (scalar null) L r Value.Null
   unfolding Stands StandsScalar nesting
-  held-null = record { stands = refl; worded = (tt, omega arith); nests = omega arith }
+  held-null = record { stands = refl; fits = tt; nests = omega arith }
 
-  pub held-literal : (p : ℕ) (x : Scalar) → AcceptedLiteral table src p x → Held (scalar x) L r (literalValue table p x)
+  pub held-literal : (p : ℕ) (x : Scalar) → AcceptedLiteral table src p x → Holds (scalar x) L r (literalValue table p x)
   held-literal p null h = held-null
   held-literal p (bool b) h = held-bool L r b
   held-literal p (int z) h = held-int L r z h
@@ -80,10 +80,10 @@ value-named L r p u optionalNone m h = subst (λ x. nameOut p x u ≡ Outcome.Va
 value-named L r p u (optionalOf v) m h = subst (λ x. nameOut p x u ≡ Outcome.Value x u) (sym (h .2)) refl
 
 module _ (l : Counts) (src : List ℕ) {L : Alive} {u : Counts} {r : Rooms} {s : Scope} {t : Comprehension.Scope} (st : Start l src L u r s t) (p : ℕ) where
-  slot-says : (o : Option Meaning.Value) (m : Value) → Slot o L r m → Says l src p L u r (nameOut p m (usedOf u), r) (orFail UndeclaredReference o)
+  slot-says : (o : Option Meaning.Value) (m : Value) → StandsSlot o L r m → Says l src p L u r (nameOut p m (usedOf u), r) (orFail UndeclaredReference o)
   unfolding orFail
   slot-says none m h = subst (λ x. Says l src p L u r (nameOut p x (usedOf u), r) (fail UndeclaredReference)) (sym h) (error-now l src st p UndeclaredReference)
   slot-says (some v) m h = subst (λ x. Says l src p L u r (x, r) (pure v)) (sym (value-named L r p (usedOf u) v m (h .stands))) (value-now l src st p m v h)
 
-  pub name-says : (n : ℕ) → n < names → Says l src p L u r (nameOut p (slotOf s n) (usedOf u), r) (orFail UndeclaredReference (t n))
-  name-says n h = slot-says (t n) (slotOf s n) (st .scope .slots n h)
+  pub name-says : (n : ℕ) → Says l src p L u r (nameOut p (slotOf s n) (usedOf u), r) (orFail UndeclaredReference (t n))
+  name-says n = slot-says (t n) (slotOf s n) (st .scope .each n)

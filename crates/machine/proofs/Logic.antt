@@ -21,7 +21,7 @@ use Rattle.rooms.specs.declared.value.Value.{Value}
 use Rattle.rooms.specs.declared.value.Value.the-variants as Value
 use Rattle.rooms.specs.declared.scope.Scope.{Scope}
 use Rattle.rooms.specs.Rooms.{Rooms}
-use Rattle.rooms.specs.Stands.{Alive}
+use Rattle.rooms.specs.Stands.{Alive, Holds}
 use Rattle.machine.specs.declared.outcome.Used.{Used}
 use Rattle.machine.specs.declared.outcome.Outcome.{Outcome}
 use Rattle.machine.specs.declared.outcome.Outcome.the-variants as Outcome
@@ -30,7 +30,7 @@ use Rattle.machine.specs.Views.{boolIn}
 use Rattle.machine.specs.Logic as Machine
 use Rattle.machine.specs.Logic.{notOut, logicLeft, unlessDecided, logicBool, undecided, bothBools, logicRight, branch}
 use Rattle.machine.specs.Machine.{unaryOut, onLeft, binaryDoes, conditionalDoes}
-use Rattle.machine.specs.Refines.{usedOf, errorOf, Held, Matches, Start, Refines}
+use Rattle.machine.specs.Refines.{usedOf, errorOf, Matches, Start, Refines}
 use Rattle.machine.proofs.Match.{raisedPlace, Says, value-now, raises, error-now, HandsOut}
 use Rattle.machine.proofs.Operands.{bool-view, operand-says, of-operand, value-of, try-bool}
 use Rattle.machine.proofs.Seen.{bool-is, held-bool}
@@ -71,7 +71,7 @@ module _ (l : Counts) (src : List ℕ) where
   not-end a p none = error-now l src a p NoOverload
   not-end a p (some b) = truth-now a p (not b)
 
-  pub not-says : {L : Alive} {u : Counts} {r : Rooms} {s : Scope} {t : Comprehension.Scope} → Start l src L u r s t → (p : ℕ) (m : Value) (v : Meaning.Value) → Held v L r m → Says l src p L u r (notOut p (usedOf u) (boolIn m), r) (notRule v)
+  pub not-says : {L : Alive} {u : Counts} {r : Rooms} {s : Scope} {t : Comprehension.Scope} → Start l src L u r s t → (p : ℕ) (m : Value) (v : Meaning.Value) → Holds v L r m → Says l src p L u r (notOut p (usedOf u) (boolIn m), r) (notRule v)
   unfolding notRule
   not-says {L} {u} {r} a p m v h = subst (λ o. Says l src p L u r (notOut p (usedOf u) o, r) (_>>=_ (orFail NoOverload (boolOf v)) (λ b. truth (not b)))) (sym (bool-view L r v m (h .stands))) (not-end a p (boolOf v))
 

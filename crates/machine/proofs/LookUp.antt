@@ -25,18 +25,17 @@ use Rattle.rooms.specs.declared.value.Value.the-variants as Value
 use Rattle.rooms.specs.declared.value.CellSpace.{CellSpace}
 use Rattle.rooms.specs.declared.value.Parts.{Parts}
 use Rattle.rooms.specs.declared.value.Parts.the-variants as Parts
-use Rattle.rooms.specs.declared.comparison.Position.{Position}
-use Rattle.rooms.specs.declared.comparison.Position.the-variants as Position
-use Rattle.rooms.specs.declared.equality.Found.{Found}
+use Rattle.comparing.specs.declared.sizes.Position.{Position}
+use Rattle.comparing.specs.declared.sizes.Position.the-variants as Position
+use Rattle.comparing.specs.declared.lookup.Found.{Found}
 use Rattle.rooms.specs.declared.scope.Scope.{Scope}
 use Rattle.rooms.specs.Value.{partsOf, doubleValue}
 use Rattle.rooms.specs.Rooms.{Rooms, cellAt}
-use Rattle.rooms.specs.Stands.{Alive, StandsScalar, Stands, StandsCells, StandsEntries}
-use Rattle.rooms.specs.Equality.{findIn, amongIn}
-use Rattle.rooms.specs.Comparison.{insideInt}
-use Rattle.rooms.specs.Comparison as Positions
-use Rattle.rooms.proofs.Positions.{nth-stands}
-use Rattle.rooms.proofs.EqualMeaning.{find-ok, among-ok}
+use Rattle.rooms.specs.Stands.{Alive, StandsScalar, Stands, StandsCells, StandsEntries, Holds}
+use Rattle.comparing.specs.Equality.{findIn, amongIn}
+use Rattle.comparing.specs.Sizes.{insideInt}
+use Rattle.comparing.specs.Sizes as Positions
+use Rattle.comparing.proofs.EqualMeaning.{find-ok, among-ok}
 use Rattle.machine.specs.declared.outcome.Outcome.{Outcome}
 use Rattle.machine.specs.declared.outcome.Outcome.the-variants as Outcome
 use Rattle.machine.specs.declared.outcome.Error.the-variants as Error
@@ -44,12 +43,13 @@ use Rattle.machine.specs.Outcomes.{Res, truthOut, noOverload}
 use Rattle.machine.specs.Views.{isKey}
 use Rattle.machine.specs.Comparison.{onPairs, onFound}
 use Rattle.machine.specs.Selection.{elementOut, entryOut, lookUpIn, lookUp, inParts, optionally, tells}
-use Rattle.machine.specs.Refines.{usedOf, Held, Start}
+use Rattle.machine.specs.Refines.{usedOf, Start}
 use Rattle.machine.proofs.Match.{Says, value-now, error-now, then}
 use Rattle.machine.proofs.Steps.{pairs-then, found-then}
 use Rattle.machine.proofs.Seen.{held-none, scalar-parts, Probe, probe-view}
 use Rattle.machine.proofs.Logic.{truth-now}
 use Rattle.machine.proofs.Building.{present-says}
+use Rattle.comparing.proofs.SizeMeaning.{nth-stands}
 
 none≢some : {v : Meaning.Value} → _≡_ {A = Option Meaning.Value} none (some v) → ⊥
 none≢some e = let z : _≡_ {A = ℕ} 0 1 = cc in omega arith
@@ -92,8 +92,8 @@ double-position (Bits.Nan b) n = refl
 
 module _ (l : Counts) (src : List ℕ) where
   -- the value in a live cell
-  pub held-cell : {L : Alive} {u : Counts} {r : Rooms} {s : Scope} {t : Comprehension.Scope} → Start l src L u r s t → (v : Meaning.Value) (space : CellSpace) (c : ℕ) → Stands v L r (cellAt r space c) → nesting v ≤ deepestValue → Held v L r (cellAt r space c)
-  held-cell a v space c h n = record { stands = h; worded = a .worded space c; nests = n }
+  pub held-cell : {L : Alive} {u : Counts} {r : Rooms} {s : Scope} {t : Comprehension.Scope} → Start l src L u r s t → (v : Meaning.Value) (space : CellSpace) (c : ℕ) → Stands v L r (cellAt r space c) → nesting v ≤ deepestValue → Holds v L r (cellAt r space c)
+  held-cell a v space c h n = record { stands = h; fits = a .fitting space c; nests = n }
 
   module _ {L : Alive} {u : Counts} {r : Rooms} {s : Scope} {t : Comprehension.Scope} (st : Start l src L u r s t) (p : ℕ) where
     -- ---- in a List
@@ -152,11 +152,11 @@ module _ (l : Counts) (src : List ℕ) where
 
     -- ---- look-up and `in`
 
-    module _ (w : Meaning.Value) (n : Value) (k : Held w L r n) where
+    module _ (w : Meaning.Value) (n : Value) (k : Holds w L r n) where
       abbrev Looks : Value → Meaning.Value → Type 0
       Looks m v = Says l src p L u r (lookUp (l .steps) p r m n (usedOf u), r) (Rules.lookUp v w)
 
-      pub lookUp-says : (v : Meaning.Value) (m : Value) → Held v L r m → Looks m v
+      pub lookUp-says : (v : Meaning.Value) (m : Value) → Holds v L r m → Looks m v
       unfolding Rules.lookUp Stands nesting
       lookUp-says (scalar x) m h = subst (λ y. Says l src p L u r (lookUpIn (l .steps) p r n (usedOf u) y, r) (fail NoOverload)) (sym (scalar-parts L r x m (h .stands))) (error-now l src st p NoOverload)
       lookUp-says (list vs) m h = subst (λ y. Looks y (list vs)) (sym (h .stands .2)) (in-list vs (h .stands .0) (h .stands .1) (h .nests) (h .stands .3) w n (k .stands))
@@ -164,11 +164,11 @@ module _ (l : Counts) (src : List ℕ) where
       lookUp-says optionalNone m h = subst (λ y. Looks y optionalNone) (sym (h .stands)) (error-now l src st p NoOverload)
       lookUp-says (optionalOf v) m h = subst (λ y. Looks y (optionalOf v)) (sym (h .stands .2)) (error-now l src st p NoOverload)
 
-    module _ (v : Meaning.Value) (m : Value) (k : Held v L r m) where
+    module _ (v : Meaning.Value) (m : Value) (k : Holds v L r m) where
       abbrev Finds : Value → Meaning.Value → Type 0
       Finds n w = Says l src p L u r (inParts (l .steps) p r m (usedOf u) (partsOf n), r) (inRule v w)
 
-      pub in-says : (w : Meaning.Value) (n : Value) → Held w L r n → Finds n w
+      pub in-says : (w : Meaning.Value) (n : Value) → Holds w L r n → Finds n w
       unfolding inRule Stands
       in-says (scalar x) n h = subst (λ y. Says l src p L u r (inParts (l .steps) p r m (usedOf u) y, r) (fail NoOverload)) (sym (scalar-parts L r x n (h .stands))) (error-now l src st p NoOverload)
       in-says (list ws) n h =

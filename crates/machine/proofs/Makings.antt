@@ -20,17 +20,18 @@ use Rattle.rooms.specs.declared.value.Value.{Value}
 use Rattle.rooms.specs.declared.value.CellSpace.the-variants as Cells
 use Rattle.rooms.specs.declared.scope.Scope.{Scope}
 use Rattle.rooms.specs.Rooms.{Rooms}
-use Rattle.rooms.specs.Stands.{Alive, Stands, StandsCells, Agrees}
+use Rattle.rooms.specs.Stands.{Alive, Stands, StandsCells, Agrees, Holds}
 use Rattle.machine.specs.declared.outcome.Outcome.{Outcome}
 use Rattle.machine.specs.declared.outcome.Outcome.the-variants as Outcome
 use Rattle.machine.specs.Outcomes.{Res, Does, whole}
-use Rattle.machine.specs.Refines.{usedOf, errorOf, limitOf, from, countsOf, Worded, Held, Live, Upto, Roomy, Keeps, Logged, Matches, Start, Refines}
+use Rattle.machine.specs.Refines.{usedOf, errorOf, limitOf, from, countsOf, Live, Upto, Roomy, Keeps, Logged, Matches, Start, Refines}
 use Rattle.machine.proofs.Keeping.{keeps-same, keeps-lower, keeps-higher, keeps-both, keeps-back, keeps-agrees}
 use Rattle.machine.proofs.Traces.{spend-append, from-grows}
 use Rattle.machine.proofs.Match.{raisedPlace, HandsOut}
 use Rattle.machine.proofs.Charges.{relog, wholes}
 use Rattle.machine.proofs.Operands.{after-assoc}
 use Rattle.machine.proofs.Filling.{Filling, since, fill-run, so-far}
+use Rattle.rooms.specs.Cells.{Fits}
 
 -- rooms at later counts: what is kept from there is kept from here
 pub keeps-from : (l : Counts) (o u c hi : Counts) (r q p : Rooms) → Upto o u → Upto c hi → Keeps u c r q → Keeps o hi q p → Keeps o hi r p
@@ -59,7 +60,7 @@ module _ (l : Counts) (src : List ℕ) (p : ℕ) {A : Type 0} (shape : A → Val
     fills-error ready i (byOperand e) = record { good = (refl, subst (λ z. Logged (cells (pad n (shape ready)) ∷ z) B o u r) (sym (append-nil tr)) (subst (λ z. Logged (cells (pad n z) ∷ tr) B o u r) (sym i) (so-far l src st))); keeps = stays }
 
     -- the last part is there
-    pub fills-done : (a : A) → shape a ≡ rc → (d : ℕ) (make : ℕ → Value) → suc d ≡ nesting (container a) → (nesting (container a) ≤ deepestValue → Stands (container a) (Live B o u) r (make (d + 1)) × Worded (make (d + 1))) → FillsTo B o n tr u r (whole d make (usedOf u), r) (pure a)
+    pub fills-done : (a : A) → shape a ≡ rc → (d : ℕ) (make : ℕ → Value) → suc d ≡ nesting (container a) → (nesting (container a) ≤ deepestValue → Stands (container a) (Live B o u) r (make (d + 1)) × Fits (make (d + 1))) → FillsTo B o n tr u r (whole d make (usedOf u), r) (pure a)
     unfolding after charged readyIn pure cellsBuilt textBuilt
     fills-done a i d make e h =
         relog B o r (whole d make (usedOf u), r) (outcome (placed p (value (container a))) (spend l (nest (nesting (container a)) ∷ []) u)) (cells (pad n (shape a)) ∷ tr) (cells (pad n (shape a)) ∷ (tr ++ (nest (nesting (container a)) ∷ [])))
@@ -81,7 +82,7 @@ module _ (l : Counts) (src : List ℕ) (p : ℕ) {A : Type 0} (shape : A → Val
 
     -- what goes on after an operand
     abbrev pub GoesOn : (Res → Res) → (Result Raised Meaning.Value → Making A) → Type 1
-    GoesOn K k = (M : Alive) (c : Counts) (q : Rooms) (e : Trace) → Filling l src B M o n rc (tr ++ e) c q s t → Agrees L M r q → (m : Value) (v : Meaning.Value) → Held v M q m → FillsTo B o n (tr ++ e) c q (K (Outcome.Value m (usedOf c), q)) (k (value v))
+    GoesOn K k = (M : Alive) (c : Counts) (q : Rooms) (e : Trace) → Filling l src B M o n rc (tr ++ e) c q s t → Agrees L M r q → (m : Value) (v : Meaning.Value) → Holds v M q m → FillsTo B o n (tr ++ e) c q (K (Outcome.Value m (usedOf c), q)) (k (value v))
 
     abbrev pub EndsSo : (Res → Res) → (Result Raised Meaning.Value → Making A) → Type 1
     EndsSo K k = (M : Alive) (c : Counts) (q : Rooms) (e : Trace) → Filling l src B M o n rc (tr ++ e) c q s t → (x : Raised) → FillsTo B o n (tr ++ e) c q (K (Outcome.Error (errorOf (raisedError x)) (raisedPlace p x) (usedOf c), q)) (k (error x))

@@ -23,16 +23,16 @@ use Rattle.rooms.specs.declared.value.Value.{Value}
 use Rattle.rooms.specs.declared.value.Value.the-variants as Value
 use Rattle.rooms.specs.declared.value.CellSpace.{CellSpace}
 use Rattle.rooms.specs.declared.value.CellSpace.the-variants as Cells
-use Rattle.rooms.specs.declared.equality.Found.{Found}
-use Rattle.rooms.specs.declared.equality.Found.the-variants as Found
+use Rattle.comparing.specs.declared.lookup.Found.{Found}
+use Rattle.comparing.specs.declared.lookup.Found.the-variants as Found
 use Rattle.rooms.specs.declared.scope.Scope.{Scope}
 use Rattle.rooms.specs.Value.{nestingOf}
 use Rattle.rooms.specs.Rooms.{Rooms, cellAt}
-use Rattle.rooms.specs.Stands.{Alive, StandsScalar, Stands, StandsCells, StandsEntries, Agrees}
-use Rattle.rooms.specs.Equality.{findIn}
-use Rattle.rooms.proofs.Frame.{frame, frame-entries, scalar-frame}
+use Rattle.rooms.specs.Stands.{Alive, StandsScalar, Stands, StandsCells, StandsEntries, Agrees, Holds}
+use Rattle.comparing.specs.Equality.{findIn}
+use Rattle.rooms.proofs.Frame.{frame, frame-entries, scalar-frame, holds-frame}
 use Rattle.rooms.proofs.CellLaws.{written-length}
-use Rattle.rooms.proofs.EqualMeaning.{stands-nesting, FoundIs, Finds, find-ok}
+use Rattle.comparing.proofs.EqualMeaning.{FoundIs, Finds, find-ok}
 use Rattle.machine.specs.declared.outcome.Used.{Used}
 use Rattle.machine.specs.declared.outcome.Error.the-variants as Error
 use Rattle.machine.specs.declared.outcome.Outcome.{Outcome}
@@ -41,8 +41,8 @@ use Rattle.machine.specs.Outcomes.{Res, Does, written, withValue, taking
 use Rattle.machine.specs.Views.{isKey, partIn, unmarkedIn, optionalIn}
 use Rattle.machine.specs.Containers as Machine
 use Rattle.machine.specs.Containers.{ifKey, ifNew, mapDone}
-use Rattle.machine.specs.Refines.{usedOf, errorOf, countsOf, Worded, Held, Live, Upto, Roomy, Keeps, Logged, Matches, Start, Refines}
-use Rattle.machine.proofs.Keeping.{upto-same, keeps-same, keeps-agrees, keeps-both, keeps-higher, keeps-back, agrees-sub, roomy-same, held-frame}
+use Rattle.machine.specs.Refines.{usedOf, errorOf, countsOf, Live, Upto, Roomy, Keeps, Logged, Matches, Start, Refines}
+use Rattle.machine.proofs.Keeping.{upto-same, keeps-same, keeps-agrees, keeps-both, keeps-higher, keeps-back, agrees-sub, roomy-same}
 use Rattle.machine.proofs.Taking.{took, taken, taken-keeps}
 use Rattle.machine.proofs.Traces.{count-join, from-grows}
 use Rattle.machine.proofs.Match.{raisedPlace, Says}
@@ -54,6 +54,8 @@ use Rattle.machine.proofs.Selecting.{UnwrapView, unwrap-view}
 use Rattle.machine.proofs.Filling.{Filling, since, pad-count, stored-agrees, stored-keeps, fill-store, fill-walked, Stored, empty-filling}
 use Rattle.machine.proofs.Makings.{closing, FillsTo, fills-error, fills-done, fills-then}
 use Rattle.machine.proofs.Lists.{longer}
+use Rattle.rooms.specs.Cells.{Fits}
+use Rattle.rooms.proofs.Depths.{stands-nesting}
 
 -- ---- entries and their cells
 
@@ -151,13 +153,13 @@ module _ (l : Counts) (src : List ℕ) (p : ℕ) where
       fills-done l src p entryCells map st es refl (nestingOver es) (λ k. Value.Map k Cells.Evaluation (o .cells) (countEntries es)) refl
       (λ deep. unfold Stands in ((Cells.Evaluation, o .cells, ap (λ k. Value.Map k Cells.Evaluation (o .cells) (countEntries es)) (add-one (nestingOver es)), frame-entries L (Live B o u) r r (agrees-sub L (Live B o u) r (st .sub) (st .begun .below .bytes)) es Cells.Evaluation (o .cells) (cells-entries es L r Cells.Evaluation (o .cells) (st .filled))), small deep))
     where
-      small : nesting (map es) ≤ deepestValue → Worded (Value.Map (nestingOver es + 1) Cells.Evaluation (o .cells) (countEntries es))
-      small deep = ((omega arith, omega (arith, st .taken, st .begun .roomy .cells), omega (arith, st .taken, st .begun .roomy .cells)), omega (arith, st .taken, st .begun .roomy .cells))
+      small : nesting (map es) ≤ deepestValue → Fits (Value.Map (nestingOver es + 1) Cells.Evaluation (o .cells) (countEntries es))
+      small deep = (omega arith, omega (arith, st .taken, st .begun .roomy .cells), omega (arith, st .taken, st .begun .roomy .cells, st .inside, cells-count es))
 
   module _ (F : Scope → (base m d : ℕ) → Used → Rooms → Res) (M : Comprehension.Scope → Entries → Making Entries) (z : ℕ) (ih : MapFills F M z) where
     -- ---- both cells are stored
 
-    module _ {B L : Alive} {o : Counts} {n : ℕ} (es : Entries) {tr : Trace} {u : Counts} {r : Rooms} {s : Scope} {t : Comprehension.Scope} (st : Filling l src B L o n (entryCells es) tr u r s t) (i : countEntries es * 2 + suc z * 2 ≤ n) (k : Meaning.Key) (key : Value) (hk : Held (scalar (keyScalar k)) L r key) (v : Meaning.Value) (m : Value) (hv : Held v L r m) where
+    module _ {B L : Alive} {o : Counts} {n : ℕ} (es : Entries) {tr : Trace} {u : Counts} {r : Rooms} {s : Scope} {t : Comprehension.Scope} (st : Filling l src B L o n (entryCells es) tr u r s t) (i : countEntries es * 2 + suc z * 2 ≤ n) (k : Meaning.Key) (key : Value) (hk : Holds (scalar (keyScalar k)) L r key) (v : Meaning.Value) (m : Value) (hv : Holds v L r m) where
       abbrev first : ℕ
       first = o .cells + count (entryCells es)
 
@@ -177,16 +179,16 @@ module _ (l : Counts) (src : List ℕ) (p : ℕ) where
       free = omega (arith, cells-count es)
 
       keyed : Filling l src B (Stored L first) o n one tr u q s t
-      keyed = fill-store l src st key (scalar (keyScalar k)) (hk .stands) (hk .worded) free
+      keyed = fill-store l src st key (scalar (keyScalar k)) (hk .stands) (hk .fits) free
 
       free-too : count one < n
       free-too = omega (arith, cells-count es, longer (entryCells es) (scalar (keyScalar k)))
 
-      held-then : Held v (Stored L first) q m
-      held-then = held-frame L (Stored L first) r q (stored-agrees l src st key (scalar (keyScalar k)) (hk .stands) (hk .worded) free) v m hv
+      held-then : Holds v (Stored L first) q m
+      held-then = holds-frame L (Stored L first) r q (stored-agrees l src st key (scalar (keyScalar k)) (hk .stands) (hk .fits) free) v m hv
 
       valued : Filling l src B (Stored (Stored L first) second) o n (entryCells (addEntry es k v)) tr u w s t
-      valued = subst (λ rc. Filling l src B (Stored (Stored L first) second) o n rc tr u w s t) (add-cells es k v) (fill-store l src keyed m v (held-then .stands) (held-then .worded) free-too)
+      valued = subst (λ rc. Filling l src B (Stored (Stored L first) second) o n rc tr u w s t) (add-cells es k v) (fill-store l src keyed m v (held-then .stands) (held-then .fits) free-too)
 
       at-first : first ≡ o .cells + countEntries es * 2
       at-first = ap (λ c. o .cells + c) (cells-count es)
@@ -203,7 +205,7 @@ module _ (l : Counts) (src : List ℕ) (p : ℕ) where
       stored-next : To w (next w)
       stored-next =
           subst (λ c. To w (F s (o .cells) c (max (nestingOver es) (nestingOf m)) (usedOf u) w)) (add-count es k v)
-          (subst (λ d. To w (F s (o .cells) (countEntries (addEntry es k v)) d (usedOf u) w)) (add-nesting es k v ∙ ap (max (nestingOver es)) (sym (stands-nesting L r 0 v m (hv .stands))))
+          (subst (λ d. To w (F s (o .cells) (countEntries (addEntry es k v)) d (usedOf u) w)) (add-nesting es k v ∙ ap (max (nestingOver es)) (sym (stands-nesting L r v m (hv .stands))))
           (ih B (Stored (Stored L first) second) o n (addEntry es k v) tr u w s t valued (omega (arith, add-count es k v))))
 
       abbrev hi : Counts
@@ -223,11 +225,11 @@ module _ (l : Counts) (src : List ℕ) (p : ℕ) where
       entry-stored =
           subst (λ x. To r (next (written (written r x key) (o .cells + countEntries es * 2 + 1) m))) at-first
           (subst (λ x. To r (next (written q x m))) at-second
-          (record { good = stored-next .good; keeps = keeps-both o hi r q _ (stored-keeps l src st key (scalar (keyScalar k)) (hk .stands) (hk .worded) free hi grown fits-r) (keeps-both o hi q w _ (stored-keeps l src keyed m v (held-then .stands) (held-then .worded) free-too hi grown fits-q) (stored-next .keeps)) }))
+          (record { good = stored-next .good; keeps = keeps-both o hi r q _ (stored-keeps l src st key (scalar (keyScalar k)) (hk .stands) (hk .fits) free hi grown fits-r) (keeps-both o hi q w _ (stored-keeps l src keyed m v (held-then .stands) (held-then .fits) free-too hi grown fits-q) (stored-next .keeps)) }))
 
     -- ---- the duplicate test
 
-    module _ {B L : Alive} {o : Counts} {n : ℕ} (es : Entries) {tr : Trace} {u : Counts} {r : Rooms} {s : Scope} {t : Comprehension.Scope} (st : Filling l src B L o n (entryCells es) tr u r s t) (i : countEntries es * 2 + suc z * 2 ≤ n) (k : Meaning.Key) (key : Value) (hk : Held (scalar (keyScalar k)) L r key) where
+    module _ {B L : Alive} {o : Counts} {n : ℕ} (es : Entries) {tr : Trace} {u : Counts} {r : Rooms} {s : Scope} {t : Comprehension.Scope} (st : Filling l src B L o n (entryCells es) tr u r s t) (i : countEntries es * 2 + suc z * 2 ≤ n) (k : Meaning.Key) (key : Value) (hk : Holds (scalar (keyScalar k)) L r key) where
       abbrev rest : Entries → Making Entries
       rest fs = M t fs
 
@@ -237,7 +239,7 @@ module _ (l : Counts) (src : List ℕ) (p : ℕ) where
       abbrev adds : Option Value → Res
       adds x = Machine.addEntry (l .steps) p (o .cells) (countEntries es) (nestingOver es) key x (usedOf u) r (λ m d y q. F s (o .cells) m d y q)
 
-      module _ (v : Meaning.Value) (m : Value) (hv : Held v L r m) where
+      module _ (v : Meaning.Value) (m : Value) (hv : Holds v L r m) where
         abbrev new : Found → Res
         new f = ifNew f p (usedOf u) r (λ y. F s (o .cells) (countEntries es + 1) (max (nestingOver es) (nestingOf m)) y (written (written r (o .cells + countEntries es * 2) key) (o .cells + countEntries es * 2 + 1) m))
 
@@ -279,7 +281,7 @@ module _ (l : Counts) (src : List ℕ) (p : ℕ) where
       -- what an entry adds, in the rooms and in the definition
       abbrev Inserted : Option Meaning.Value → Option Value → Type 0
       Inserted none y = y ≡ none
-      Inserted (some v) y = (m : Value) × (y ≡ some m) × Held v L r m
+      Inserted (some v) y = (m : Value) × (y ≡ some m) × Holds v L r m
 
       insert-ok : (x : Option Meaning.Value) (y : Option Value) → Inserted x y → Comes u (adds y) (making es rest (insert es k x))
       unfolding insert
@@ -292,12 +294,12 @@ module _ (l : Counts) (src : List ℕ) (p : ℕ) where
       unmarked-view m (Some v) h = (cellAt r (h .0) (h .1), ap (unmarkedIn r m) (h .2), h .3)
       unmarked-view m None h = ap (λ y. unmarkedIn r y (optionalIn y)) h
 
-      kept-view : (marked : Bool) (m : Value) (v : Meaning.Value) → Held v L r m → Inserted (kept marked v) (partIn r marked m)
+      kept-view : (marked : Bool) (m : Value) (v : Meaning.Value) → Holds v L r m → Inserted (kept marked v) (partIn r marked m)
       unfolding kept
       kept-view true m v h = unmarked-view m (unwrapOptional v) (unwrap-view l src (st .begun) v m h)
       kept-view false m v h = (m, refl, h)
 
-      pub value-ok : (marked : Bool) (m : Value) (v : Meaning.Value) → Held v L r m → Comes u (adds (partIn r marked m)) (making es rest (insert es k (kept marked v)))
+      pub value-ok : (marked : Bool) (m : Value) (v : Meaning.Value) → Holds v L r m → Comes u (adds (partIn r marked m)) (making es rest (insert es k (kept marked v)))
       value-ok marked m v h = insert-ok (kept marked v) (partIn r marked m) (kept-view marked m v h)
 
     -- ---- a pair
@@ -314,14 +316,14 @@ module _ (l : Counts) (src : List ℕ) (p : ℕ) where
         abbrev ends : Value → Res → Res
         ends key x = withValue (x .0) (x .1) (λ v y q. Machine.addEntry (l .steps) p (o .cells) (countEntries es) (nestingOver es) key (partIn q marked v) y q (λ m d y′ q′. F s (o .cells) m d y′ q′))
 
-        after-key : (key : Value) (o′ : Option Meaning.Key) → KeyView L r o′ key → Worded key → FillsTo l src p entryCells map B o n tr u r (ifKey (isKey key) p (usedOf u) r (λ y q. ends key (valueDoes s y q))) (making es (λ fs. M t fs) (_>>=_ (orFail UnsupportedKeyType o′) (λ k. valueRule t es k)))
+        after-key : (key : Value) (o′ : Option Meaning.Key) → KeyView L r o′ key → Fits key → FillsTo l src p entryCells map B o n tr u r (ifKey (isKey key) p (usedOf u) r (λ y q. ends key (valueDoes s y q))) (making es (λ fs. M t fs) (_>>=_ (orFail UnsupportedKeyType o′) (λ k. valueRule t es k)))
         unfolding raisedError
         after-key key none h x = rw h (subst (λ y. FillsTo l src p entryCells map B o n tr u r (Outcome.Error Error.UnsupportedKeyType p (usedOf u), r) y) (sym (making-no-key es (λ fs. M t fs) (λ k. valueRule t es k))) (fills-error l src p entryCells map st es refl (byRule UnsupportedKeyType)))
         after-key key (some k) h x =
             rw (h .0)
             (subst (λ y. FillsTo l src p entryCells map B o n tr u r (ends key (valueDoes s (usedOf u) r)) y) (sym (making-key es (λ fs. M t fs) k (λ j. valueRule t es j) ∙ making-bind es (λ fs. M t fs) (operand (g t)) (λ j. insert es k (kept marked j))))
             (fills-then l src p entryCells map st valueDoes g hg (ends key) (λ y. making es (λ fs. M t fs) (onValue (λ j. insert es k (kept marked j)) y))
-            (λ N c q e st′ j m v hv. unfold onValue in value-ok es st′ i k key (record { stands = unfold Stands in scalar-frame L N r q j (keyScalar k) key (h .1); worded = x; nests = unfold nesting in omega arith }) marked m v hv)
+            (λ N c q e st′ j m v hv. unfold onValue in value-ok es st′ i k key (record { stands = unfold Stands in scalar-frame L N r q j (keyScalar k) key (h .1); fits = x; nests = unfold nesting in omega arith }) marked m v hv)
             (λ N c q e st′ y. subst (λ a. FillsTo l src p entryCells map B o n (tr ++ e) c q (Outcome.Error (errorOf (raisedError y)) (raisedPlace p y) (usedOf c), q) a) (sym (making-raised es (λ fs. M t fs) (λ j. insert es k (kept marked j)) y)) (fills-error l src p entryCells map st′ es refl y))
             (λ y c q. refl)))
 
@@ -332,7 +334,7 @@ module _ (l : Counts) (src : List ℕ) (p : ℕ) where
           (fills-then l src p entryCells map st keyDoes f hf
           (λ x. withValue (x .0) (x .1) (λ key y q. ifKey (isKey key) p y q (λ y′ q′. withValue ((valueDoes s y′ q′) .0) ((valueDoes s y′ q′) .1) (λ v c d. Machine.addEntry (l .steps) p (o .cells) (countEntries es) (nestingOver es) key (partIn d marked v) c d (λ m e c′ d′. F s (o .cells) m e c′ d′)))))
           (λ y. making es (λ fs. M t fs) (onValue (λ v. keyRule t es v) y))
-          (λ N c q e st′ j m v h. after-key es st′ i m (keyOf v) (key-view N q v m (h .stands)) (h .worded))
+          (λ N c q e st′ j m v h. after-key es st′ i m (keyOf v) (key-view N q v m (h .stands)) (h .fits))
           (λ N c q e st′ x. subst (λ y. FillsTo l src p entryCells map B o n (tr ++ e) c q (Outcome.Error (errorOf (raisedError x)) (raisedPlace p x) (usedOf c), q) y) (sym (making-raised es (λ fs. M t fs) (λ v. keyRule t es v) x)) (fills-error l src p entryCells map st′ es refl x))
           (λ x y q. refl))
 

@@ -24,17 +24,18 @@ use Rattle.rooms.specs.declared.value.Value.{Value}
 use Rattle.rooms.specs.declared.value.CellSpace.the-variants as Cells
 use Rattle.rooms.specs.declared.scope.Scope.{Scope}
 use Rattle.rooms.specs.Rooms.{Rooms, part}
-use Rattle.rooms.specs.Stands.{Alive, Stands, StandsCells, Agrees}
-use Rattle.rooms.proofs.Frame.{frame-cells, part-same}
+use Rattle.rooms.specs.Stands.{Alive, Stands, StandsCells, Agrees, Holds}
+use Rattle.rooms.proofs.Frame.{frame-cells, part-same, holds-frame}
 use Rattle.machine.specs.declared.outcome.Used.{Used}
 use Rattle.machine.specs.declared.outcome.Error.{Error}
 use Rattle.machine.specs.declared.outcome.Limit.{Limit}
 use Rattle.machine.specs.declared.outcome.Outcome.{Outcome}
 use Rattle.machine.specs.declared.outcome.Outcome.the-variants as Outcome
 use Rattle.machine.specs.Outcomes.{Res, Does, stepped, withValue, afterStep, recorded}
-use Rattle.machine.specs.Refines.{usedOf, errorOf, limitOf, from, countsOf, Held, Live, Upto, Roomy, Keeps, Logged, Good, Matches, Below, Start, Meets, Refines}
-use Rattle.machine.proofs.Keeping.{upto-same, keeps-cells, keeps-text, keeps-roomy, keeps-same, keeps-then, keeps-steps, keeps-agrees, agrees-sub, agrees-then, live-below, live-sub, live-wider, held-frame, scopes-frame}
+use Rattle.machine.specs.Refines.{usedOf, errorOf, limitOf, from, countsOf, Live, Upto, Roomy, Keeps, Logged, Good, Matches, Below, Start, Meets, Refines}
+use Rattle.machine.proofs.Keeping.{upto-same, keeps-cells, keeps-text, keeps-roomy, keeps-same, keeps-then, keeps-steps, keeps-agrees, agrees-sub, agrees-then, live-below, live-sub, live-wider}
 use Rattle.machine.proofs.Traces.{count-join, stands-join, spend-append, paid, from-charge, cells-append, text-append, part-add}
+use Rattle.rooms.proofs.Scopes.{scope-frame}
 
 -- ---- what was built, one after the other
 
@@ -74,7 +75,7 @@ logged-join L lo mid hi q p t u b k a x y =
 
 good-weaken : (L : Alive) (lo mid : Counts) (q p : Rooms) (o : Outcome) (end : Limited.Outcome) (t u : Trace) → Below (Live L lo mid) mid → Upto lo mid → Keeps mid (countsOf end) q p → Logged t L lo mid q → Good (Live L lo mid) mid p o u end → Good L lo p o (t ++ u) end
 good-weaken L lo mid q p o (Limited.value v c) t u b a k x h =
-    (h .0, h .1, held-frame (Live (Live L lo mid) mid c) (Live L lo c) p p (agrees-sub (Live (Live L lo mid) mid c) (Live L lo c) p (live-sub L lo mid c a (k .grows)) (omega arith)) v (h .0) (h .2), logged-join L lo mid c q p t u b k a x (h .3))
+    (h .0, h .1, holds-frame (Live (Live L lo mid) mid c) (Live L lo c) p p (agrees-sub (Live (Live L lo mid) mid c) (Live L lo c) p (live-sub L lo mid c a (k .grows)) (omega arith)) v (h .0) (h .2), logged-join L lo mid c q p t u b k a x (h .3))
 good-weaken L lo mid q p o (Limited.error e c) t u b a k x h = (h .0, logged-join L lo mid c q p t u b k a x (h .1))
 good-weaken L lo mid q p o (Limited.exhausted y c) t u b a k x h = h
 
@@ -108,16 +109,16 @@ module _ (l : Counts) (src : List ℕ) where
         textLimit = keeps-text u c r q k ∙ a .textLimit;
         literals = k .literals ∙ a .literals;
         roomy = keeps-roomy u c r q k;
-        worded = k .worded (a .worded);
-        scope = scopes-frame L (Live L u c) r q (keeps-agrees L u c r q (a .below) k) t s (a .scope);
+        fitting = k .fitting (a .fitting);
+        scope = scope-frame L (Live L u c) r q (keeps-agrees L u c r q (a .below) k) t s (a .scope);
       }
 
   -- ---- at once
 
-  pub value-now : {L : Alive} {u : Counts} {r : Rooms} {s : Scope} {t : Comprehension.Scope} → Start l src L u r s t → (p : ℕ) (m : Value) (v : Meaning.Value) → Held v L r m → Says p L u r (Outcome.Value m (usedOf u), r) (pure v)
+  pub value-now : {L : Alive} {u : Counts} {r : Rooms} {s : Scope} {t : Comprehension.Scope} → Start l src L u r s t → (p : ℕ) (m : Value) (v : Meaning.Value) → Holds v L r m → Says p L u r (Outcome.Value m (usedOf u), r) (pure v)
   unfolding pure placed outcome spend ended
   value-now {L} {u} {r} a p m v h =
-      record { good = (m, refl, held-frame L (Live L u u) r r (agrees-sub L (Live L u u) r (λ space i z. inl z) (a .below .bytes)) v m h, logged-nothing L u r); keeps = keeps-same u u r (upto-same u) (a .roomy) }
+      record { good = (m, refl, holds-frame L (Live L u u) r r (agrees-sub L (Live L u u) r (λ space i z. inl z) (a .below .bytes)) v m h, logged-nothing L u r); keeps = keeps-same u u r (upto-same u) (a .roomy) }
 
   pub raises : {L : Alive} {u : Counts} {r : Rooms} {s : Scope} {t : Comprehension.Scope} → Start l src L u r s t → (p : ℕ) (e : Raised) → Says p L u r (Outcome.Error (errorOf (raisedError e)) (raisedPlace p e) (usedOf u), r) ([], error e)
   unfolding placed outcome spend ended raisedError
@@ -132,7 +133,7 @@ module _ (l : Counts) (src : List ℕ) where
 
   -- what goes on after a value, and after an error
   abbrev pub OnValue : ℕ → Alive → Rooms → Scope → Comprehension.Scope → (Res → Res) → (Result Raised Meaning.Value → Rule Meaning.Value) → Type 1
-  OnValue p L r s t K k = (M : Alive) (c : Counts) (q : Rooms) → Start l src M c q s t → Agrees L M r q → (m : Value) (v : Meaning.Value) → Held v M q m → Says p M c q (K (Outcome.Value m (usedOf c), q)) (k (value v))
+  OnValue p L r s t K k = (M : Alive) (c : Counts) (q : Rooms) → Start l src M c q s t → Agrees L M r q → (m : Value) (v : Meaning.Value) → Holds v M q m → Says p M c q (K (Outcome.Value m (usedOf c), q)) (k (value v))
 
   abbrev pub OnError : ℕ → Alive → Rooms → Scope → Comprehension.Scope → (Res → Res) → (Result Raised Meaning.Value → Rule Meaning.Value) → Type 1
   OnError p L r s t K k = (M : Alive) (c : Counts) (q : Rooms) → Start l src M c q s t → Agrees L M r q → (e : Raised) → Says p M c q (K (Outcome.Error (errorOf (raisedError e)) (raisedPlace p e) (usedOf c), q)) (k (error e))

@@ -44,21 +44,21 @@ use Rattle.rooms.specs.declared.value.Parts.{Parts}
 use Rattle.rooms.specs.declared.value.Parts.the-variants as Parts
 use Rattle.rooms.specs.declared.scope.Scope.{Scope}
 use Rattle.rooms.specs.Value.{plainOf, partsOf, nestingOf, doubleValue}
-use Rattle.rooms.specs.Cells.{wordOf}
+use Rattle.rooms.specs.Cells.{Fits}
 use Rattle.rooms.specs.Rooms.{Rooms}
-use Rattle.rooms.specs.Stands.{Alive, TextAt, StandsScalar, Stands, StandsCells}
-use Rattle.rooms.proofs.EqualMeaning.{stands-nesting}
+use Rattle.rooms.specs.Stands.{Alive, TextAt, StandsScalar, Stands, StandsCells, Holds}
 use Rattle.machine.specs.declared.outcome.Used.{Used}
 use Rattle.machine.specs.declared.outcome.Outcome.{Outcome}
 use Rattle.machine.specs.declared.outcome.Outcome.the-variants as Outcome
 use Rattle.machine.specs.Outcomes.{Res, noOverload}
 use Rattle.machine.specs.Numbers as Machine
 use Rattle.machine.specs.Numbers.{intOut, uintOut, doubleOut, doublesOut, numberArith, negatePlain, textSum, stringSum, bytesSum, bothLists, listSum, partsArith, plainArith, arithmetic}
-use Rattle.machine.specs.Refines.{usedOf, Worded, Held, Start}
-use Rattle.machine.proofs.Words.{bits-worded}
+use Rattle.machine.specs.Refines.{usedOf, Start}
+use Rattle.machine.proofs.Words.{bits-fit}
 use Rattle.machine.proofs.Match.{Says, value-now, error-now}
 use Rattle.machine.proofs.Seen.{scalar-parts}
 use Rattle.machine.proofs.Building.{lists-say, texts-say, string-spelling, bytes-spelling}
+use Rattle.rooms.proofs.Depths.{stands-nesting}
 
 -- ---- numbers are held
 
@@ -66,22 +66,17 @@ pub small : (z : ℤ) → inRange z ≡ true → mag z < 2 ^ 63
 small (pos n) h = ltb-true n (2 ^ 63) h
 small (negsuc n) h = ltb-true n (2 ^ 63) h
 
-word-small : (z : ℤ) → mag z < 2 ^ 63 → wordOf z < 2 ^ 64
-unfolding wordOf
-word-small (pos n) h = omega arith
-word-small (negsuc n) h = omega arith
-
-pub held-int : (L : Alive) (r : Rooms) (z : ℤ) → mag z < 2 ^ 63 → Held (scalar (int z)) L r (Value.Int z)
+pub held-int : (L : Alive) (r : Rooms) (z : ℤ) → mag z < 2 ^ 63 → Holds (scalar (int z)) L r (Value.Int z)
 unfolding Stands StandsScalar nesting
-held-int L r z h = record { stands = refl; worded = (h, word-small z h); nests = omega arith }
+held-int L r z h = record { stands = refl; fits = h; nests = omega arith }
 
-pub held-uint : (L : Alive) (r : Rooms) (n : ℕ) → n < 2 ^ 64 → Held (scalar (uint n)) L r (Value.Uint n)
+pub held-uint : (L : Alive) (r : Rooms) (n : ℕ) → n < 2 ^ 64 → Holds (scalar (uint n)) L r (Value.Uint n)
 unfolding Stands StandsScalar nesting
-held-uint L r n h = record { stands = refl; worded = (h, h); nests = omega arith }
+held-uint L r n h = record { stands = refl; fits = h; nests = omega arith }
 
-pub held-double : (L : Alive) (r : Rooms) (d : ℕ) → d < 2 ^ 64 → Held (scalar (double d)) L r (doubleValue (doubleOf d))
+pub held-double : (L : Alive) (r : Rooms) (d : ℕ) → d < 2 ^ 64 → Holds (scalar (double d)) L r (doubleValue (doubleOf d))
 unfolding Stands StandsScalar nesting
-held-double L r d h = record { stands = (doubleOf d, refl, bits-back d h); worded = bits-worded d h; nests = omega arith }
+held-double L r d h = record { stands = (doubleOf d, refl, bits-back d h); fits = bits-fit d h; nests = omega arith }
 
 -- ---- two operands of one kind
 

@@ -19,7 +19,7 @@ use Rattle.rooms.specs.declared.value.Value.the-variants as Value
 use Rattle.rooms.specs.declared.scope.Scope.{Scope}
 use Rattle.rooms.specs.Value.{doubleValue}
 use Rattle.rooms.specs.Rooms.{Rooms}
-use Rattle.rooms.specs.Stands.{Alive, StandsScalar, Stands, Agrees}
+use Rattle.rooms.specs.Stands.{Alive, StandsScalar, Stands, Agrees, Holds}
 use Rattle.machine.specs.declared.outcome.Used.{Used}
 use Rattle.machine.specs.declared.outcome.Error.{Error}
 use Rattle.machine.specs.declared.outcome.Error.the-variants as Error
@@ -27,7 +27,7 @@ use Rattle.machine.specs.declared.outcome.Outcome.{Outcome}
 use Rattle.machine.specs.declared.outcome.Outcome.the-variants as Outcome
 use Rattle.machine.specs.Outcomes.{Res, Does, withValue}
 use Rattle.machine.specs.Views.{boolIn}
-use Rattle.machine.specs.Refines.{usedOf, errorOf, Held, Matches, Start, Meets, Refines}
+use Rattle.machine.specs.Refines.{usedOf, errorOf, Matches, Start, Meets, Refines}
 use Rattle.machine.proofs.Match.{operand-here, raisedPlace, Says, raises, OnValue, OnError, HandsOut, then}
 
 -- ---- a rule in a rule
@@ -70,7 +70,7 @@ module _ (l : Counts) (src : List ℕ) where
 
   -- goes on with a value, of an operand or a rule
   abbrev pub Goes : ℕ → Alive → Rooms → Scope → Comprehension.Scope → (Value → Used → Rooms → Res) → (Meaning.Value → Rule Meaning.Value) → Type 1
-  Goes p L r s t K k = (M : Alive) (c : Counts) (q : Rooms) → Start l src M c q s t → Agrees L M r q → (m : Value) (v : Meaning.Value) → Held v M q m → Says l src p M c q (K m (usedOf c) q) (k v)
+  Goes p L r s t K k = (M : Alive) (c : Counts) (q : Rooms) → Start l src M c q s t → Agrees L M r q → (m : Value) (v : Meaning.Value) → Holds v M q m → Says l src p M c q (K m (usedOf c) q) (k v)
 
   pub value-of : {L : Alive} {u : Counts} {r : Rooms} {s : Scope} {t : Comprehension.Scope} → Start l src L u r s t → (p : ℕ) (m : Does) (f : Comprehension.Scope → Eval Meaning.Value) → Refines l src m f → (K : Value → Used → Rooms → Res) (k : Meaning.Value → Rule Meaning.Value)
       → Goes p L r s t K k → Says l src p L u r (withValue ((m s (usedOf u) r) .0) ((m s (usedOf u) r) .1) K) (_>>=_ (operand (f t)) k)

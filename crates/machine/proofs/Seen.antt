@@ -18,9 +18,9 @@ use Rattle.rooms.specs.declared.value.Parts.{Parts}
 use Rattle.rooms.specs.declared.value.Parts.the-variants as Parts
 use Rattle.rooms.specs.Value.{plainOf, partsOf, doubleValue}
 use Rattle.rooms.specs.Rooms.{Rooms}
-use Rattle.rooms.specs.Stands.{Alive, StandsScalar, Stands}
+use Rattle.rooms.specs.Stands.{Alive, StandsScalar, Stands, Holds}
 use Rattle.machine.specs.Views.{boolIn, isKey, isString, Optional, notOptional, nonePresent, optionalIn}
-use Rattle.machine.specs.Refines.{Worded, Held}
+use Rattle.rooms.specs.Cells.{Fits}
 
 -- ---- Bools
 
@@ -39,18 +39,14 @@ bool-is Value.OptionalNone b e = cc
 bool-is (Value.OptionalOf d s a) b e = cc
 bool-is Value.Absent b e = cc
 
-small : 1 < 2 ^ 64
-small = omega arith
-
 -- scalars that lie in no room
-pub held-bool : (L : Alive) (r : Rooms) (b : Bool) → Held (scalar (bool b)) L r (Value.Bool b)
+pub held-bool : (L : Alive) (r : Rooms) (b : Bool) → Holds (scalar (bool b)) L r (Value.Bool b)
 unfolding Stands StandsScalar nesting
-held-bool L r true = record { stands = refl; worded = (tt, omega arith); nests = omega arith }
-held-bool L r false = record { stands = refl; worded = (tt, omega arith); nests = omega arith }
+held-bool L r b = record { stands = refl; fits = tt; nests = omega arith }
 
-pub held-none : (L : Alive) (r : Rooms) → Held optionalNone L r Value.OptionalNone
+pub held-none : (L : Alive) (r : Rooms) → Holds optionalNone L r Value.OptionalNone
 unfolding Stands nesting
-held-none L r = record { stands = refl; worded = (tt, omega arith); nests = omega arith }
+held-none L r = record { stands = refl; fits = tt; nests = omega arith }
 
 -- ---- values without parts
 

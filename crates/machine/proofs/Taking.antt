@@ -16,14 +16,15 @@ use Rattle.rooms.specs.declared.value.Value.{Value}
 use Rattle.rooms.specs.declared.value.Value.the-variants as Value
 use Rattle.rooms.specs.declared.value.CellSpace.{CellSpace}
 use Rattle.rooms.specs.declared.value.CellSpace.the-variants as Cells
-use Rattle.rooms.specs.Cells.{cellOf, valueOf, bareOf, cellIn, settled}
+use Rattle.rooms.specs.Cells.{cellOf, valueOf, bareOf, cellIn, settled, Fits}
 use Rattle.rooms.specs.Rooms.{Rooms, cellAt}
 use Rattle.rooms.specs.Stands.{Alive, Stands, StandsCells, Agrees}
 use Rattle.rooms.specs.Building.{cellRoom, zeroed, cellsTaken, copied}
 use Rattle.rooms.proofs.Frame.{frame, frame-cells}
+use Rattle.rooms.proofs.Built.{settled-stands}
 use Rattle.machine.specs.Outcomes.{withWords, written}
-use Rattle.machine.specs.Refines.{Worded, WordedCells, Live, Upto, Roomy, Keeps, Below}
-use Rattle.machine.proofs.Words.{settled-stands, cell-low, cell-high, below-same, store-same, store-keeps}
+use Rattle.machine.specs.Refines.{FitCells, Live, Upto, Roomy, Keeps, Below}
+use Rattle.machine.proofs.Words.{cell-low, cell-high, below-same, store-same, store-keeps}
 use Rattle.machine.proofs.Keeping.{keeps-same, keeps-then, keeps-agrees, roomy-same, live-below, live-sub, live-wider, agrees-sub, agrees-then}
 
 -- ---- words become 0
@@ -91,18 +92,18 @@ module _ (u : Counts) (n : ℕ) (r : Rooms) (f : Roomy (took u n) r) where
   high-words : drop ((u .cells + n) * 2) (taken .cells) ≡ drop ((u .cells + n) * 2) (r .cells)
   high-words = ap (drop ((u .cells + n) * 2)) zeros ∙ zeroed-drop (r .cells) (u .cells * 2) (n * 2) ((u .cells + n) * 2) (omega arith)
 
-  null-worded : Worded Value.Null
-  null-worded = (tt, omega arith)
+  null-fits : Fits Value.Null
+  null-fits = tt
 
-  taken-worded : WordedCells r → WordedCells taken
+  taken-fits : FitCells r → FitCells taken
   unfolding cellAt
-  taken-worded w Cells.Binding i = w Cells.Binding i
-  taken-worded w Cells.Evaluation i = go (ltb i (u .cells)) refl (leb (u .cells + n) i) refl
+  taken-fits w Cells.Binding i = w Cells.Binding i
+  taken-fits w Cells.Evaluation i = go (ltb i (u .cells)) refl (leb (u .cells + n) i) refl
     where
-      go : (a : Bool) → ltb i (u .cells) ≡ a → (b : Bool) → leb (u .cells + n) i ≡ b → Worded (cellAt taken Cells.Evaluation i)
-      go true e b d = subst Worded (sym (cell-low (r .cells) (taken .cells) (u .cells) i (ltb-true i (u .cells) e) taken-length low-words)) (w Cells.Evaluation i)
-      go false e true d = subst Worded (sym (cell-high (r .cells) (taken .cells) (u .cells + n) i (leb-true (u .cells + n) i d) taken-length high-words)) (w Cells.Evaluation i)
-      go false e false d = subst Worded (sym (taken-null i (ltb-false i (u .cells) e) (leb-false (u .cells + n) i d))) null-worded
+      go : (a : Bool) → ltb i (u .cells) ≡ a → (b : Bool) → leb (u .cells + n) i ≡ b → Fits (cellAt taken Cells.Evaluation i)
+      go true e b d = subst Fits (sym (cell-low (r .cells) (taken .cells) (u .cells) i (ltb-true i (u .cells) e) taken-length low-words)) (w Cells.Evaluation i)
+      go false e true d = subst Fits (sym (cell-high (r .cells) (taken .cells) (u .cells + n) i (leb-true (u .cells + n) i d) taken-length high-words)) (w Cells.Evaluation i)
+      go false e false d = subst Fits (sym (taken-null i (ltb-false i (u .cells) e) (leb-false (u .cells + n) i d))) null-fits
 
   pub taken-keeps : Keeps u (took u n) r taken
   taken-keeps =
@@ -118,7 +119,7 @@ module _ (u : Counts) (n : ℕ) (r : Rooms) (f : Roomy (took u n) r) where
         textHigh = refl;
         grows = upto-took u n;
         fits = f;
-        worded = taken-worded;
+        fitting = taken-fits;
       }
 
 -- ---- cells are copied
@@ -145,7 +146,7 @@ suc-cell : (u : Counts) → suc (u .cells) ≡ (took u 1) .cells
 suc-cell u = omega arith
 
 -- one cell, and then the rest as `ih` says
-module _ (n : ℕ) (space : CellSpace) (a : ℕ) (u : Counts) (r : Rooms) (w : WordedCells r) (f : Roomy (took u (suc n)) r) where
+module _ (n : ℕ) (space : CellSpace) (a : ℕ) (u : Counts) (r : Rooms) (w : FitCells r) (f : Roomy (took u (suc n)) r) where
   abbrev one : Counts
   one = took u 1
 
@@ -155,8 +156,8 @@ module _ (n : ℕ) (space : CellSpace) (a : ℕ) (u : Counts) (r : Rooms) (w : W
   first-kept : Keeps u one r stored
   first-kept = store-keeps u one r (u .cells) (cellAt r space a) (omega arith) (omega arith) (upto-took u 1) (record { cells = omega (arith, f .cells); bytes = f .bytes }) (w space a)
 
-  first-worded : WordedCells stored
-  first-worded = first-kept .worded w
+  first-fits : FitCells stored
+  first-fits = first-kept .fitting w
 
   room-left : Roomy (took one n) stored
   room-left = roomy-same (took one n) r stored (first-kept .sized) (first-kept .textSized) (subst (λ c. Roomy c r) (sym (one-more u n)) f)
@@ -196,7 +197,7 @@ module _ (n : ℕ) (space : CellSpace) (a : ℕ) (u : Counts) (r : Rooms) (w : W
     inside = inr (refl, omega arith, omega arith)
 
     first-stands : Stands v M stored (cellAt stored Cells.Evaluation (u .cells))
-    first-stands = subst (λ x. Stands v M stored x) (sym (store-same r (u .cells) (cellAt r space a) (omega (arith, f .cells)) (w space a))) (frame L M r stored agree-one v (settled (cellAt r space a)) (settled-stands v L r (cellAt r space a) h (w space a)))
+    first-stands = subst (λ x. Stands v M stored x) (sym (store-same r (u .cells) (cellAt r space a) (omega (arith, f .cells)) (w space a))) (frame L M r stored agree-one v (settled (cellAt r space a)) (settled-stands L r v (cellAt r space a) (w space a) h))
 
     copy-stands-step : StandsCells vs (Live M one (took one n)) (copiedTo stored space (suc a) (one .cells) n) Cells.Evaluation (one .cells) → StandsCells (cons v vs) (Live L u top) (copiedTo r space a (u .cells) (suc n)) Cells.Evaluation (u .cells)
     unfolding Stands
@@ -207,18 +208,18 @@ module _ (n : ℕ) (space : CellSpace) (a : ℕ) (u : Counts) (r : Rooms) (w : W
         frame-cells (Live M one (took one n)) (Live L u top) others others wide vs Cells.Evaluation (suc (u .cells))
         (subst (λ i. StandsCells vs (Live M one (took one n)) (copiedTo stored space (suc a) i n) Cells.Evaluation i) (sym (suc-cell u)) later))
 
-pub copy-keeps : (n : ℕ) (space : CellSpace) (a : ℕ) (u : Counts) (r : Rooms) → WordedCells r → Roomy (took u n) r → Keeps u (took u n) r (copiedTo r space a (u .cells) n)
+pub copy-keeps : (n : ℕ) (space : CellSpace) (a : ℕ) (u : Counts) (r : Rooms) → FitCells r → Roomy (took u n) r → Keeps u (took u n) r (copiedTo r space a (u .cells) n)
 copy-keeps zero space a u r w f = subst (λ q. Keeps u (took u 0) r q) (sym (copied-none r space a (u .cells))) (keeps-same u (took u 0) r (upto-took u 0) f)
-copy-keeps (suc n) space a u r w f = copy-keeps-step n space a u r w f (copy-keeps n space (suc a) (took u 1) (stored n space a u r w f) (first-worded n space a u r w f) (room-left n space a u r w f))
+copy-keeps (suc n) space a u r w f = copy-keeps-step n space a u r w f (copy-keeps n space (suc a) (took u 1) (stored n space a u r w f) (first-fits n space a u r w f) (room-left n space a u r w f))
 
 -- the copies stand for what they are copies of
-pub copy-stands : (vs : Values) (L : Alive) (space : CellSpace) (a : ℕ) (u : Counts) (r : Rooms) → Below L u → (w : WordedCells r) (f : Roomy (took u (count vs)) r) → StandsCells vs L r space a
+pub copy-stands : (vs : Values) (L : Alive) (space : CellSpace) (a : ℕ) (u : Counts) (r : Rooms) → Below L u → (w : FitCells r) (f : Roomy (took u (count vs)) r) → StandsCells vs L r space a
     → StandsCells vs (Live L u (took u (count vs))) (copiedTo r space a (u .cells) (count vs)) Cells.Evaluation (u .cells)
 unfolding Stands count
 copy-stands nil L space a u r b w f h = tt
 copy-stands (cons v vs) L space a u r b w f h =
     let n : ℕ = count vs in
-    let k : Keeps (took u 1) (took (took u 1) n) (stored n space a u r w f) (copiedTo (stored n space a u r w f) space (suc a) (u .cells + 1) n) = copy-keeps n space (suc a) (took u 1) (stored n space a u r w f) (first-worded n space a u r w f) (room-left n space a u r w f) in
+    let k : Keeps (took u 1) (took (took u 1) n) (stored n space a u r w f) (copiedTo (stored n space a u r w f) space (suc a) (u .cells + 1) n) = copy-keeps n space (suc a) (took u 1) (stored n space a u r w f) (first-fits n space a u r w f) (room-left n space a u r w f) in
     copy-stands-step n space a u r w f v vs refl L b (h .1) k
-    (copy-stands vs (Live L u (took u 1)) space (suc a) (took u 1) (stored n space a u r w f) (below-one n space a u r w f v vs refl L b (h .1) k) (first-worded n space a u r w f) (room-left n space a u r w f)
+    (copy-stands vs (Live L u (took u 1)) space (suc a) (took u 1) (stored n space a u r w f) (below-one n space a u r w f v vs refl L b (h .1) k) (first-fits n space a u r w f) (room-left n space a u r w f)
     (frame-cells L (Live L u (took u 1)) r (stored n space a u r w f) (agree-one n space a u r w f v vs refl L b (h .1) k) vs space (suc a) (h .2)))

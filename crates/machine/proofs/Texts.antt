@@ -16,7 +16,7 @@ use Rattle.rooms.specs.Building.{textRoom, pasted}
 use Rattle.rooms.proofs.Frame.{part-same, text-frame}
 use Rattle.machine.specs.Outcomes.{withText}
 use Rattle.machine.specs.Numbers.{bothTexts}
-use Rattle.machine.specs.Refines.{WordedCells, Live, Upto, Roomy, Keeps, Below}
+use Rattle.machine.specs.Refines.{FitCells, Live, Upto, Roomy, Keeps, Below}
 use Rattle.machine.proofs.Words.{below-same}
 use Rattle.machine.proofs.Keeping.{keeps-then, keeps-agrees, roomy-same, live-below}
 use Rattle.machine.proofs.Traces.{part-add}
@@ -84,9 +84,9 @@ module _ (l b : List ℕ) where
 abbrev pub pastedTo : Rooms → TextSpace → (a to n : ℕ) → Rooms
 pastedTo r space a to n = withText r (pasted (r .literal) (r .bindingText) space (r .text) a to n)
 
-text-worded : (r : Rooms) (t : List ℕ) → WordedCells r → WordedCells (withText r t)
+text-fits : (r : Rooms) (t : List ℕ) → FitCells r → FitCells (withText r t)
 unfolding cellAt
-text-worded r t w space i = w space i
+text-fits r t w space i = w space i
 
 pub paste-keeps : (u : Counts) (r : Rooms) (space : TextSpace) (a n : ℕ) → Roomy (wrote u n) r → Keeps u (wrote u n) r (pastedTo r space a (u .bytes) n)
 paste-keeps u r space a n f =
@@ -102,7 +102,7 @@ paste-keeps u r space a n f =
       textHigh = pasted-drop (r .literal) (r .bindingText) space (r .text) a (u .bytes) n (u .bytes + n) (omega arith);
       grows = record { cells = omega arith; bytes = omega arith };
       fits = f;
-      worded = text-worded r (pasted (r .literal) (r .bindingText) space (r .text) a (u .bytes) n);
+      fitting = text-fits r (pasted (r .literal) (r .bindingText) space (r .text) a (u .bytes) n);
     }
 
 -- a text is as long as it is where it lies

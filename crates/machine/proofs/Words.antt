@@ -6,13 +6,14 @@ use mathlib.Core.Bool.{Bool, true, false, cond, true≢false}
 use mathlib.Core.List.{List, [], _∷_}
 use native.Mathlib.Omega.{arith}
 use lib.Dec.{ltb, leb, eqb}
+use lib.Ieee.{binary64, ofBits}
+use lib.Ieee.Bits.{toBits-lt, ofBits-fits}
 use lib.ListN.{length, getD, set, take, drop, length-set}
 use lib.Seq.{getD-set-same, getD-set-other, getD-take, getD-drop, take-set-le, drop-set-lt, take-take, drop-drop}
 use borrow.Author.Tests.{lt-ltb, le-ltb, ltb-true, eqb-true, eq-eqb, le-leb}
 use Rattle.numbers.specs.declared.double.Double.{Double}
 use Rattle.numbers.specs.declared.double.Double.the-variants as Bits
-use Rattle.numbers.specs.Double.{bitsOf, doubleOf}
-use Rattle.numbers.proofs.DoubleLaws.{bits-back}
+use Rattle.numbers.specs.Double.{bitsOf, doubleOf, isNan}
 use Rattle.meaning.specs.Limits.{Counts, mostCells}
 use Rattle.meaning.specs.Value as Meaning
 use Rattle.meaning.specs.Value.{null, bool, int, uint, double, string, bytes, scalar, list, map, optionalNone, optionalOf}
@@ -23,65 +24,36 @@ use Rattle.rooms.specs.declared.value.CellSpace.the-variants as Cells
 use Rattle.rooms.specs.Value.{doubleValue}
 use Rattle.rooms.specs.Cells.{Fits, payloadOf, settled, headOf, cellOf, valueOf, bareOf, hasCell, cellIn, writtenIn}
 use Rattle.rooms.specs.Rooms.{Rooms, cellAt, wordsOf}
-use Rattle.rooms.specs.Stands.{Alive, StandsScalar, Stands}
 use Rattle.rooms.specs.Building.{cellRoom, zeroed, cellsTaken, copied}
 use Rattle.rooms.proofs.CellLaws.{written-length, written-same, written-other}
 use Rattle.machine.specs.Outcomes.{withWords, written}
-use Rattle.machine.specs.Refines.{Worded, WordedCells, Upto, Roomy, Keeps}
+use Rattle.machine.specs.Refines.{FitCells, Upto, Roomy, Keeps}
 
 -- ---- values in one spelling
 
-payload-double : (x : Double) → payloadOf (doubleValue x) ≡ bitsOf x
-payload-double (Bits.Plain x) = refl
-payload-double (Bits.Nan b) = refl
-
-double-worded : (x : Double) → bitsOf x < 2 ^ 64 → Worded (doubleValue x)
-double-worded (Bits.Plain x) h = (tt, h)
-double-worded (Bits.Nan b) h = (h, h)
-
-pub bits-worded : (b : ℕ) → b < 2 ^ 64 → Worded (doubleValue (doubleOf b))
-bits-worded b h = double-worded (doubleOf b) (subst (λ n. n < 2 ^ 64) (sym (bits-back b h)) h)
-
-pub settled-worded : (m : Value) → Worded m → Worded (settled m)
-settled-worded Value.Null h = h
-settled-worded (Value.Bool b) h = h
-settled-worded (Value.Int z) h = h
-settled-worded (Value.Uint n) h = h
-settled-worded (Value.Double x) h = bits-worded (bitsOf (Bits.Plain x)) (h .1)
-settled-worded (Value.Nan b) h = bits-worded b (h .1)
-settled-worded (Value.String s a n) h = h
-settled-worded (Value.Bytes s a n) h = h
-settled-worded (Value.List d s a n) h = h
-settled-worded (Value.Map d s a n) h = h
-settled-worded Value.OptionalNone h = h
-settled-worded (Value.OptionalOf d s a) h = h
-settled-worded Value.Absent h = h
-
-settled-double : (x : Double) → settled (doubleValue x) ≡ doubleValue (doubleOf (bitsOf x))
-settled-double (Bits.Plain x) = refl
-settled-double (Bits.Nan b) = refl
-
-settled-scalar : (x : Meaning.Scalar) (L : Alive) (r : Rooms) (m : Value) → StandsScalar x L r m → Worded m → StandsScalar x L r (settled m)
-unfolding StandsScalar
-settled-scalar null L r m h w = ap settled h
-settled-scalar (bool b) L r m h w = ap settled h
-settled-scalar (int z) L r m h w = ap settled h
-settled-scalar (uint n) L r m h w = ap settled h
-settled-scalar (double d) L r m h w = (doubleOf d, ap settled (h .1) ∙ settled-double (h .0) ∙ ap (λ b. doubleValue (doubleOf b)) (h .2), bits-back d small)
+pub bits-fit : (b : ℕ) → b < 2 ^ 64 → Fits (doubleValue (doubleOf b))
+unfolding doubleOf
+bits-fit b h = go (isNan b)
   where
-    small : d < 2 ^ 64
-    small = subst (λ n. n < 2 ^ 64) (ap payloadOf (h .1) ∙ payload-double (h .0) ∙ h .2) (w .1)
-settled-scalar (string s) L r m h w = (h .0, h .1, ap settled (h .2), h .3)
-settled-scalar (bytes s) L r m h w = (h .0, h .1, ap settled (h .2), h .3)
+    go : (t : Bool) → Fits (doubleValue (cond t (Bits.Nan b) (Bits.Plain (ofBits binary64 b))))
+    go true = h
+    go false = ofBits-fits binary64 b
 
--- a value stands for the same in the spelling that a cell gives it
-pub settled-stands : (v : Meaning.Value) (L : Alive) (r : Rooms) (m : Value) → Stands v L r m → Worded m → Stands v L r (settled m)
-unfolding Stands
-settled-stands (scalar x) L r m h w = settled-scalar x L r m h w
-settled-stands (list vs) L r m h w = (h .0, h .1, ap settled (h .2), h .3)
-settled-stands (map es) L r m h w = (h .0, h .1, ap settled (h .2), h .3)
-settled-stands optionalNone L r m h w = ap settled h
-settled-stands (optionalOf v) L r m h w = (h .0, h .1, ap settled (h .2), h .3, h .4)
+-- in the spelling that a cell gives it, a value still fits
+pub settled-fits : (m : Value) → Fits m → Fits (settled m)
+settled-fits Value.Null h = h
+settled-fits (Value.Bool b) h = h
+settled-fits (Value.Int z) h = h
+settled-fits (Value.Uint n) h = h
+settled-fits (Value.Double x) h = bits-fit (bitsOf (Bits.Plain x)) (toBits-lt binary64 x h)
+settled-fits (Value.Nan b) h = bits-fit b h
+settled-fits (Value.String s a n) h = h
+settled-fits (Value.Bytes s a n) h = h
+settled-fits (Value.List d s a n) h = h
+settled-fits (Value.Map d s a n) h = h
+settled-fits Value.OptionalNone h = h
+settled-fits (Value.OptionalOf d s a) h = h
+settled-fits Value.Absent h = h
 
 -- ---- lists
 
@@ -133,9 +105,9 @@ module _ (lo hi : Counts) (r q : Rooms) (k : Keeps lo hi r q) where
 
 -- ---- a store
 
-pub store-same : (r : Rooms) (i : ℕ) (v : Value) → i < length (r .cells) / 2 → Worded v → cellAt (written r i v) Cells.Evaluation i ≡ settled v
+pub store-same : (r : Rooms) (i : ℕ) (v : Value) → i < length (r .cells) / 2 → Fits v → cellAt (written r i v) Cells.Evaluation i ≡ settled v
 unfolding cellAt
-store-same r i v h w = written-same (r .cells) i v h (w .0)
+store-same r i v h w = written-same (r .cells) i v h w
 
 pub store-other : (r : Rooms) (i j : ℕ) (v : Value) → j ≢ i → cellAt (written r i v) Cells.Evaluation j ≡ cellAt r Cells.Evaluation j
 unfolding cellAt
@@ -161,18 +133,18 @@ store-drop w i n v h = go (hasCell w i)
     go true = drop-set-lt (n * 2) (set w (i * 2) (headOf v)) (i * 2 + 1) (payloadOf v) (omega arith) ∙ drop-set-lt (n * 2) w (i * 2) (headOf v) (omega arith)
     go false = refl
 
-pub store-worded : (r : Rooms) (i : ℕ) (v : Value) → i < length (r .cells) / 2 → Worded v → WordedCells r → WordedCells (written r i v)
-store-worded r i v h w f Cells.Binding j = subst Worded (sym (store-binding r i j v)) (f Cells.Binding j)
-store-worded r i v h w f Cells.Evaluation j = go (eqb j i) refl
+pub store-fits : (r : Rooms) (i : ℕ) (v : Value) → i < length (r .cells) / 2 → Fits v → FitCells r → FitCells (written r i v)
+store-fits r i v h w f Cells.Binding j = subst Fits (sym (store-binding r i j v)) (f Cells.Binding j)
+store-fits r i v h w f Cells.Evaluation j = go (eqb j i) refl
   where
-    go : (b : Bool) → eqb j i ≡ b → Worded (cellAt (written r i v) Cells.Evaluation j)
-    go true e = subst (λ k. Worded (cellAt (written r i v) Cells.Evaluation k)) (sym (eqb-true j i e)) (subst Worded (sym (store-same r i v h w)) (settled-worded v w))
-    go false e = subst Worded (sym (store-other r i j v (λ z. differ z e))) (f Cells.Evaluation j)
+    go : (b : Bool) → eqb j i ≡ b → Fits (cellAt (written r i v) Cells.Evaluation j)
+    go true e = subst (λ k. Fits (cellAt (written r i v) Cells.Evaluation k)) (sym (eqb-true j i e)) (subst Fits (sym (store-same r i v h w)) (settled-fits v w))
+    go false e = subst Fits (sym (store-other r i j v (λ z. differ z e))) (f Cells.Evaluation j)
       where
         differ : j ≡ i → eqb j i ≡ false → ⊥
         differ z n = true≢false (sym (eq-eqb j i z) ∙ n)
 
-pub store-keeps : (lo hi : Counts) (r : Rooms) (i : ℕ) (v : Value) → lo .cells ≤ i → i < hi .cells → Upto lo hi → Roomy hi r → Worded v → Keeps lo hi r (written r i v)
+pub store-keeps : (lo hi : Counts) (r : Rooms) (i : ℕ) (v : Value) → lo .cells ≤ i → i < hi .cells → Upto lo hi → Roomy hi r → Fits v → Keeps lo hi r (written r i v)
 store-keeps lo hi r i v a b g f w =
     record {
       literals = refl;
@@ -186,5 +158,5 @@ store-keeps lo hi r i v a b g f w =
       textHigh = refl;
       grows = g;
       fits = f;
-      worded = store-worded r i v (omega (arith, f .cells)) w;
+      fitting = store-fits r i v (omega (arith, f .cells)) w;
     }

@@ -1,15 +1,14 @@
 -- That the machine refines the meaning: what a record does on rooms, read out, is what it means, from any counts and under any limits.
 -- In order: outcomes of both; what is held; what a run keeps; what it built; where a record begins; the relation.
-use Prim.Native.Nat.{ℕ, _+_, _*_, _^_, _≤_, _<_}
+use Prim.Native.Nat.{ℕ, _+_, _*_, _≤_, _<_}
 use mathlib.Core.Path.{_≡_}
 use mathlib.Core.Logic.{_⊎_}
 use mathlib.Core.List.{List}
-use mathlib.Core.Option.{Option, none, some}
 use lib.ListN.{length, take, drop}
-use Rattle.meaning.specs.Limits.{Counts, deepestValue, names}
+use Rattle.meaning.specs.Limits.{Counts}
 use Rattle.meaning.specs.Errors as Errors
 use Rattle.meaning.specs.Value as Meaning
-use Rattle.meaning.specs.Value.{nesting, count}
+use Rattle.meaning.specs.Value.{count}
 use Rattle.meaning.specs.Run.{Trace, Eval}
 use Rattle.meaning.specs.Comprehension as Comprehension
 use Rattle.meaning.specs.Limited as Limited
@@ -19,10 +18,10 @@ use Rattle.rooms.specs.declared.value.Value.the-variants as Value
 use Rattle.rooms.specs.declared.value.CellSpace.{CellSpace}
 use Rattle.rooms.specs.declared.value.CellSpace.the-variants as Cells
 use Rattle.rooms.specs.declared.scope.Scope.{Scope}
-use Rattle.rooms.specs.Cells.{Fits, payloadOf}
+use Rattle.rooms.specs.Cells.{Fits}
 use Rattle.rooms.specs.Rooms.{Rooms, cellAt, part}
-use Rattle.rooms.specs.Scope.{slotOf}
-use Rattle.rooms.specs.Stands.{Alive, Stands, StandsCells}
+use Rattle.rooms.specs.Scope.{StandsScope}
+use Rattle.rooms.specs.Stands.{Alive, StandsCells, Holds}
 use Rattle.rooms.specs.Building.{cellRoom, textRoom}
 use Rattle.machine.specs.declared.outcome.Used.{Used}
 use Rattle.machine.specs.declared.outcome.Error.{Error}
@@ -68,27 +67,9 @@ countsOf (Limited.exhausted x c) = c
 
 -- ---- values
 
--- every value of the code: it goes into two words
-abbrev pub Worded : Value → Type 0
-Worded m = Fits m × (payloadOf m < 2 ^ 64)
-
-abbrev pub WordedCells : Rooms → Type 0
-WordedCells r = (space : CellSpace) (i : ℕ) → Worded (cellAt r space i)
-
--- a value of a run
-pub record Held (v : Meaning.Value) (L : Alive) (r : Rooms) (m : Value) : Type 0 where
-  pub stands : Stands v L r m
-  pub worded : Worded m
-  pub nests : nesting v ≤ deepestValue
-
-abbrev pub Slot : Option Meaning.Value → Alive → Rooms → Value → Type 0
-Slot none L r m = m ≡ Value.Absent
-Slot (some v) L r m = Held v L r m
-
--- a scope of the code stands for one of the definition
-pub record Scopes (t : Comprehension.Scope) (L : Alive) (r : Rooms) (s : Scope) : Type 0 where
-  pub sized : length (s .slots) ≡ names
-  pub slots : (n : ℕ) → n < names → Slot (t n) L r (slotOf s n)
+-- every cell holds a value that words can hold
+abbrev pub FitCells : Rooms → Type 0
+FitCells r = (space : CellSpace) (i : ℕ) → Fits (cellAt r space i)
 
 -- ---- what a run keeps
 
@@ -117,7 +98,7 @@ pub record Keeps (lo hi : Counts) (r q : Rooms) : Type 0 where
   pub textHigh : drop (hi .bytes) (q .text) ≡ drop (hi .bytes) (r .text)
   pub grows : Upto lo hi
   pub fits : Roomy hi r
-  pub worded : WordedCells r → WordedCells q
+  pub fitting : FitCells r → FitCells q
 
 -- ---- what a run built
 
@@ -132,7 +113,7 @@ pub record Logged (t : Trace) (L : Alive) (lo hi : Counts) (q : Rooms) : Type 0 
 
 -- an outcome is what the run came to; the rooms hold what it built
 abbrev pub Good : Alive → Counts → Rooms → Outcome → Trace → Limited.Outcome → Type 0
-Good L lo q o t (Limited.value v c) = (m : Value) × (o ≡ Outcome.Value m (usedOf c)) × Held v (Live L lo c) q m × Logged t L lo c q
+Good L lo q o t (Limited.value v c) = (m : Value) × (o ≡ Outcome.Value m (usedOf c)) × Holds v (Live L lo c) q m × Logged t L lo c q
 Good L lo q o t (Limited.error e c) = (o ≡ Outcome.Error (errorOf (e .error)) (e .place) (usedOf c)) × Logged t L lo c q
 Good L lo q o t (Limited.exhausted x c) = o ≡ Outcome.Exhausted (limitOf x) (usedOf c)
 
@@ -153,8 +134,8 @@ module _ (limits : Counts) (literal : List ℕ) where
     pub textLimit : textRoom (r .text) ≡ limits .bytes
     pub literals : r .literal ≡ literal
     pub roomy : Roomy u r
-    pub worded : WordedCells r
-    pub scope : Scopes t L r s
+    pub fitting : FitCells r
+    pub scope : StandsScope t L r s
 
   -- what a record does is what it means
   abbrev pub Meets : Alive → Counts → Rooms → Res → Eval Meaning.Value → Type 0
