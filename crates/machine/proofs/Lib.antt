@@ -22,3 +22,4 @@ pub mod Filling
 pub mod Makings
 pub mod Lists
 pub mod Maps
+pub mod Turns
