@@ -23,3 +23,4 @@ pub mod Makings
 pub mod Lists
 pub mod Maps
 pub mod Turns
+pub mod Runs

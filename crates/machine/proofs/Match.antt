@@ -141,12 +141,17 @@ module _ (l : Counts) (src : List ℕ) where
   abbrev pub HandsOut : (Res → Res) → Type 0
   HandsOut K = (x : Limit) (u : Used) (q : Rooms) → K (Outcome.Exhausted x u, q) ≡ (Outcome.Exhausted x u, q)
 
-  -- whatever a rule came to, something goes on from it; exhaustion goes out
-  pub then : {L : Alive} {u : Counts} {r : Rooms} {s : Scope} {t : Comprehension.Scope} → Start l src L u r s t → (p : ℕ) (ρ : Rule Meaning.Value) (x : Res) → Says p L u r x ρ → (K : Res → Res) (k : Result Raised Meaning.Value → Rule Meaning.Value)
-      → OnValue p L r s t K k → OnError p L r s t K k → HandsOut K → Says p L u r (K x) (after ρ k)
+  -- the same, where it matters what was built
+  abbrev pub OnBuilt : ℕ → Alive → Counts → Rooms → Scope → Comprehension.Scope → Rule Meaning.Value → (Res → Res) → (Result Raised Meaning.Value → Rule Meaning.Value) → Type 1
+  OnBuilt p L u r s t ρ K k =
+      (M : Alive) (c : Counts) (q : Rooms) → Start l src M c q s t → Agrees L M r q → (m : Value) (v : Meaning.Value) → Holds v M q m → ρ .1 ≡ value v → u .cells + count (cellsBuilt (ρ .0)) ≡ c .cells
+      → Says p M c q (K (Outcome.Value m (usedOf c), q)) (k (value v))
+
+  pub then-built : {L : Alive} {u : Counts} {r : Rooms} {s : Scope} {t : Comprehension.Scope} → Start l src L u r s t → (p : ℕ) (ρ : Rule Meaning.Value) (x : Res) → Says p L u r x ρ → (K : Res → Res) (k : Result Raised Meaning.Value → Rule Meaning.Value)
+      → OnBuilt p L u r s t ρ K k → OnError p L r s t K k → HandsOut K → Says p L u r (K x) (after ρ k)
   unfolding after charged outcome placed ended onward raisedError
-  then {L} {u} {r} {s} {t} a p ρ x h K k g e w =
-      subst (λ z. Matches L u r (K x) (outcome (placed p ((k (ρ .1)) .1)) z) (ρ .0 ++ (k (ρ .1)) .0)) (sym (spend-append l (ρ .0) ((k (ρ .1)) .0) u)) (go (ρ .1) (spend l (ρ .0) u) h)
+  then-built {L} {u} {r} {s} {t} a p ρ x h K k g e w =
+      subst (λ z. Matches L u r (K x) (outcome (placed p ((k (ρ .1)) .1)) z) (ρ .0 ++ (k (ρ .1)) .0)) (sym (spend-append l (ρ .0) ((k (ρ .1)) .0) u)) (go (ρ .1) refl (spend l (ρ .0) u) h)
     where
       T : Trace
       T = ρ .0
@@ -154,8 +159,13 @@ module _ (l : Counts) (src : List ℕ) where
       q = x .1
       on : (y : Result Raised Meaning.Value) (c : Counts) (o : Outcome) → x .0 ≡ o → Keeps u c r q → Logged T L u c q → Matches (Live L u c) c q (K (o, q)) (outcome (placed p ((k y) .1)) (spend l ((k y) .0) c)) ((k y) .0) → Matches L u r (K x) (outcome (placed p ((k y) .1)) (spend l ((k y) .0) c)) (T ++ (k y) .0)
       on y c o i z j m = subst (λ o′. Matches L u r (K (o′, q)) (outcome (placed p ((k y) .1)) (spend l ((k y) .0) c)) (T ++ (k y) .0)) (sym i) (weaken L u c r q (K (o, q)) (outcome (placed p ((k y) .1)) (spend l ((k y) .0) c)) T ((k y) .0) (a .below) z j m)
-      go : (y : Result Raised Meaning.Value) (z : Spent) → Matches L u r x (outcome (placed p y) z) T → Matches L u r (K x) (outcome (placed p ((k y) .1)) (onward (λ d. spend l ((k y) .0) d) z)) (T ++ (k y) .0)
-      go (value v) (through c) m = on (value v) c (Outcome.Value (m .good .0) (usedOf c)) (m .good .1) (m .keeps) (m .good .3) (g (Live L u c) c q (move a (m .keeps)) (keeps-agrees L u c r q (a .below) (m .keeps)) (m .good .0) v (m .good .2))
-      go (error (byRule y)) (through c) m = on (error (byRule y)) c (Outcome.Error (errorOf y) p (usedOf c)) (m .good .0) (m .keeps) (m .good .1) (e (Live L u c) c q (move a (m .keeps)) (keeps-agrees L u c r q (a .below) (m .keeps)) (byRule y))
-      go (error (byOperand y)) (through c) m = on (error (byOperand y)) c (Outcome.Error (errorOf (y .error)) (y .place) (usedOf c)) (m .good .0) (m .keeps) (m .good .1) (e (Live L u c) c q (move a (m .keeps)) (keeps-agrees L u c r q (a .below) (m .keeps)) (byOperand y))
-      go y (stopped z c) m = subst (λ x′. Matches L u r x′ (Limited.exhausted z c) (T ++ (k y) .0)) (sym (ap (λ o. K (o, q)) (m .good) ∙ w (limitOf z) (usedOf c) q)) (record { good = refl; keeps = m .keeps })
+      go : (y : Result Raised Meaning.Value) → ρ .1 ≡ y → (z : Spent) → Matches L u r x (outcome (placed p y) z) T → Matches L u r (K x) (outcome (placed p ((k y) .1)) (onward (λ d. spend l ((k y) .0) d) z)) (T ++ (k y) .0)
+      go (value v) i (through c) m = on (value v) c (Outcome.Value (m .good .0) (usedOf c)) (m .good .1) (m .keeps) (m .good .3) (g (Live L u c) c q (move a (m .keeps)) (keeps-agrees L u c r q (a .below) (m .keeps)) (m .good .0) v (m .good .2) i (m .good .3 .counted))
+      go (error (byRule y)) i (through c) m = on (error (byRule y)) c (Outcome.Error (errorOf y) p (usedOf c)) (m .good .0) (m .keeps) (m .good .1) (e (Live L u c) c q (move a (m .keeps)) (keeps-agrees L u c r q (a .below) (m .keeps)) (byRule y))
+      go (error (byOperand y)) i (through c) m = on (error (byOperand y)) c (Outcome.Error (errorOf (y .error)) (y .place) (usedOf c)) (m .good .0) (m .keeps) (m .good .1) (e (Live L u c) c q (move a (m .keeps)) (keeps-agrees L u c r q (a .below) (m .keeps)) (byOperand y))
+      go y i (stopped z c) m = subst (λ x′. Matches L u r x′ (Limited.exhausted z c) (T ++ (k y) .0)) (sym (ap (λ o. K (o, q)) (m .good) ∙ w (limitOf z) (usedOf c) q)) (record { good = refl; keeps = m .keeps })
+
+  -- whatever a rule came to, something goes on from it; exhaustion goes out
+  pub then : {L : Alive} {u : Counts} {r : Rooms} {s : Scope} {t : Comprehension.Scope} → Start l src L u r s t → (p : ℕ) (ρ : Rule Meaning.Value) (x : Res) → Says p L u r x ρ → (K : Res → Res) (k : Result Raised Meaning.Value → Rule Meaning.Value)
+      → OnValue p L r s t K k → OnError p L r s t K k → HandsOut K → Says p L u r (K x) (after ρ k)
+  then a p ρ x h K k g e w = then-built a p ρ x h K k (λ M c q b j m v i y z. g M c q b j m v i) e w
