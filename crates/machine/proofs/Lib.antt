@@ -24,3 +24,5 @@ pub mod Lists
 pub mod Maps
 pub mod Turns
 pub mod Runs
+pub mod Gathering
+pub mod Appending

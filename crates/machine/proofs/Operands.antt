@@ -6,6 +6,7 @@ use mathlib.Core.Option.{Option, none, some, bind}
 use mathlib.Core.Bool.{Bool, true, false, cond}
 use Rattle.numbers.specs.declared.double.Double.{Double}
 use Rattle.numbers.specs.declared.double.Double.the-variants as Bits
+use native.Mathlib.Omega.{arith}
 use Rattle.meaning.specs.Limits.{Counts}
 use Rattle.meaning.specs.Errors.{UnexpectedType, aBool}
 use Rattle.meaning.specs.Value as Meaning
@@ -28,7 +29,7 @@ use Rattle.machine.specs.declared.outcome.Outcome.the-variants as Outcom
 use Rattle.machine.specs.Outcomes.{Res, Does, withValue}
 use Rattle.machine.specs.Views.{boolIn}
 use Rattle.machine.specs.Refines.{usedOf, errorOf, Matches, Start, Meets, Refines}
-use Rattle.machine.proofs.Match.{operand-here, raisedPlace, Says, raises, OnValue, OnError, HandsOut, then}
+use Rattle.machine.proofs.Match.{operand-here, raisedPlace, Says, raises, OnValue, OnError, HandsOut, then, then-built}
 
 -- ---- a rule in a rule
 
@@ -87,16 +88,25 @@ module _ (l : Counts) (src : List ℕ) where
   abbrev pub OnBoolError : ℕ → Alive → Rooms → Scope → Comprehension.Scope → (Res → Res) → (Result Raised Bool → Rule Meaning.Value) → Type 1
   OnBoolError p L r s t K k = (M : Alive) (c : Counts) (q : Rooms) → Start l src M c q s t → Agrees L M r q → (e : Raised) → Says l src p M c q (K (Outcome.Error (errorOf (raisedError e)) (raisedPlace p e) (usedOf c), q)) (k (error e))
 
+  -- the same, where it matters that cells are only taken
+  abbrev pub OnBoolGrown : ℕ → Alive → Counts → Rooms → Scope → Comprehension.Scope → (Res → Res) → (Result Raised Bool → Rule Meaning.Value) → Type 1
+  OnBoolGrown p L u r s t K k = (M : Alive) (c : Counts) (q : Rooms) → Start l src M c q s t → Agrees L M r q → u .cells ≤ c .cells → (m : Value) (b : Bool) → boolIn m ≡ some b → Says l src p M c q (K (Outcome.Value m (usedOf c), q)) (k (value b))
+
+  pub try-bool-grown : {L : Alive} {u : Counts} {r : Rooms} {s : Scope} {t : Comprehension.Scope} → Start l src L u r s t → (p : ℕ) (m : Does) (f : Comprehension.Scope → Eval Meaning.Value) → Refines l src m f → (K : Res → Res) (k : Result Raised Bool → Rule Meaning.Value)
+      → OnBoolGrown p L u r s t K k → OnOther p L r s t K k → OnBoolError p L r s t K k → HandsOut l src K
+      → Says l src p L u r (K (m s (usedOf u) r)) (after (tryBool (f t)) k)
+  unfolding tryBool _>>=_ onValue orFail
+  try-bool-grown {L} {u} {r} {s} {t} a p m f h K k g o e w =
+      subst (λ ρ. Says l src p L u r (K (m s (usedOf u) r)) ρ) (sym (after-assoc (operand (f t)) (onValue (λ v. orFail (UnexpectedType aBool) (boolOf v))) k))
+      (then-built l src a p (operand (f t)) (m s (usedOf u) r) (operand-says p L u r (m s (usedOf u) r) (f t) (h L s t u r a)) K (λ y. after (onValue (λ v. orFail (UnexpectedType aBool) (boolOf v)) y) k)
+      (λ M c q b j n v i x y. go M c q b j (omega arith) n v (boolOf v) (bool-view M q v n (i .stands)))
+      (λ M c q b j n. unfold onValue after charged in e M c q b j n) w)
+    where
+      go : (M : Alive) (c : Counts) (q : Rooms) → Start l src M c q s t → Agrees L M r q → u .cells ≤ c .cells → (n : Value) (v : Meaning.Value) (x : Option Bool) → boolIn n ≡ x → Says l src p M c q (K (Outcome.Value n (usedOf c), q)) (after (orFail (UnexpectedType aBool) x) k)
+      go M c q b j d n v none i = unfold orFail fail after charged in o M c q b j n i
+      go M c q b j d n v (some y) i = unfold orFail pure after charged in g M c q b j d n y i
+
   pub try-bool : {L : Alive} {u : Counts} {r : Rooms} {s : Scope} {t : Comprehension.Scope} → Start l src L u r s t → (p : ℕ) (m : Does) (f : Comprehension.Scope → Eval Meaning.Value) → Refines l src m f → (K : Res → Res) (k : Result Raised Bool → Rule Meaning.Value)
       → OnBool p L r s t K k → OnOther p L r s t K k → OnBoolError p L r s t K k → HandsOut l src K
       → Says l src p L u r (K (m s (usedOf u) r)) (after (tryBool (f t)) k)
-  unfolding tryBool _>>=_ onValue orFail
-  try-bool {L} {u} {r} {s} {t} a p m f h K k g o e w =
-      subst (λ ρ. Says l src p L u r (K (m s (usedOf u) r)) ρ) (sym (after-assoc (operand (f t)) (onValue (λ v. orFail (UnexpectedType aBool) (boolOf v))) k))
-      (of-operand a p m f h K (λ y. after (onValue (λ v. orFail (UnexpectedType aBool) (boolOf v)) y) k)
-      (λ M c q b j n v i. go M c q b j n v (boolOf v) (bool-view M q v n (i .stands)))
-      (λ M c q b j n. unfold onValue after charged in e M c q b j n) w)
-    where
-      go : (M : Alive) (c : Counts) (q : Rooms) → Start l src M c q s t → Agrees L M r q → (n : Value) (v : Meaning.Value) (x : Option Bool) → boolIn n ≡ x → Says l src p M c q (K (Outcome.Value n (usedOf c), q)) (after (orFail (UnexpectedType aBool) x) k)
-      go M c q b j n v none i = unfold orFail fail after charged in o M c q b j n i
-      go M c q b j n v (some y) i = unfold orFail pure after charged in g M c q b j n y i
+  try-bool a p m f h K k g o e w = try-bool-grown a p m f h K k (λ M c q b j d n y i. g M c q b j n y i) o e w
