@@ -26,3 +26,5 @@ pub mod Turns
 pub mod Runs
 pub mod Gathering
 pub mod Appending
+pub mod Comprehending
+pub mod Paths
