@@ -28,3 +28,4 @@ pub mod Gathering
 pub mod Appending
 pub mod Comprehending
 pub mod Paths
+pub mod Refine
