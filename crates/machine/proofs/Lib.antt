@@ -29,3 +29,4 @@ pub mod Appending
 pub mod Comprehending
 pub mod Paths
 pub mod Refine
+pub mod AcceptedTables
