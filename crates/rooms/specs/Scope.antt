@@ -3,6 +3,7 @@ use Prim.Native.Nat.{ℕ}
 use mathlib.Core.Path.{_≡_}
 use mathlib.Core.Option.{Option, none, some}
 use lib.ListN.{length, getD, set, replicate}
+use Rattle.meaning.specs.Limits.{names}
 use Rattle.meaning.specs.Value as Meaning
 use Rattle.meaning.specs.Comprehension as Scopes
 use Rattle.rooms.specs.declared.value.Value.{Value}
@@ -16,7 +17,7 @@ abbrev pub absent : Slot
 absent = record { value = Value.Absent }
 
 abbrev pub emptySlots : Scope
-emptySlots = record { slots = replicate 128 absent }
+emptySlots = record { slots = replicate names absent }
 
 abbrev pub slotOf : Scope → ℕ → Value
 slotOf s n = (getD (s .slots) n absent) .value
@@ -32,5 +33,5 @@ StandsSlot (some v) L r m = Holds v L r m
 
 -- each name has in m what it has in s
 pub record StandsScope (s : Scopes.Scope) (L : Alive) (r : Rooms) (m : Scope) : Type 0 where
-  pub long : length (m .slots) ≡ 128
+  pub long : length (m .slots) ≡ names
   pub each : (n : ℕ) → StandsSlot (s n) L r (slotOf m n)
