@@ -31,3 +31,4 @@ pub mod Paths
 pub mod Refine
 pub mod AcceptedTables
 pub mod AnyCells
+pub mod Answering
