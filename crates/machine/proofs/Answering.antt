@@ -7,7 +7,7 @@ use mathlib.Core.Option.{some}
 use native.Mathlib.Omega.{arith}
 use lib.ListN.{length, getD, set, take, drop, replicate}
 use lib.Seq.{drop-set-lt}
-use Rattle.meaning.specs.Limits.{Counts, mostCells, mostBytes, nothingYet}
+use Rattle.meaning.specs.Limits.{Counts, mostCells, mostBytes, nothingYet, cut}
 use Rattle.meaning.specs.Errors.{ErrorAt, Exhausted}
 use Rattle.meaning.specs.Value as Meaning
 use Rattle.meaning.specs.Value.{nil, cons, count, valueList}
@@ -17,11 +17,15 @@ use Rattle.meaning.specs.Comprehension as Comprehension
 use Rattle.meaning.specs.Limited as Limited
 use Rattle.meaning.specs.Limited.{Cell, zeroCell, holding, limited, cellsBuilt, textBuilt, built, cleared, roomsAfter}
 use Rattle.meaning.specs.Meaning.{run}
+use Rattle.meaning.specs.Heads.{got}
+use Rattle.meaning.specs.Table.{readTable}
+use Rattle.meaning.specs.WellFormed.{AllBytes}
 use Rattle.rooms.specs.declared.value.Value.{Value}
 use Rattle.rooms.specs.declared.value.CellSpace.the-variants as Cells
 use Rattle.rooms.specs.declared.scope.Scope.{Scope}
 use Rattle.rooms.specs.Rooms.{Rooms, cellAt}
 use Rattle.rooms.specs.Stands.{Alive, StandsCells, Stands}
+use Rattle.rooms.specs.Scope.{StandsScope}
 use Rattle.rooms.specs.Building.{zeroed, cellsCleared, bytesCleared}
 use Rattle.rooms.proofs.ReadBack.{reads}
 use Rattle.rooms.proofs.Zeroed.{zeroed-length, cleared-words, cleared-bytes}
@@ -29,11 +33,12 @@ use Rattle.machine.specs.declared.outcome.Outcome.{Outcome}
 use Rattle.machine.specs.declared.outcome.Outcome.the-variants as Outcome
 use Rattle.machine.specs.Outcomes.{Res}
 use Rattle.machine.specs.Machine.{machine}
-use Rattle.machine.specs.Refines.{usedOf, errorOf, limitOf, countsOf, Live, Roomy, Keeps, Logged, Good, Matches, Start}
+use Rattle.machine.specs.Refines.{usedOf, errorOf, limitOf, countsOf, FitCells, Live, Below, Roomy, Keeps, Logged, Good, Matches, Start}
 use Rattle.machine.specs.Accepted.{Accepted}
 use Rattle.machine.specs.Answer.{emptied, left, answered, CellsHave, Answers}
 use Rattle.machine.proofs.Keeping.{keeps-roomy}
 use Rattle.machine.proofs.Refine.{refines}
+use Rattle.machine.proofs.AcceptedTables.{read-accepted}
 
 -- ---- cleared lists
 
@@ -177,3 +182,26 @@ module _ (table src : List ℕ) (l : Counts) where
   answers e w L s t r h =
       let m : Matches L nothingYet r (machine table (l .steps) e s (usedOf nothingYet) r) (limited l (run e t)) ((run e t) .0) = refines table src l e w L s t nothingYet r h in
       answer-of L r ((machine table (l .steps) e s (usedOf nothingYet) r) .1) ((machine table (l .steps) e s (usedOf nothingYet) r) .0) ((run e t) .0) (limited l (run e t)) (m .good) (m .keeps)
+
+-- The same for a table that is accepted, with rooms of any words, under the limits that the rooms' lengths and a step limit give.
+module _ (table : List ℕ) (tableBytes : AllBytes table) (limit : ℕ) (r : Rooms) where
+  abbrev pub lent : Counts
+  lent = record { steps = limit; cells = length (r .cells) / 2; bytes = length (r .text) }
+
+  pub begins : (L : Alive) (s : Scope) (t : Comprehension.Scope) → Below L nothingYet → FitCells r → StandsScope t L r s → Start (cut lent) (r .literal) L nothingYet r s t
+  unfolding cut
+  begins L s t b f h =
+      record {
+        below = b;
+        cellLimit = refl;
+        textLimit = refl;
+        literals = refl;
+        roomy = record { cells = omega arith; bytes = omega arith };
+        fitting = f;
+        scope = h;
+      }
+
+  pub table-answers : (e : Expr) → readTable table (r .literal) ≡ got e → (L : Alive) (s : Scope) (t : Comprehension.Scope)
+      → Below L nothingYet → FitCells r → StandsScope t L r s
+      → Answers r ((answered table ((cut lent) .steps) e s r) .1) ((answered table ((cut lent) .steps) e s r) .0) ((run e t) .0) (limited (cut lent) (run e t))
+  table-answers e g L s t b f h = answers table (r .literal) (cut lent) e (read-accepted table (r .literal) tableBytes e g) L s t r (begins L s t b f h)
