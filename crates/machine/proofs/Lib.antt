@@ -30,3 +30,5 @@ pub mod Comprehending
 pub mod Paths
 pub mod Refine
 pub mod AcceptedTables
+pub mod AnyCells
+pub mod Answering

@@ -12,3 +12,4 @@ pub mod Comprehension
 pub mod Machine
 pub mod Refines
 pub mod Accepted
+pub mod Answer
