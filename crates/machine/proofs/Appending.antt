@@ -58,6 +58,7 @@ module _ (l : Counts) (src : List ℕ) where
     where
       wanted : {M : Alive} {c : Counts} {q : Rooms} → Start l src M c q s t → Says l src p M c q (Outcome.Error (errorOf (UnexpectedType aBool)) p (usedOf c), q) ([], error (byRule (UnexpectedType aBool)))
       wanted b = unfold raisedError in raises l src b p (byRule (UnexpectedType aBool))
+
       chosen : (M : Alive) (c : Counts) (q : Rooms) → Start l src M c q s t → Agrees L M r q → u .cells ≤ c .cells → (x : Bool) → Says l src p M c q (branch p (usedOf c) q (some x) H F) (choose κ ρ x)
       chosen M c q b j d true = unfold choose in holds′ M c q b j d
       chosen M c q b j d false = unfold choose in fails′ M c q b j d

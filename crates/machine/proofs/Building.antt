@@ -59,24 +59,34 @@ module _ (l : Counts) (src : List ℕ) where
     where
       k : ℕ
       k = u .cells
+
       top : Counts
       top = took u 1
+
       z : Rooms
       z = taken u 1 r f
+
       q : Rooms
       q = written z k m
+
       deep : nestingOf m ≡ nesting v
       deep = stands-nesting L r v m (h .stands)
+
       first : Keeps u top r z
       first = taken-keeps u 1 r f
+
       fit : Roomy top z
       fit = roomy-same top r z (first .sized) (first .textSized) f
+
       second : Keeps u top z q
       second = store-keeps u top z k m (omega arith) (omega arith) (upto-took u 1) fit (h .fits)
+
       kept : Keeps u top r q
       kept = keeps-both u top r z q first second
+
       alive : (Live L u top) .cells Cells.Evaluation k
       alive = inr (refl, omega arith, omega arith)
+
       there : Stands v (Live L u top) q (cellAt q Cells.Evaluation k)
       there = subst (λ x. Stands v (Live L u top) q x) (sym (store-same z k m (omega (arith, fit .cells)) (h .fits))) (frame L (Live L u top) r q (keeps-agrees L u top r q (a .below) kept) v (settled m) (settled-stands L r v m (h .fits) (h .stands)))
 
@@ -97,9 +107,11 @@ module _ (l : Counts) (src : List ℕ) where
     where
       top : Counts
       top = took u n
+
       none-more : (vs : Values) → join vs nil ≡ vs
       none-more nil = refl
       none-more (cons v vs) = ap (cons v) (none-more vs)
+
       said : whole (nestingIn ws) (λ j. Value.List j Cells.Evaluation (u .cells) n) (usedOf top) ≡ Outcome.Value (Value.List d Cells.Evaluation (u .cells) n) (usedOf top)
       said = rw (lt-ltb (nestingIn ws) deepestValue (omega (arith, i))) (ap (λ j. Outcome.Value (Value.List j Cells.Evaluation (u .cells) n) (usedOf top)) (add-one (nestingIn ws) ∙ sym i))
 
@@ -212,20 +224,28 @@ module _ (l : Counts) (src : List ℕ) where
     where
       n : ℕ
       n = length v + length w
+
       top : Counts
       top = wrote u n
+
       same : n ≡ length (v ++ w)
       same = sym (length-append v w)
+
       q : Rooms
       q = withText r (bothTexts r (u .bytes) x a (length v) y c (length w))
+
       end : Roomy top r → Matches L u r (Outcome.Value (make (u .bytes) n) (usedOf top), q) (outcome (placed p (value (scalar (kind (v ++ w))))) (spend l [] top)) (text (v ++ w) ∷ [])
       end f =
           let kept : Keeps u top r q = both-keep v w L u r x y a c (st .below) f hv hw in
           let spells : part (q .text) (u .bytes) (length (v ++ w)) ≡ v ++ w = subst (λ i. part (q .text) (u .bytes) i ≡ v ++ w) same (both-spell v w L u r x y a c (st .below) f hv hw) in
           let there : TextAt (v ++ w) (Live L u top) q Text.Evaluation (u .bytes) = record { within = omega (arith, same); spells = spells } in
           record {
-            good = (make (u .bytes) n, refl, record { stands = g .stands (Live L u top) q (v ++ w) (u .bytes) n same there; fits = g .fits (u .bytes) n (omega (arith, f .bytes)) (omega (arith, f .bytes)); nests = omega arith },
-                record { cells = tt; counted = omega arith; bytes = subst (λ z. part (q .text) (u .bytes) (length z) ≡ z) (sym (alone (v ++ w))) spells; bytesCounted = ap (λ z. u .bytes + length z) (alone (v ++ w)) ∙ ap (λ i. u .bytes + i) (sym same) });
+            good = (
+              make (u .bytes) n,
+              refl,
+              record { stands = g .stands (Live L u top) q (v ++ w) (u .bytes) n same there; fits = g .fits (u .bytes) n (omega (arith, f .bytes)) (omega (arith, f .bytes)); nests = omega arith },
+              record { cells = tt; counted = omega arith; bytes = subst (λ z. part (q .text) (u .bytes) (length z) ≡ z) (sym (alone (v ++ w))) spells; bytesCounted = ap (λ z. u .bytes + length z) (alone (v ++ w)) ∙ ap (λ i. u .bytes + i) (sym same) },
+            );
             keeps = kept;
           }
         where

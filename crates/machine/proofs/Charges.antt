@@ -96,6 +96,7 @@ module _ (l : Counts) (src : List ℕ) where
     where
       w : Counts
       w = walked u (suc (u .steps))
+
       go : (b : Bool) → Matches L u r (afterStep b (usedOf u) r (λ z. body s z r)) (paid b step u (λ d. outcome (placed p (ρ .1)) (spend l (ρ .0) d))) (step ∷ ρ .0)
       go true = subst (λ n. Matches L u r (body s (record { steps = n; cells = u .cells; bytes = u .bytes }) r) (outcome (placed p (ρ .1)) (spend l (ρ .0) w)) (step ∷ ρ .0)) (sym (add-one (u .steps))) (relog L u r (body s (usedOf w) r) (outcome (placed p (ρ .1)) (spend l (ρ .0) w)) (ρ .0) (step ∷ ρ .0) (cells-step [] (ρ .0)) (text-step [] (ρ .0)) (relow L w u r (body s (usedOf w) r) (outcome (placed p (ρ .1)) (spend l (ρ .0) w)) (ρ .0) refl refl (g (start-walked a (suc (u .steps))))))
       go false = record { good = refl; keeps = stops a }
@@ -113,8 +114,10 @@ module _ (l : Counts) (src : List ℕ) where
     where
       end : Counts → Limited.Outcome
       end d = outcome (placed p (ρ .1)) (spend l (ρ .0) d)
+
       q : Rooms
       q = withWords r (cellsTaken (r .cells) (u .cells) n)
+
       go : (b : Bool) → leb (u .cells + n) (cellRoom (r .cells)) ≡ b → Matches L u r (onTaken (cond b (Taken.To (u .cells + n)) Taken.Full) (λ top. k (withCells (usedOf u) top) q) (Outcome.Exhausted Limit.Cells (usedOf u), q)) (paid b (cells vs) u end) (cells vs ∷ ρ .0)
       go true h = subst (λ m. Matches L u r (k (usedOf (took u n)) q) (end (took u m)) (cells vs ∷ ρ .0)) e (g (record { cells = leb-true (u .cells + n) (cellRoom (r .cells)) h; bytes = a .roomy .bytes }))
       go false h = record { good = refl; keeps = subst (λ w. Keeps u u r (withWords r w)) (cells-kept (r .cells) (u .cells) n (leb-false (u .cells + n) (cellRoom (r .cells)) h)) (stops a) }
@@ -132,8 +135,10 @@ module _ (l : Counts) (src : List ℕ) where
     where
       end : Counts → Limited.Outcome
       end d = outcome (placed p (ρ .1)) (spend l (ρ .0) d)
+
       does : Bool → Res
       does b = onTaken (cond b (Taken.To (u .bytes + n)) Taken.Full) k (Outcome.Exhausted Limit.Text (usedOf u), r)
+
       go : (b : Bool) → leb (u .bytes + n) (textRoom (r .text)) ≡ b → Matches L u r (does b) (paid b (text bs) u end) (text bs ∷ ρ .0)
       go true h = subst (λ m. Matches L u r (k (u .bytes + n)) (end (wrote u m)) (text bs ∷ ρ .0)) e (g (record { cells = a .roomy .cells; bytes = leb-true (u .bytes + n) (textRoom (r .text)) h }))
       go false h = record { good = refl; keeps = stops a }

@@ -84,6 +84,7 @@ order-rule c v w = go (scalarOf v) (scalarOf w)
     last : (o : Option Order) → _>>=_ (_>>=_ (orFail NoOverload o) ordered) (λ x. truth (holds c x)) ≡ orderRule c o
     last none = refl
     last (some o) = refl
+
     go : (a b : Option Scalar) → _>>=_ (_>>=_ (orFail NoOverload a) (λ x. _>>=_ (orFail NoOverload b) (λ y. _>>=_ (orFail NoOverload (scalarOrder (rank x) (rank y))) ordered))) (λ x. truth (holds c x)) ≡ orderRule c (orderOption a b)
     go none b = refl
     go (some x) none = refl

@@ -114,14 +114,18 @@ module _ (l : Counts) (src : List ℕ) where
       where
         M : Alive
         M = Live L u c
+
         kept : Agrees L M r q
         kept = keeps-agrees L u c r q (a .begun .below) k
+
         widen : (space : CellSpace) (i : ℕ) → (Live B o u) .cells space i → (Live B o c) .cells space i
         widen space i (inl y) = inl y
         widen space i (inr y) = inr (y .0, y .1, omega (arith, y .2, k .grows .cells))
+
         sub′ : (space : CellSpace) (i : ℕ) → M .cells space i → (Live B o c) .cells space i
         sub′ space i (inl y) = widen space i (a .sub space i y)
         sub′ space i (inr y) = inr (y .0, omega (arith, a .taken, y .1), y .2)
+
         hole′ : (i : ℕ) → M .cells Cells.Evaluation i → o .cells + count rc ≤ i → i < o .cells + n → ⊥
         hole′ i (inl y) f g = a .hole i y f g
         hole′ i (inr y) f g = omega (arith, a .taken, y .1)
@@ -164,14 +168,14 @@ module _ (l : Counts) (src : List ℕ) where
       fill-store =
           record {
             begun = record {
-                below = record { cells = below; bytes = a .begun .below .bytes };
-                cellLimit = ap (λ z. min (z / 2) mostCells) (kept .sized) ∙ a .begun .cellLimit;
-                textLimit = a .begun .textLimit;
-                literals = a .begun .literals;
-                roomy = roomy-same u r q (kept .sized) refl (a .begun .roomy);
-                fitting = kept .fitting (a .begun .fitting);
-                scope = scope-frame L N r q stored-agrees t s (a .begun .scope);
-              };
+              below = record { cells = below; bytes = a .begun .below .bytes };
+              cellLimit = ap (λ z. min (z / 2) mostCells) (kept .sized) ∙ a .begun .cellLimit;
+              textLimit = a .begun .textLimit;
+              literals = a .begun .literals;
+              roomy = roomy-same u r q (kept .sized) refl (a .begun .roomy);
+              fitting = kept .fitting (a .begun .fitting);
+              scope = scope-frame L N r q stored-agrees t s (a .begun .scope);
+            };
             sub = sub′;
             hole = hole′;
             filled = stands-join N q rc (cons v nil) Cells.Evaluation (o .cells) (frame-cells L N r q stored-agrees rc Cells.Evaluation (o .cells) (a .filled)) (unfold Stands in (inr (refl, refl), subst (λ x. Stands v N q x) (sym (store-same r next m cell-there w)) (frame L N r q stored-agrees v (settled m) (settled-stands L r v m w h)), tt));
@@ -186,21 +190,28 @@ module _ (l : Counts) (src : List ℕ) where
         where
           q : Rooms
           q = written r next m
+
           N : Alive
           N = Stored L next
+
           kept : Keeps o u r q
           kept = stored-keeps u (upto-same u) (a .begun .roomy)
+
           longer : count (join rc (cons v nil)) ≡ count rc + 1
           longer = count-join rc (cons v nil) ∙ unfold count in refl
+
           below : (i : ℕ) → N .cells Cells.Evaluation i → i < u .cells
           below i (inl y) = a .begun .below .cells i y
           below i (inr e) = omega (arith, a .taken, e .1)
+
           sub′ : (space : CellSpace) (i : ℕ) → N .cells space i → (Live B o u) .cells space i
           sub′ space i (inl y) = a .sub space i y
           sub′ space i (inr e) = inr (e .0, omega (arith, e .1), omega (arith, a .taken, e .1))
+
           hole′ : (i : ℕ) → N .cells Cells.Evaluation i → o .cells + count (join rc (cons v nil)) ≤ i → i < o .cells + n → ⊥
           hole′ i (inl y) f g = a .hole i y (omega (arith, longer)) g
           hole′ i (inr e) f g = omega (arith, longer, e .1)
+
           apart : (i : ℕ) → o .cells + count (join rc (cons v nil)) ≤ i → i ≡ next → ⊥
           apart i f e = omega (arith, longer)
 
@@ -216,10 +227,13 @@ module _ (l : Counts) (src : List ℕ) where
       where
         M : Alive
         M = Live B o u
+
         wide : Agrees L M r r
         wide = agrees-sub L M r (a .sub) (a .begun .below .bytes)
+
         left : (z : ℕ) × (count rc + z ≡ n)
         left = rest-of (count rc) n (a .inside)
+
         own : StandsCells (pad n rc) M r Cells.Evaluation (o .cells)
         own =
             subst (λ vs. StandsCells vs M r Cells.Evaluation (o .cells)) (sym (pad-split rc n (left .0) (left .1)))
@@ -232,14 +246,14 @@ module _ (l : Counts) (src : List ℕ) where
   empty-filling {L} {u} {r} {s} {t} a n f =
       record {
         begun = record {
-            below = record { cells = λ i y. wide i (a .below .cells i y); bytes = a .below .bytes };
-            cellLimit = moved .cellLimit;
-            textLimit = moved .textLimit;
-            literals = moved .literals;
-            roomy = moved .roomy;
-            fitting = moved .fitting;
-            scope = scope-frame L L r q (agrees-narrow L (Live L u (took u n)) r q (keeps-agrees L u (took u n) r q (a .below) k)) t s (a .scope);
-          };
+          below = record { cells = λ i y. wide i (a .below .cells i y); bytes = a .below .bytes };
+          cellLimit = moved .cellLimit;
+          textLimit = moved .textLimit;
+          literals = moved .literals;
+          roomy = moved .roomy;
+          fitting = moved .fitting;
+          scope = scope-frame L L r q (agrees-narrow L (Live L u (took u n)) r q (keeps-agrees L u (took u n) r q (a .below) k)) t s (a .scope);
+        };
         sub = λ space i y. inl y;
         hole = λ i y z z′. clash i (a .below .cells i y) z;
         filled = tt;
@@ -254,11 +268,15 @@ module _ (l : Counts) (src : List ℕ) where
     where
       q : Rooms
       q = Taking.taken u n r f
+
       k : Keeps u (took u n) r q
       k = taken-keeps u n r f
+
       moved : Start l src (Live L u (took u n)) (took u n) q s t
       moved = move l src a k
+
       wide : (i : ℕ) → i < u .cells → i < u .cells + n
       wide i y = omega arith
+
       clash : (i : ℕ) → i < u .cells → u .cells + 0 ≤ i → ⊥
       clash i y z = omega arith

@@ -120,20 +120,27 @@ module _ (l : Counts) (src : List ℕ) where
     where
       top : Counts
       top = took u (g .count)
+
       z : Roomy top r → Rooms
       z f = taken u (g .count) r f
+
       kept-z : (f : Roomy top r) → Keeps u top r (z f)
       kept-z f = taken-keeps u (g .count) r f
+
       same : count (flat (h .lists)) ≡ g .count
       same = ap count (h .joined) ∙ sym (h .total)
+
       done : (f : Roomy top r) → RunsDone (h .lists) L u (z f) (runsTo (z f) (g .firsts) (g .counts) (length (h .lists)) 0 (u .cells))
       done f =
           runs-done (g .firsts) (g .counts) (h .lists) 0 L u (z f) (st .below) (kept-z f .fitting (st .fitting)) (roomy-same (took u (count (flat (h .lists)))) r (z f) (kept-z f .sized) (kept-z f .textSized) (subst (λ n. Roomy (took u n) r) (sym same) f))
           (runs-frame (g .firsts) (g .counts) L L r (z f) (agrees-narrow L (Live L u top) r (z f) (keeps-agrees L u top r (z f) (st .below) (kept-z f))) (h .lists) 0 (h .stands))
+
       copied : (f : Roomy top r) → RunsDone (h .lists) L u (z f) (runsTo (z f) (g .firsts) (g .counts) (g .runs) 0 (u .cells))
       copied f = subst (λ n. RunsDone (h .lists) L u (z f) (runsTo (z f) (g .firsts) (g .counts) n 0 (u .cells))) (sym (h .runs)) (done f)
+
       kept : (f : Roomy top r) → Keeps u top r (runsTo (z f) (g .firsts) (g .counts) (g .runs) 0 (u .cells))
       kept f = keeps-both u top r (z f) (runsTo (z f) (g .firsts) (g .counts) (g .runs) 0 (u .cells)) (kept-z f) (subst (λ n. Keeps u (took u n) (z f) (runsTo (z f) (g .firsts) (g .counts) (g .runs) 0 (u .cells))) same (copied f .kept))
+
       there : (f : Roomy top r) → StandsCells out (Live L u top) (runsTo (z f) (g .firsts) (g .counts) (g .runs) 0 (u .cells)) Cells.Evaluation (u .cells)
       there f =
           subst (λ vs. StandsCells vs (Live L u top) (runsTo (z f) (g .firsts) (g .counts) (g .runs) 0 (u .cells)) Cells.Evaluation (u .cells)) (h .joined)
@@ -210,11 +217,13 @@ module _ (l : Counts) (src : List ℕ) where
       where
         place : g .runs ≡ 0 + length (h .lists)
         place = omega (arith, h .runs)
+
         some-there : 0 < count vs
         some-there = positive (count vs) (eqb-false (count vs) 0 e)
           where
             positive : (n : ℕ) → (n ≡ 0 → ⊥) → 0 < n
             positive n d = omega arith
+
         fewer : g .runs < mostRuns
         fewer = omega (arith, some-there, f .cells)
 

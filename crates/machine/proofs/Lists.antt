@@ -85,10 +85,10 @@ module _ (l : Counts) (src : List ℕ) (p : ℕ) where
           let free : count dn < n = omega arith in
           let q : Rooms = written r (o .cells + count dn) m in
           let next : FillsTo l src p itself list B o n tr u q (F s (o .cells) (count (join dn (cons v nil))) (nestingIn (join dn (cons v nil))) (usedOf u) q) (M t (join dn (cons v nil))) =
-              ih B (Stored L (o .cells + count dn)) o n (join dn (cons v nil)) tr u q s t (fill-store l src st m v (h .stands) (h .fits) free) (omega (arith, longer dn v)) in
+          ih B (Stored L (o .cells + count dn)) o n (join dn (cons v nil)) tr u q s t (fill-store l src st m v (h .stands) (h .fits) free) (omega (arith, longer dn v)) in
           let said : FillsTo l src p itself list B o n tr u q (F s (o .cells) (count dn + 1) (max (nestingIn dn) (nestingOf m)) (usedOf u) q) (M t (join dn (cons v nil))) =
-              subst (λ k. FillsTo l src p itself list B o n tr u q (F s (o .cells) k (max (nestingIn dn) (nestingOf m)) (usedOf u) q) (M t (join dn (cons v nil)))) (longer dn v)
-              (subst (λ k. FillsTo l src p itself list B o n tr u q (F s (o .cells) (count (join dn (cons v nil))) k (usedOf u) q) (M t (join dn (cons v nil)))) (deeper dn v ∙ ap (max (nestingIn dn)) (sym (stands-nesting L r v m (h .stands)))) next) in
+          subst (λ k. FillsTo l src p itself list B o n tr u q (F s (o .cells) k (max (nestingIn dn) (nestingOf m)) (usedOf u) q) (M t (join dn (cons v nil)))) (longer dn v)
+          (subst (λ k. FillsTo l src p itself list B o n tr u q (F s (o .cells) (count (join dn (cons v nil))) k (usedOf u) q) (M t (join dn (cons v nil)))) (deeper dn v ∙ ap (max (nestingIn dn)) (sym (stands-nesting L r v m (h .stands)))) next) in
           let hi : Counts = countsOf (outcome (placed p ((after (M t (join dn (cons v nil))) (closing l src p itself list)) .1)) (spend l ((after (M t (join dn (cons v nil))) (closing l src p itself list)) .0) u)) in
           record {
             good = said .good;
@@ -128,6 +128,7 @@ module _ (l : Counts) (src : List ℕ) (p : ℕ) where
     where
       C : Charge
       C = cells (pad n (readyIn (making .1)))
+
       go : (x : Trace) (y : Result (Values × Raised) Values) → _≡_ {A = Rule Meaning.Value} (_>>=_ (charged (C ∷ []) (after (x, y) (finished list))) (λ a. pure (list a))) (charged (C ∷ []) (after (x, y) (closing l src p itself list)))
       go x (value a) = ap (λ z. (C ∷ z, value (list a))) (append-nil (x ++ (nest (nesting (list a)) ∷ [])))
       go x (error e) = ap (λ z. (C ∷ z, error (e .1))) (append-nil (x ++ []))
@@ -139,6 +140,7 @@ module _ (l : Counts) (src : List ℕ) (p : ℕ) where
     where
       ρ : Rule Meaning.Value
       ρ = after (M t nil) (closing l src p itself list)
+
       begin-ok : (f : Roomy (took u n) r) → Matches L u r (F s (u .cells) 0 0 (usedOf (took u n)) (taken u n r f)) (outcome (placed p (ρ .1)) (spend l (ρ .0) (took u n))) (cells (pad n (readyIn ((M t nil) .1))) ∷ ρ .0)
       begin-ok f =
           let q : Rooms = taken u n r f in

@@ -152,6 +152,7 @@ module _ (l : Counts) (src : List ℕ) where
     where
       K : Res → Res
       K x = withValue (x .0) (x .1) (λ v w q. branch p w q (boolIn v) (λ z d. ifTrue s z d) (λ z d. ifFalse s z d))
+
       chosen : {M : Alive} {c : Counts} {q : Rooms} → Start l src M c q s t → (x : Bool) → Says l src p M c q (branch p (usedOf c) q (some x) (λ z d. ifTrue s z d) (λ z d. ifFalse s z d)) (choose (operand (g t)) (operand (h t)) x)
       chosen {M} {c} {q} b true = unfold choose in operand-says l src p M c q (ifTrue s (usedOf c) q) (g t) (hg M s t c q b)
       chosen {M} {c} {q} b false = unfold choose in operand-says l src p M c q (ifFalse s (usedOf c) q) (h t) (hh M s t c q b)

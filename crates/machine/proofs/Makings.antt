@@ -73,6 +73,7 @@ module _ (l : Counts) (src : List ℕ) (p : ℕ) {A : Type 0} (shape : A → Val
         nest-cells (cells vs ∷ z) = ap (Meaning.join vs) (nest-cells z)
         nest-cells (Charge.text x ∷ z) = nest-cells z
         nest-cells (nest k ∷ z) = nest-cells z
+
         nest-text : (z : Trace) → textBuilt (z ++ []) ≡ textBuilt (z ++ (nest (nesting (container a)) ∷ []))
         nest-text [] = refl
         nest-text (step ∷ z) = nest-text z
@@ -96,16 +97,22 @@ module _ (l : Counts) (src : List ℕ) (p : ℕ) {A : Type 0} (shape : A → Val
       where
         x : Res
         x = m s (usedOf u) r
+
         q : Rooms
         q = x .1
+
         T : Trace
         T = f t .0
+
         y₀ : Result Raised Meaning.Value
         y₀ = fromOperand (f t .1)
+
         end : Result Raised Meaning.Value → Counts → Limited.Outcome
         end y c = outcome (placed p ((after (k y) closing) .1)) (spend l ((after (k y) closing) .0) c)
+
         built : Result Raised Meaning.Value → Trace
         built y = cells (pad n (shape (readyIn ((k y) .1)))) ∷ (tr ++ (T ++ (after (k y) closing) .0))
+
         on : (y : Result Raised Meaning.Value) (c : Counts) (z : Outcome) → x .0 ≡ z → Keeps u c r q → FillsTo B o n (tr ++ T) c q (K (z, q)) (k y) → Matches B o r (K x) (end y c) (built y)
         on y c z i kept m′ =
             subst (λ z′. Matches B o r (K (z′, q)) (end y c) (built y)) (sym i)
@@ -113,6 +120,7 @@ module _ (l : Counts) (src : List ℕ) (p : ℕ) {A : Type 0} (shape : A → Val
               good = subst (λ b. Matches B o q (K (z, q)) (end y c) (cells (pad n (shape (readyIn ((k y) .1)))) ∷ b)) (append-assoc tr T ((after (k y) closing) .0)) m′ .good;
               keeps = keeps-from l o u c (countsOf (end y c)) r q ((K (z, q)) .1) (since l src st) (from-grows l ((after (k y) closing) .0, placed p ((after (k y) closing) .1)) c) kept (m′ .keeps);
             })
+
         go : (y : Result ErrorAt Meaning.Value) (z : Spent) → Matches L u r x (outcome y z) T → Matches B o r (K x) (outcome (placed p ((after (k (fromOperand y)) closing) .1)) (onward (λ d. spend l ((after (k (fromOperand y)) closing) .0) d) z)) (built (fromOperand y))
         go (value v) (through c) i = on (value v) c (Outcome.Value (i .good .0) (usedOf c)) (i .good .1) (i .keeps) (g (Live L u c) c q T (fill-run l src st c q T (i .keeps) (i .good .3)) (keeps-agrees L u c r q (st .begun .below) (i .keeps)) (i .good .0) v (i .good .2))
         go (error z) (through c) i = on (error (byOperand z)) c (Outcome.Error (errorOf (z .error)) (z .place) (usedOf c)) (i .good .0) (i .keeps) (e (Live L u c) c q T (fill-run l src st c q T (i .keeps) (i .good .1)) (byOperand z))

@@ -346,6 +346,7 @@ module _ (l : Counts) (src : List ℕ) (p : ℕ) where
     where
       C : Charge
       C = cells (pad (cellsAnEntry * n) (entryCells (readyIn (m .1))))
+
       go : (x : Trace) (y : Result (Entries × Raised) Entries) → _≡_ {A = Rule Meaning.Value} (_>>=_ (charged (C ∷ []) (after (x, y) (finished map))) (λ a. pure (map a))) (charged (C ∷ []) (after (x, y) (closing l src p entryCells map)))
       go x (value a) = ap (λ z. (C ∷ z, value (map a))) (append-nil (x ++ (nest (nesting (map a)) ∷ [])))
       go x (error e) = ap (λ z. (C ∷ z, error (e .1))) (append-nil (x ++ []))
@@ -357,8 +358,10 @@ module _ (l : Counts) (src : List ℕ) (p : ℕ) where
     where
       c : ℕ
       c = cellsAnEntry * n
+
       ρ : Rule Meaning.Value
       ρ = after (M t empty) (closing l src p entryCells map)
+
       begin-ok : (f : Roomy (took u c) r) → Matches L u r (F s (u .cells) 0 0 (usedOf (took u c)) (taken u c r f)) (outcome (placed p (ρ .1)) (spend l (ρ .0) (took u c))) (cells (pad c (entryCells (readyIn ((M t empty) .1)))) ∷ ρ .0)
       begin-ok f =
           let q : Rooms = taken u c r f in

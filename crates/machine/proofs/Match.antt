@@ -155,10 +155,13 @@ module _ (l : Counts) (src : List ℕ) where
     where
       T : Trace
       T = ρ .0
+
       q : Rooms
       q = x .1
+
       on : (y : Result Raised Meaning.Value) (c : Counts) (o : Outcome) → x .0 ≡ o → Keeps u c r q → Logged T L u c q → Matches (Live L u c) c q (K (o, q)) (outcome (placed p ((k y) .1)) (spend l ((k y) .0) c)) ((k y) .0) → Matches L u r (K x) (outcome (placed p ((k y) .1)) (spend l ((k y) .0) c)) (T ++ (k y) .0)
       on y c o i z j m = subst (λ o′. Matches L u r (K (o′, q)) (outcome (placed p ((k y) .1)) (spend l ((k y) .0) c)) (T ++ (k y) .0)) (sym i) (weaken L u c r q (K (o, q)) (outcome (placed p ((k y) .1)) (spend l ((k y) .0) c)) T ((k y) .0) (a .below) z j m)
+
       go : (y : Result Raised Meaning.Value) → ρ .1 ≡ y → (z : Spent) → Matches L u r x (outcome (placed p y) z) T → Matches L u r (K x) (outcome (placed p ((k y) .1)) (onward (λ d. spend l ((k y) .0) d) z)) (T ++ (k y) .0)
       go (value v) i (through c) m = on (value v) c (Outcome.Value (m .good .0) (usedOf c)) (m .good .1) (m .keeps) (m .good .3) (g (Live L u c) c q (move a (m .keeps)) (keeps-agrees L u c r q (a .below) (m .keeps)) (m .good .0) v (m .good .2) i (m .good .3 .counted))
       go (error (byRule y)) i (through c) m = on (error (byRule y)) c (Outcome.Error (errorOf y) p (usedOf c)) (m .good .0) (m .keeps) (m .good .1) (e (Live L u c) c q (move a (m .keeps)) (keeps-agrees L u c r q (a .below) (m .keeps)) (byRule y))

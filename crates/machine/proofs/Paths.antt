@@ -67,6 +67,7 @@ as-value p ρ k = go (ρ .1)
   where
     T : Trace
     T = ρ .0
+
     go : (y : Result Raised Values) → _≡_ {A = Rule Meaning.Value}
         (step ∷ (T ++ (onValue k (fromOperand (placed p y))) .0), (onValue k (fromOperand (placed p y))) .1)
         (step ∷ ((T ++ (onValue (λ a. pure (list a)) y) .0) ++ (onValue (λ v. k (elementsIn v)) (fromOperand (placed p ((onValue (λ a. pure (list a)) y) .1)))) .0), (onValue (λ v. k (elementsIn v)) (fromOperand (placed p ((onValue (λ a. pure (list a)) y) .1)))) .1)
@@ -81,8 +82,10 @@ is-list p n m f v e = go (m .1) refl e
   where
     T : Trace
     T = m .0
+
     built : (z : Trace) → n ≤ count (cellsBuilt (step ∷ (cells (pad n (readyIn (m .1))) ∷ z)))
     built z = unfold cellsBuilt in omega (arith, count-join (pad n (readyIn (m .1))) (cellsBuilt z), pad-count n (readyIn (m .1)))
+
     go : (y : Result (Values × Raised) Values) → m .1 ≡ y → placed p ((onValue (λ a. pure (list a)) ((finished list y) .1)) .1) ≡ value v → (vs : Values) × (v ≡ list vs) × (count vs ≤ count (cellsBuilt (step ∷ ((cells (pad n (readyIn (m .1))) ∷ (T ++ (finished list (m .1)) .0)) ++ (onValue (λ a. pure (list a)) ((finished list (m .1)) .1)) .0))))
     go (value a) i j = (a, unfold finished charged pure onValue placed in same j, omega (arith, f a i, built ((T ++ (finished list (m .1)) .0) ++ (onValue (λ b. pure (list b)) ((finished list (m .1)) .1)) .0)))
       where
@@ -175,6 +178,7 @@ module _ (l : Counts) (src : List ℕ) where
             same true = refl
             same false = refl
         again b (some g) e = unfold ofName guardedBy in ap (λ z. cond z (some (record { guard = some f; items = g })) none) e
+
         go : (b : Bool) → eqb n a ≡ b → PathOk l src (cond (eqb n a) (appending (some guard) does) none) (ofName a (Option·map (guardedBy f n) (ofName n sum)))
         go true e = subst (λ z. PathOk l src z (ofName a (Option·map (guardedBy f n) (ofName n sum)))) (ap (λ b. cond b (appending (some guard) does) none) (sym e)) (subst (λ z. PathOk l src (appending (some guard) does) z) (sym (again true (ofName n sum) e)) (guarded-sum does (ofName n sum) n (subst (λ z. ListedOk does (ofName z sum)) (sym (eqb-true n a e)) k)))
         go false e = subst (λ z. PathOk l src z (ofName a (Option·map (guardedBy f n) (ofName n sum)))) (ap (λ b. cond b (appending (some guard) does) none) (sym e)) (subst (λ z. PathOk l src none z) (sym (again false (ofName n sum) e)) tt)

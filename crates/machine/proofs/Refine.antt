@@ -146,6 +146,7 @@ module _ (table src : List ℕ) (l : Counts) where
       added none f = unfold Look.aSum in tt
       added (some n) none = unfold Look.aSum in tt
       added (some n) (some f) = unfold Look.aSum in tt
+
       summed : (o : Arith) (n : Option ℕ) (f : Option (Comprehension.Scope → Eval Values)) → ListedOk l src none ((Look.arithLook o x y) .lists)
       summed add n f = unfold Look.arithLook in added (x .isName) (y .lists)
       summed sub n f = unfold Look.arithLook in tt

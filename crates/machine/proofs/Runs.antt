@@ -40,20 +40,23 @@ runs-frame firsts counts L M r q g (vs ∷ css) i h = (h .0, frame-cells L M r q
 
 -- one run more, behind the others
 pub runs-snoc : (firsts counts : List ℕ) (L : Alive) (r : Rooms) (first : ℕ) (vs : Values) (css : List Values) (i : ℕ) → i + length css < length firsts → i + length css < length counts → RunsAt firsts counts css i L r → StandsCells vs L r Cells.Evaluation first → RunsAt (set firsts (i + length css) first) (set counts (i + length css) (count vs)) (css ++ (vs ∷ [])) i L r
-runs-snoc firsts counts L r first vs [] i f c h k =
-    (subst (λ j. getD (set counts (i + 0) (count vs)) j 0 ≡ count vs) (plus-zero i) (getD-set-same counts (i + 0) (count vs) 0 c),
-    subst (λ j. StandsCells vs L r Cells.Evaluation j) (sym (subst (λ j. getD (set firsts (i + 0) first) j 0 ≡ first) (plus-zero i) (getD-set-same firsts (i + 0) first 0 f))) k,
-    tt)
+runs-snoc firsts counts L r first vs [] i f c h k = (
+  subst (λ j. getD (set counts (i + 0) (count vs)) j 0 ≡ count vs) (plus-zero i) (getD-set-same counts (i + 0) (count vs) 0 c),
+  subst (λ j. StandsCells vs L r Cells.Evaluation j) (sym (subst (λ j. getD (set firsts (i + 0) first) j 0 ≡ first) (plus-zero i) (getD-set-same firsts (i + 0) first 0 f))) k,
+  tt,
+)
   where
     plus-zero : (a : ℕ) → a + 0 ≡ a
     plus-zero a = omega arith
-runs-snoc firsts counts L r first vs (ws ∷ css) i f c h k =
-    (getD-set-other counts (i + suc (length css)) i (count vs) 0 (apart i (length css)) ∙ h .0,
-    subst (λ j. StandsCells ws L r Cells.Evaluation j) (sym (getD-set-other firsts (i + suc (length css)) i first 0 (apart i (length css)))) (h .1),
-    subst (λ j. RunsAt (set firsts j first) (set counts j (count vs)) (css ++ (vs ∷ [])) (suc i) L r) (shift i (length css)) (runs-snoc firsts counts L r first vs css (suc i) (omega arith) (omega arith) (h .2) k))
+runs-snoc firsts counts L r first vs (ws ∷ css) i f c h k = (
+  getD-set-other counts (i + suc (length css)) i (count vs) 0 (apart i (length css)) ∙ h .0,
+  subst (λ j. StandsCells ws L r Cells.Evaluation j) (sym (getD-set-other firsts (i + suc (length css)) i first 0 (apart i (length css)))) (h .1),
+  subst (λ j. RunsAt (set firsts j first) (set counts j (count vs)) (css ++ (vs ∷ [])) (suc i) L r) (shift i (length css)) (runs-snoc firsts counts L r first vs css (suc i) (omega arith) (omega arith) (h .2) k),
+)
   where
     apart : (i n : ℕ) → i ≡ i + suc n → ⊥
     apart i n e = omega arith
+
     shift : (a b : ℕ) → suc a + b ≡ a + suc b
     shift a b = omega arith
 

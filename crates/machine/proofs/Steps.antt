@@ -75,6 +75,7 @@ module _ (l : Counts) {X : Type 0} (out : ℕ → X) (G : X → Res) (L : Alive)
     where
       rest : X
       rest = payIn out (l .steps) (suc k) n f
+
       go : (b : Bool) → Matches L lo r (G (cond b rest (out k))) (Traces.paid b step (walked u k) (λ d. outcome (placed p (ρ .1)) (spend l (replicate n step ++ ρ .0) d))) (before ++ (step ∷ (replicate n step ++ ρ .0)))
       go true = relog L lo r (G rest) (outcome (placed p (ρ .1)) (spend l (replicate n step ++ ρ .0) (walked u (suc k)))) (before ++ (replicate n step ++ ρ .0)) (before ++ (step ∷ (replicate n step ++ ρ .0))) (cells-step before (replicate n step ++ ρ .0)) (text-step before (replicate n step ++ ρ .0)) h
       go false = subst (λ x. Matches L lo r x (Limited.exhausted (Limited.limitOf step) (walked u k)) (before ++ (step ∷ (replicate n step ++ ρ .0)))) (sym (ends k)) (record { good = refl; keeps = kept k })
@@ -106,6 +107,7 @@ module _ (l : Counts) (src : List ℕ) where
     where
       c : Counts
       c = walked u (u .steps + n .0)
+
       end : (b : Bool) → Start l src L c r s t → Says l src p L c r (onPairs (decided b (u .steps + n .0)) (usedOf u) f, r) (k b)
       end true z = g c z true
       end false z = g c z false
@@ -124,6 +126,7 @@ module _ (l : Counts) (src : List ℕ) where
     where
       j : ℕ
       j = u .steps + n .0
+
       end : (o : Option Meaning.Value) → n .1 ≡ o → FoundIs L r space o (h .0) → Start l src L (walked u j) r s t → Says l src p L (walked u j) r (G (h .0 j)) (k o)
       end none e i z = subst (λ (f : ℕ → Found). Says l src p L (walked u j) r (G (f j)) (k none)) (sym i) (missing j z)
       end (some v) e i z = subst (λ (f : ℕ → Found). Says l src p L (walked u j) r (G (f j)) (k (some v))) (sym (i .1)) (at j z v e (i .0) (i .2) (i .3))

@@ -202,11 +202,12 @@ module _ (n : ℕ) (space : CellSpace) (a : ℕ) (u : Counts) (r : Rooms) (w : F
     copy-stands-step : StandsCells vs (Live M one (took one n)) (copiedTo stored space (suc a) (one .cells) n) Cells.Evaluation (one .cells) → StandsCells (cons v vs) (Live L u top) (copiedTo r space a (u .cells) (suc n)) Cells.Evaluation (u .cells)
     unfolding Stands
     copy-stands-step later =
-        subst (λ p. StandsCells (cons v vs) (Live L u top) p Cells.Evaluation (u .cells)) (sym (copied-on r space a (u .cells) n))
-        (inr (refl, omega arith, omega arith),
-        subst (λ x. Stands v (Live L u top) others x) (sym (on .same Cells.Evaluation (u .cells) inside)) (frame M (Live L u top) stored others on v (cellAt stored Cells.Evaluation (u .cells)) first-stands),
-        frame-cells (Live M one (took one n)) (Live L u top) others others wide vs Cells.Evaluation (suc (u .cells))
-        (subst (λ i. StandsCells vs (Live M one (took one n)) (copiedTo stored space (suc a) i n) Cells.Evaluation i) (sym (suc-cell u)) later))
+        subst (λ p. StandsCells (cons v vs) (Live L u top) p Cells.Evaluation (u .cells)) (sym (copied-on r space a (u .cells) n)) (
+          inr (refl, omega arith, omega arith),
+          subst (λ x. Stands v (Live L u top) others x) (sym (on .same Cells.Evaluation (u .cells) inside)) (frame M (Live L u top) stored others on v (cellAt stored Cells.Evaluation (u .cells)) first-stands),
+          frame-cells (Live M one (took one n)) (Live L u top) others others wide vs Cells.Evaluation (suc (u .cells))
+              (subst (λ i. StandsCells vs (Live M one (took one n)) (copiedTo stored space (suc a) i n) Cells.Evaluation i) (sym (suc-cell u)) later),
+        )
 
 pub copy-keeps : (n : ℕ) (space : CellSpace) (a : ℕ) (u : Counts) (r : Rooms) → FitCells r → Roomy (took u n) r → Keeps u (took u n) r (copiedTo r space a (u .cells) n)
 copy-keeps zero space a u r w f = subst (λ q. Keeps u (took u 0) r q) (sym (copied-none r space a (u .cells))) (keeps-same u (took u 0) r (upto-took u 0) f)

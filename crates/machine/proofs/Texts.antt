@@ -65,14 +65,19 @@ module _ (l b : List ℕ) where
     where
       x₀ : ℕ
       x₀ = getD (textOf l b t space) a 0
+
       u : List ℕ
       u = set t to x₀
+
       r : List ℕ
       r = pasted l b space u (suc a) (suc to) n
+
       long : length r ≡ length t
       long = pasted-length space u (suc a) (suc to) n ∙ length-set t to x₀
+
       first : getD r to 0 ≡ x₀
       first = below-same (suc to) u r to (omega arith) (pasted-take space u (suc a) (suc to) n (suc to) (omega arith)) ∙ getD-set-same t to x₀ 0 (omega arith)
+
       longer : (s : TextSpace) → a + suc n ≤ length (textOf l b t s) → suc a + n ≤ length (textOf l b u s)
       longer Text.Literal k = omega arith
       longer Text.Binding k = omega arith

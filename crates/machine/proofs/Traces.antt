@@ -111,6 +111,7 @@ from-grows l e c = go (e .1) (spend l (e .0) c) (spend-grows l (e .0) c)
     ends : (r : Result ErrorAt Meaning.Value) (d : Counts) → countsOf (ended r d) ≡ d
     ends (Result.value v) d = refl
     ends (Result.error x) d = refl
+
     go : (r : Result ErrorAt Meaning.Value) (y : Spent) → Upto c (spentCounts y) → Upto c (countsOf (outcome r y))
     go r (through d) h = subst (λ z. Upto c z) (sym (ends r d)) h
     go r (stopped x d) h = h

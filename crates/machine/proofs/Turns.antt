@@ -177,6 +177,7 @@ module _ (l : Counts) (src : List ℕ) where
           where
             wanted : {M : Alive} {c : Counts} {q : Rooms} → Start l src M c q s t → Says l src p M c q (Outcome.Error (errorOf (UnexpectedType aBool)) p (usedOf c), q) ([], error (byRule (UnexpectedType aBool)))
             wanted b = unfold raisedError in raises l src b p (byRule (UnexpectedType aBool))
+
             chosen : LoopOk xs (λ e′ at′. turns looping space stride (length xs) at′ e′) (λ t′ e′. loop meant xs t′ e′) → (M : Alive) (c : Counts) (q : Rooms) → Start l src M c q s t → ItemsAt (x ∷ xs) M q space stride at → (m : Value) (y : Bool) → boolIn m ≡ some y → Says l src p M c q (branch p (usedOf c) q (boolIn m) (λ w d. Machine.turn looping (cellAt d space at) (pendingOf e) (λ o′ t′ z d′. turns looping space stride (length xs) (at + stride) o′ t′ z d′) s w d) (λ w d. Machine.finish looping (pendingOf e) s w d)) (choose (after (fn (store t i x)) (afterStep a fold (λ t′ e′. loop meant xs t′ e′) (store t i x) e)) (finish fr t e) y)
             chosen ih M c q b g m true k = subst (λ o. Says l src p M c q (branch p (usedOf c) q o (λ w d. Machine.turn looping (cellAt d space at) (pendingOf e) (λ o′ t′ z d′. turns looping space stride (length xs) (at + stride) o′ t′ z d′) s w d) (λ w d. Machine.finish looping (pendingOf e) s w d)) (choose (after (fn (store t i x)) (afterStep a fold (λ t′ e′. loop meant xs t′ e′) (store t i x) e)) (finish fr t e) true)) (sym k) (unfold choose in turn-ok xs (λ o at′ t′ z d. turns looping space stride (length xs) at′ o t′ z d) (λ t′ e′. loop meant xs t′ e′) ih b e at x g)
             chosen ih M c q b g m false k = subst (λ o. Says l src p M c q (branch p (usedOf c) q o (λ w d. Machine.turn looping (cellAt d space at) (pendingOf e) (λ o′ t′ z d′. turns looping space stride (length xs) (at + stride) o′ t′ z d′) s w d) (λ w d. Machine.finish looping (pendingOf e) s w d)) (choose (after (fn (store t i x)) (afterStep a fold (λ t′ e′. loop meant xs t′ e′) (store t i x) e)) (finish fr t e) false)) (sym k) (unfold choose in finish-says b e)

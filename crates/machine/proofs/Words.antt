@@ -65,6 +65,7 @@ drop-higher s t l k h e = subst (λ x. drop x k ≡ drop x l) (back s t h) (sym 
   where
     rest : ℕ → ℕ → ℕ
     rest s t = t - s
+
     back : (s t : ℕ) → s ≤ t → s + (t - s) ≡ t
     back s t h = omega arith
 

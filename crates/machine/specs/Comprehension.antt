@@ -162,8 +162,10 @@ runsCopied binding firsts counts (suc n) i to w =
 abbrev pub gathered : Gathered → Used → Rooms → Res
 gathered g u r =
     taking (g .count) u r
-    (λ w q. (Outcome.Value (Value.List (g .nesting) Cells.Evaluation (u .cells) (g .count)) w,
-    withWords q (runsCopied (q .bindingCells) (g .firsts) (g .counts) (g .runs) 0 (u .cells) (q .cells))))
+    (λ w q. (
+      Outcome.Value (Value.List (g .nesting) Cells.Evaluation (u .cells) (g .count)) w,
+      withWords q (runsCopied (q .bindingCells) (g .firsts) (g .counts) (g .runs) 0 (u .cells) (q .cells)),
+    ))
 
 abbrev pub guarded : ℕ → Option Does → Scope → Used → Rooms → (Used → Rooms → Res) → (Used → Rooms → Res) → Res
 guarded p none s u r holds fails = holds u r

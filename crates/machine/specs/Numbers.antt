@@ -123,8 +123,10 @@ bytesSum p s a n Plain.Other u r = (noOverload p u, r)
 abbrev pub bothLists : (deep : ℕ) → CellSpace → (a n : ℕ) → CellSpace → (b m : ℕ) → Used → Rooms → Res
 bothLists d s a n t b m u r =
     taking (n + m) u r
-    (λ w q. (Outcome.Value (Value.List d Cells.Evaluation (u .cells) (n + m)) w,
-    withWords q (copied (q .bindingCells) t (copied (q .bindingCells) s (q .cells) a (u .cells) n) b (u .cells + n) m)))
+    (λ w q. (
+      Outcome.Value (Value.List d Cells.Evaluation (u .cells) (n + m)) w,
+      withWords q (copied (q .bindingCells) t (copied (q .bindingCells) s (q .cells) a (u .cells) n) b (u .cells + n) m),
+    ))
 
 abbrev pub listSum : ℕ → (deep : ℕ) → CellSpace → (a n : ℕ) → Parts → Used → Rooms → Res
 listSum p d s a n (Parts.Elements t b m) u r = bothLists d s a n t b m u r
