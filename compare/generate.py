@@ -3,10 +3,10 @@
     batch(seed, count)       a list of lines, begun with `room`; `count` of them are `eval`
     hand_made()              the same for the cases of tools/rules that need no room of their own and no limits
 
-A batch draws bindings anew every few hundred rules. Half of its rules stand on random expressions, half on random
-comprehensions (tools/rules/families). Each is followed by variants with a few records changed in place: another operator,
-function, flag, number or name, a Bool for a name, a Bytes for a String, operands exchanged. So every shape comes with its near
-misses, an append path with other names and a fold with its accumulator second among them. A variant is always accepted.
+A batch draws bindings anew every few hundred rules. Its rules are small ones about one subject each (shapes.py), and random
+expressions and comprehensions (tools/rules/families). Each is followed by variants with a few records changed in place: another
+operator, function, flag, number or name, a Bool for a name, a Bytes for a String, operands exchanged. So every shape comes with
+its near misses, an append path with other names and a fold with its accumulator second among them. A variant is always accepted.
 """
 
 from __future__ import annotations
@@ -30,15 +30,18 @@ from model import CELLS_MAX, STEPS_MAX, TEXT_MAX
 from model.numbers import INT_MAX, INT_MIN, UINT_MAX
 from model.table import K_BINARY, K_BOOL, K_BYTES, K_COMPREHENSION, K_DOUBLE, K_FUNCTION, K_INT, K_NAME, K_SELECT, K_STRING, K_UINT, K_UNARY
 from replay import bind_line, eval_line
+from shapes import SHAPES
 
-VARIANTS = 11  # beside each rule
-RULES_A_DESK = 30  # rules, with their variants, between two sets of bindings
+VARIANTS = 5  # beside each rule
+RULES_A_DESK = 60  # rules, with their variants, between two sets of bindings
 LONGEST = 1_500  # bytes of a table
 ROOM = f"room {CELLS_MAX} {TEXT_MAX}"
 WORDS = [struct.pack("<Q", number % 2**64) for number in (0, 0, 1, 1, 2, 3, -1, -2, INT_MAX, INT_MIN, UINT_MAX)] + [
     struct.pack("<d", number) for number in (0.0, -0.0, 1.0, 2.0, 2.5, 1e300)]
 OTHER_NAMES = (1, 2, 3, 4, 5, 6, 7, 8, 9, 10, 11, 12, 99)
 ALIKE = {operator: group for group in ((1, 2), (3, 4), (5, 6), (8, 9, 10, 11, 12), (13, 14, 15, 16), (7,), (17,)) for operator in group}
+CALLS = tuple((K_UNARY, number) for number in (1, 2, 3)) + tuple((K_FUNCTION, number) for number in (1, 2, 4, 5))
+ALIKE_CALLS = {call: group for group in (((K_UNARY, 1), (K_UNARY, 3)), ((K_FUNCTION, 4), (K_FUNCTION, 5))) for call in group}
 
 
 # ---------------------------------------------------------------- bindings
@@ -100,7 +103,7 @@ def extent(table: bytearray, place: int) -> int:
 def change(table: bytearray, place: int, names: "tuple[int, ...]", draw: Draw) -> None:
     """Changes one record in place, mostly to one alike; the table stays accepted. `names` are those of the rule."""
     kind, word = table[place], draw.word()
-    alike, word = word % 100 < 65, word >> 16
+    alike, word = word % 100 < 80, word >> 16
     if kind in (K_INT, K_UINT, K_DOUBLE):
         table[place + 3:place + 11] = WORDS[word % len(WORDS)]
         table[place] = kind if alike else (K_INT, K_INT, K_UINT, K_DOUBLE)[word >> 32 & 3]
@@ -113,9 +116,8 @@ def change(table: bytearray, place: int, names: "tuple[int, ...]", draw: Draw) -
             among = names if names and word & 1 else OTHER_NAMES
             table[place], table[place + 3] = K_NAME, among[(word >> 8) % len(among)]
     elif kind == K_UNARY or kind == K_FUNCTION and table[place + 3] != 6:
-        choice = (word >> 8) % 7
-        table[place] = K_UNARY if choice < 3 else K_FUNCTION
-        table[place + 3] = (1, 2, 3, 1, 2, 4, 5)[choice]
+        among = ALIKE_CALLS.get((kind, table[place + 3]), CALLS) if alike else CALLS
+        table[place], table[place + 3] = among[(word >> 8) % len(among)]
     elif kind in (K_BINARY, K_FUNCTION):
         if word & 7 == 0:
             exchange(table, place)
@@ -153,10 +155,12 @@ def variant(made: Assembled, places: "list[int]", names: "tuple[int, ...]", draw
 
 
 def rules(draw: Draw) -> Iterator[Node]:
-    """Random expressions and random comprehensions by turns, without end."""
+    """Each of the small shapes, a random expression and a random comprehension by turns, without end."""
     number = 0
     while True:
         number += 1
+        for shape in SHAPES:
+            yield shape(draw)
         yield Rules(draw).rule(draw.pick(Rules.KINDS), 3 + number % 26)
         yield random_loop(draw)
 
