@@ -67,7 +67,7 @@ def fold(draw: Draw) -> Node:
     start = step_of is both
     init = draw.pick((true, true, true, outcome(draw))) if start else draw.pick((false, false, false, outcome(draw)))
     usual = not_strictly_false(R) if start else not_strictly_false(negation(R))
-    condition = draw.pick((true, true, usual, usual, usual, R, negation(R), told(draw, count), not_strictly_false(binary("<", I, TWO))))
+    condition = draw.pick((true, true, usual, usual, usual, R, negation(R), told(draw, count), negation(equals(I, ZERO)), negation(equals(I, ONE))))
     step = step_of(R, told(draw, count))
     step = draw.pick((step, step, step, step, step_of(told(draw, count), R), negation(step), conditional(true, step, R)))
     result = draw.pick((R, R, R, R, negation(R), I, outcome(draw)))
@@ -81,7 +81,7 @@ def append(draw: Draw) -> Node:
     over = draw.pick((listing(ZERO, ONE), listing(ONE), listing(), name(7), name(8), name(11), mapping((ONE, TWO)), outcome(draw)))
     init = draw.pick((listing(), listing(), listing(), listing(), name(11), listing(mark(none)), plus(listing(), listing()), listing(ONE), mapping(), outcome(draw)))
     condition = draw.pick((true, true, true, true, true, false, null, ONE, string("t"), not_strictly_false(R), equals(I, ONE)))
-    parts = [draw.pick((I, I, ONE, mark(of(I)), mark(none), mark(I), R, listing(I), outcome(draw), plus(I, I), name(20)))
+    parts = [draw.pick((I, I, ONE, mark(of(I)), mark(none), mark(I), R, R, size(R), listing(I), outcome(draw), plus(I, I), name(20)))
              for _ in range((1, 1, 1, 0, 2)[draw.below(5)])]
     added = draw.pick((listing(*parts),) * 6 + (name(7), plus(listing(*parts), listing()), mapping((I, I))))
     step = draw.pick((plus(R, added),) * 5 + (plus(added, R), binary("-", R, added), plus(name(7), added)))
