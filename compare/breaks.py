@@ -1,12 +1,14 @@
 #!/usr/bin/env python3
 """Wrong evaluators on purpose: twenty-two edits, each of which the comparison with the crate must find.
 
-    breaks.py ORACLE [--count N]        the edits tried on the model in tools/rules: each in a copy, compared on N cases
-    breaks.py apply NUMBER FOLDER       the same edit of the evaluator's code, in the repository at FOLDER (a copy!)
+    breaks.py ORACLE                    the edits of the evaluator's code, each in a copy of this repository, compiled with no proof (unproved)
+    breaks.py ORACLE --model            the same edits of the model in tools/rules
     breaks.py list                      what there is
+    breaks.py apply NUMBER FOLDER       makes one edit of the code in the repository at FOLDER
 
-An edit of the code is found by its text, in whatever file of crates/*/src it stands; the text must stand there once.
-After `apply`, `replay` is built without proof and compared: `compare.py ORACLE REPLAY --count N` must end with differences.
+Of each, N cases (--count, 20,000) are compared with the crate; the edit is found if one differs. An edit of the code is known by
+its text, in whatever file of crates/*/src it stands; the text must stand there once. Options: --only NUMBER; --from FOLDER, another
+repository; --through "COMMAND {}", what runs the program, where it does not take the lines itself.
 """
 
 from __future__ import annotations
@@ -32,9 +34,9 @@ class Break(NamedTuple):
 
 BREAKS = (
     Break("a left error is the answer of || and &&, though the right operand failed too",
-          ("    let Outcome::Value(v, used) = second else {\n        return second;\n    };",
-           "    let Outcome::Value(v, used) = second else {\n        let Outcome::Value(_, _) = first else {\n            return first;\n"
-           "        };\n        return second;\n    };"),
+          ("            first,\n            v,\n            used,\n        ),\n        Outcome::Error(error, place, used) => Outcome::Error(error, place, used),",
+           "            first,\n            v,\n            used,\n        ),\n        Outcome::Error(error, place, used) => match first {\n"
+           "            Outcome::Value(_, _) => Outcome::Error(error, place, used),\n            _ => first,\n        },"),
           ("        right = self.record(record.operands[1], scope)\n        if right == decides:",
            "        try:\n            right = self.record(record.operands[1], scope)\n        except Error as error:\n"
            "            raise left_error or error\n        if right == decides:")),
@@ -87,10 +89,10 @@ BREAKS = (
           ("        Outcome::Error(_, _, used) => Outcome::Value(Value::OptionalNone, used),", "        Outcome::Error(error, place, used) => Outcome::Error(error, place, used),"),
           ("        except Fault:\n            return NONE\n        return self.present(found)", "        except Fault:\n            raise\n        return self.present(found)")),
     Break("a field of a present Optional that holds no container is none",
-          ("    if !is_container(container) {\n        return Outcome::Error(Error::NoSuchKey, at, used);", "    if !is_container(container) {\n        return Outcome::Value(Value::OptionalNone, used);"),
+          ("        Parts::Nothing => Outcome::Error(Error::NoSuchKey, at, used),", "        Parts::Nothing => Outcome::Value(Value::OptionalNone, used),"),
           ("                raise Fault(NO_SUCH_KEY)\n            if not record.test:", "                return NONE\n            if not record.test:")),
     Break("a test for a missing field is error 5",
-          ("            if test { tells(found) } else { found }", "            found"),
+          ("    if test { tells(found) } else { found }", "    found"),
           ("return Bool(contains(left, key, self.pair)) if record.test else index_into(left, key, self.pair)", "return index_into(left, key, self.pair)")),
     Break("orValue of none is none",
           ("        Fixed::OrValue => after_target(binding_cells, cells, first, v, at, used),", "        Fixed::OrValue => after_target(binding_cells, cells, second, v, at, used),"),
@@ -105,7 +107,7 @@ BREAKS = (
           ("Truth::Other => Asked::Ends(Outcome::Error(Error::BoolWanted, at, used)),", "Truth::Other => Asked::Ends(Outcome::Error(Error::NoOverload, at, used)),"),
           ("            raise Fault(BOOL_WANTED)\n        return value.truth", "            raise Fault(NO_OVERLOAD)\n        return value.truth")),
     Break("what is no key is not in a Map, and that is no error",
-          ("            if !is_key(v) {\n                return no_overload(at, used);", "            if !is_key(v) {\n                return truth_out(false, used);"),
+          ("                from_found(found, used)\n            } else {\n                no_overload(at, used)", "                from_found(found, used)\n            } else {\n                truth_out(false, used)"),
           ("    if isinstance(container, Map) and is_key(value):\n        return find(container.entries, value, pair) is not None",
            "    if isinstance(container, Map):\n        return is_key(value) and find(container.entries, value, pair) is not None")),
     Break("two maps are equal if their sizes are and the left one's values are found",
@@ -125,17 +127,35 @@ def edited(folder: Path, pattern: str, edit: "tuple[str, str]") -> Path:
     return holders[0]
 
 
-def tried(number: int, oracle: str, count: int) -> bool:
-    """Whether the comparison finds the edit in the model."""
-    with tempfile.TemporaryDirectory() as room:
-        copy = Path(room) / "rules"
-        shutil.copytree(RULES, copy, ignore=shutil.ignore_patterns("__pycache__"))
-        edited(copy, "model/*.py", BREAKS[number].model)
-        command = [sys.executable, str(HERE / "compare.py"), oracle, f"{sys.executable} {copy / 'replay.py'}", "--count", str(count), "--no-hand-made"]
+def broken_model(number: int, room: Path) -> str:
+    copy = room / "rules"
+    shutil.copytree(RULES, copy, ignore=shutil.ignore_patterns("__pycache__"))
+    edited(copy, "model/*.py", BREAKS[number].model)
+    return f"{sys.executable} {copy / 'replay.py'}"
+
+
+def broken_code(number: int, room: Path, repository: Path) -> str:
+    copy = room / "repository"
+    copy.mkdir()
+    shutil.copytree(repository / "crates", copy / "crates")
+    shutil.copy(repository / "crates.txt", copy)
+    edited(copy, "crates/*/src/**/*.rt", BREAKS[number].code)
+    subprocess.run([str(HERE / "unproved"), str(copy), str(room / "out")], check=True, stdout=subprocess.DEVNULL)
+    return str(room / "out" / "replay")
+
+
+def tried(number: int, arguments: argparse.Namespace) -> bool:
+    """Whether the comparison finds the edit."""
+    with tempfile.TemporaryDirectory() as name:
+        room = Path(name)
+        program = broken_model(number, room) if arguments.model else broken_code(number, room, Path(arguments.source))
+        program = arguments.through.replace("{}", program)
+        command = [sys.executable, str(HERE / "compare.py"), arguments.oracle, program, "--count", str(arguments.count), "--no-hand-made"]
         run = subprocess.run(command, stdout=subprocess.PIPE, stderr=subprocess.DEVNULL, text=True)
     found = re.search(r"(\d+) answers in \d+ seconds, (\d+) different", run.stdout)
-    print(f"{number + 1:2} {'found' if found and int(found[2]) else 'NOT FOUND'}: {found[2] if found else '?'} of {found[1] if found else '?'} differ: {BREAKS[number].says}", flush=True)
-    return bool(found and int(found[2]))
+    of, different = (int(found[1]), int(found[2])) if found else (0, 0)
+    print(f"{number + 1:2} {'found' if different else 'NOT FOUND'}, {different} of {of} answers: {BREAKS[number].says}", flush=True)
+    return different > 0
 
 
 def main() -> None:
@@ -149,11 +169,14 @@ def main() -> None:
         return
     parser = argparse.ArgumentParser(description=__doc__, formatter_class=argparse.RawDescriptionHelpFormatter)
     parser.add_argument("oracle")
+    parser.add_argument("--model", action="store_true")
     parser.add_argument("--count", type=int, default=20_000)
     parser.add_argument("--only", type=int)
+    parser.add_argument("--from", dest="source", default=str(HERE.parent))
+    parser.add_argument("--through", default="{}")
     arguments = parser.parse_args()
     numbers = range(len(BREAKS)) if arguments.only is None else [arguments.only - 1]
-    missed = [number for number in numbers if not tried(number, arguments.oracle, arguments.count)]
+    missed = [number for number in numbers if not tried(number, arguments)]
     print(f"{len(numbers)} tried, {len(missed)} not found")
     sys.exit(bool(missed))
 
