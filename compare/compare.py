@@ -81,6 +81,7 @@ class Tally:
     def __init__(self) -> None:
         self.counts: Counter = Counter()
         self.errors: Counter = Counter()
+        self.rules: "set[int]" = set()
         self.different: "list[tuple[int, str, list[str], str, str]]" = []
 
     def add(self, name: str, lines: "list[str]", ours: "list[str]", theirs: "list[str]", judge) -> None:
@@ -91,6 +92,8 @@ class Tally:
                 bound = []
                 continue
             other, answer = next(answers)
+            if line.startswith("eval"):
+                self.rules.add(hash(line))
             found = judge(other, answer)
             self.counts[found] += 1
             if answer.startswith("Error"):
@@ -109,6 +112,7 @@ class Tally:
         for what, count in sorted(self.counts.items()):
             print(f"{count:9} {what}")
         print("errors by number: " + ", ".join(f"{number}: {count}" for number, count in sorted(self.errors.items())))
+        print(f"{len(self.rules)} rules, no two alike")
         print(f"{sum(self.counts.values())} answers in {seconds:.0f} seconds, {len(self.different)} different")
 
 

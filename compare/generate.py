@@ -166,7 +166,7 @@ def rules(draw: Draw) -> Iterator[Node]:
 
 
 def batch(seed: int, count: int) -> "list[str]":
-    draw = Draw(seed * 0x9E3779B97F4A7C15 + 1)
+    draw = Draw(Draw(seed).word())  # mixed, so that no two seeds share a stretch of draws
     lines, made_rules, drawn = [ROOM], 0, rules(draw)
     while count > 0:
         if made_rules % RULES_A_DESK == 0:

@@ -41,7 +41,7 @@ from shapes import SHAPES
 
 WANTED = 20_000  # answers of the crate
 LONGEST_LINE = 260  # of a generated case
-OF_A_KIND = 3_000  # most answers of one kind, and of one error
+OF_A_KIND = 2_000  # most answers of one kind, and of one error
 LONGEST = 2_000  # bytes of a table in the other parts
 Part = Iterator["list[str]"]  # groups of lines, each on an empty room
 
