@@ -6,8 +6,8 @@
     compare.py ORACLE --conformance               the oracle against the rows of tools/conformance
     compare.py --exact REPLAY --count 20000       `replay` against the model in tools/rules, places and counts included
 
-REPLAY is a command in quotes; `model` is the model itself. Cases come in batches of 20,000, each from a seed of its own, so a
-batch can be had again: `--seed S --count 20000`. `--keep FILE` writes the lines of the cases that differ.
+REPLAY is a command in quotes; `model` is the model itself. Cases come in batches of 20,000, each from a seed of its own; a rule
+that came before is left out, so no two cases are alike. `--keep FILE` writes the lines of the cases that differ.
 
 Compared are values (a map's entries in any order), error numbers, refusals and whether a binding is taken. Not compared,
 and counted apart: exhausted runs, runs that the oracle's flags put outside the compared domain (docs/DIFFERENCES.md), and
@@ -40,9 +40,25 @@ def batches(arguments: argparse.Namespace) -> "Iterator[tuple[str, list[str]]]":
     if not arguments.no_hand_made and arguments.seed == 1:
         yield "hand-made", list(generate.hand_made())
     left, seed = arguments.count, arguments.seed
+    seen: "set[int]" = set()
     while left > 0:
-        yield f"seed {seed}", generate.batch(seed, min(BATCH, left))
-        left, seed = left - BATCH, seed + 1
+        lines = fresh(generate.batch(seed, BATCH), seen, left)
+        yield f"seed {seed}", lines
+        left, seed = left - sum(line.startswith("eval") for line in lines), seed + 1
+
+
+def fresh(lines: "list[str]", seen: "set[int]", most: int) -> "list[str]":
+    """The lines without the rules that were seen already, up to so many rules."""
+    kept = []
+    for line in lines:
+        if line.startswith("eval"):
+            mark = hash(line)
+            if mark in seen or most == 0:
+                continue
+            seen.add(mark)
+            most -= 1
+        kept.append(line)
+    return kept
 
 
 def told(command: "list[str]", lines: "list[str]") -> "list[str]":
@@ -81,7 +97,6 @@ class Tally:
     def __init__(self) -> None:
         self.counts: Counter = Counter()
         self.errors: Counter = Counter()
-        self.rules: "set[int]" = set()
         self.different: "list[tuple[int, str, list[str], str, str]]" = []
 
     def add(self, name: str, lines: "list[str]", ours: "list[str]", theirs: "list[str]", judge) -> None:
@@ -92,8 +107,6 @@ class Tally:
                 bound = []
                 continue
             other, answer = next(answers)
-            if line.startswith("eval"):
-                self.rules.add(hash(line))
             found = judge(other, answer)
             self.counts[found] += 1
             if answer.startswith("Error"):
@@ -112,7 +125,6 @@ class Tally:
         for what, count in sorted(self.counts.items()):
             print(f"{count:9} {what}")
         print("errors by number: " + ", ".join(f"{number}: {count}" for number, count in sorted(self.errors.items())))
-        print(f"{len(self.rules)} rules, no two alike")
         print(f"{sum(self.counts.values())} answers in {seconds:.0f} seconds, {len(self.different)} different")
 
 

@@ -59,38 +59,44 @@ def told(draw: Draw, count: int) -> Node:
     return rule
 
 
+def mostly(draw: Draw, usual: Node, others: "tuple[Node, ...]", percent: int = 15) -> Node:
+    """What is usual at this place, and now and then another: a near miss."""
+    return draw.pick(others) if draw.chance(percent) else usual
+
+
+def names(draw: Draw) -> "tuple[int, int]":
+    """The accumulator's and the item's name."""
+    return draw.pick(((3, 3), (4, 4), (4, 3))) if draw.chance(15) else (3, 4)
+
+
 def fold(draw: Draw) -> Node:
     """A step of && or || over items that end in different ways, and what is nearly one."""
     count = 1 + draw.below(4)
     over = listing(*(integer(number) for number in range(count)))
     step_of = draw.pick((both, either))
-    start = step_of is both
-    init = draw.pick((true, true, true, outcome(draw))) if start else draw.pick((false, false, false, outcome(draw)))
-    usual = not_strictly_false(R) if start else not_strictly_false(negation(R))
-    condition = draw.pick((true, true, usual, usual, usual, R, negation(R), told(draw, count), negation(equals(I, ZERO)), negation(equals(I, ONE))))
+    start, going = (true, not_strictly_false(R)) if step_of is both else (false, not_strictly_false(negation(R)))
+    condition = mostly(draw, draw.pick((going, true)), (R, negation(R), told(draw, count), negation(equals(I, ZERO)), negation(equals(I, ONE))), 40)
     step = step_of(R, told(draw, count))
-    step = draw.pick((step, step, step, step, step_of(told(draw, count), R), negation(step), conditional(true, step, R)))
-    result = draw.pick((R, R, R, R, negation(R), I, outcome(draw)))
-    accu, item = draw.pick(((3, 4), (3, 4), (3, 4), (3, 4), (3, 3), (4, 4), (4, 3)))
-    rule = comprehension(accu, item, over, init, condition, step, result)
-    return draw.pick((rule, rule, either(rule, outcome(draw)), both(rule, outcome(draw)), optional_index(listing(rule), ZERO)))
+    step = mostly(draw, step, (step_of(told(draw, count), R), negation(step), conditional(true, step, R)))
+    result = mostly(draw, R, (negation(R), I, outcome(draw)))
+    rule = comprehension(*names(draw), over, mostly(draw, start, (outcome(draw),)), condition, step, result)
+    return mostly(draw, rule, (either(rule, outcome(draw)), both(rule, outcome(draw)), optional_index(listing(rule), ZERO)), 25)
 
 
 def append(draw: Draw) -> Node:
     """The append path, and what is nearly one."""
-    over = draw.pick((listing(ZERO, ONE), listing(ONE), listing(), name(7), name(8), name(11), mapping((ONE, TWO)), outcome(draw)))
-    init = draw.pick((listing(), listing(), listing(), listing(), name(11), listing(mark(none)), plus(listing(), listing()), listing(ONE), mapping(), outcome(draw)))
-    condition = draw.pick((true, true, true, true, true, false, null, ONE, string("t"), not_strictly_false(R), equals(I, ONE)))
+    over = mostly(draw, draw.pick((listing(ZERO, ONE), listing(ONE), name(7))), (listing(), name(8), name(11), mapping((ONE, TWO)), outcome(draw)), 25)
+    init = mostly(draw, listing(), (name(11), listing(mark(none)), plus(listing(), listing()), listing(ONE), mapping(), outcome(draw)), 20)
+    condition = mostly(draw, true, (false, null, ONE, string("t"), not_strictly_false(R), equals(I, ONE)))
     parts = [draw.pick((I, I, ONE, mark(of(I)), mark(none), mark(I), R, R, size(R), listing(I), outcome(draw), plus(I, I), name(20)))
              for _ in range((1, 1, 1, 0, 2)[draw.below(5)])]
-    added = draw.pick((listing(*parts),) * 6 + (name(7), plus(listing(*parts), listing()), mapping((I, I))))
-    step = draw.pick((plus(R, added),) * 5 + (plus(added, R), binary("-", R, added), plus(name(7), added)))
+    added = mostly(draw, listing(*parts), (name(7), plus(listing(*parts), listing()), mapping((I, I))), 10)
+    step = mostly(draw, plus(R, added), (plus(added, R), binary("-", R, added), plus(name(7), added)), 10)
     if draw.chance(45):
-        guard = draw.pick((told(draw, 2), binary(">", I, ZERO), equals(I, ONE), outcome(draw)))
-        step = conditional(guard, step, draw.pick((R, R, R, R, R, I, listing())))
-    result = draw.pick((R, R, R, R, R, I, size(R), plus(R, listing()), listing(R)))
-    accu, item = draw.pick(((3, 4), (3, 4), (3, 4), (3, 4), (3, 3), (4, 4), (4, 3)))
-    return comprehension(accu, item, over, init, condition, step, result)
+        guard = draw.pick((told(draw, 2), binary(">", I, ZERO), equals(I, ONE), equals(R, listing()), outcome(draw)))
+        step = conditional(guard, step, mostly(draw, R, (I, listing())))
+    result = mostly(draw, R, (I, size(R), plus(R, listing()), listing(R)))
+    return comprehension(*names(draw), over, init, condition, step, result)
 
 
 def chain(draw: Draw) -> Node:

@@ -18,7 +18,6 @@ from lexer import KEYWORDS, RESERVED, CelError, Token, tokens
 from names import Names
 
 RELATIONS = ("<", "<=", ">=", ">", "==", "!=", "in")
-CLOSED_BY = {"(": ")", "[": "]", "[?": "]", "{": "}"}
 
 
 def parse(text: str, names: "Names | None" = None) -> Node:

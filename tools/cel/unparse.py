@@ -12,7 +12,7 @@ import struct
 
 from lexer import KEYWORDS
 from model.numbers import is_infinite, is_nan
-from model.table import (K_BINARY, K_COMPREHENSION, K_CONDITIONAL, K_FUNCTION, K_LIST, K_MAP, K_MARK, K_NAME, K_SELECT, K_UNARY,
+from model.table import (K_BINARY, K_CONDITIONAL, K_FUNCTION, K_LIST, K_MAP, K_MARK, K_NAME, K_SELECT, K_UNARY,
                          Record)
 from model.values import Bool, Bytes, Double, Int, Null, String, Uint, Value, quoted
 from names import MACRO_NAMES, Names
