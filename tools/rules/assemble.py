@@ -19,16 +19,23 @@ from model.table import BINARY, FUNCTIONS, UNARY
 
 @dataclass(eq=False)
 class Node:
-    """A record to be: its kind, the fields after its extent (a span stands behind them), its operands."""
+    """A record to be: its kind, the fields after its extent (a span stands behind them), its operands.
+
+    An extent that is given holds, right or wrong. A node of kind RAW has no head: its fields stand as they are.
+    """
 
     kind: int
     fields: bytes = b""
     operands: "tuple[Node, ...]" = ()
     span: "bytes | None" = None
     says: str = ""
+    extent: "int | None" = None
 
     def __repr__(self) -> str:
         return self.says
+
+
+RAW = -1
 
 
 def u16(number: int) -> bytes:
@@ -244,11 +251,12 @@ def assemble(root: Node, text: bytes = b"") -> Assembled:
                 offset = len(pool)
                 pool.extend(node.span)
             fields += u16(offset) + u16(len(node.span))
-        parts, inside = [], at + 3 + len(fields)
+        parts, inside = [], at + len(fields) + (0 if node.kind == RAW else 3)
         for operand in node.operands:
             parts.append(place(operand, inside))
             inside += len(parts[-1])
-        return bytes([node.kind]) + u16(inside - at) + fields + b"".join(parts)
+        head = b"" if node.kind == RAW else bytes([node.kind]) + u16(inside - at if node.extent is None else node.extent)
+        return head + fields + b"".join(parts)
 
     table = place(root, 0)
     return Assembled(table, bytes(pool), records)

@@ -16,8 +16,9 @@ from assemble import (Node, all_of, assemble, binary, bits, both, byte_string, c
                       or_value, plus, select, size, string, true, uint, value)
 from draw import Draw
 from model import (Bool, Bytes, Double, Int, Limits, List, Map, Null, Optional, Refused, Room, String, Uint, ask, bring_in,
-                   empty, evaluate, limited, unsound, utf8_valid)
+                   empty, evaluate, limited, show, unsound, utf8_valid)
 from model.numbers import DOUBLE_RULES, INT_MAX, INT_MIN, NAN
+from replay import Replay, outcome_line
 
 failed: list[str] = []
 done = 0
@@ -103,6 +104,26 @@ def examples() -> None:
     check("P8 [0, [0]]", answer(rule), ("value", List((zero, List((zero,)))), 11, 5, 0))
     check("P8 rooms", rooms(rule), ([zero, Int(7), List((zero,)), zero, List((zero,))], b""))
     check("ask", ask(bytes.fromhex("00000808000101040001")), "Bool false steps 2 cells 0 bytes 0")
+    lines()
+
+
+def lines() -> None:
+    """The lines of `ask` and of `replay`."""
+    for shown, says in (
+            (String(b'a "\\\x1f~\x7f\xc3'), 'String "a \\x22\\x5C\\x1F~\\x7F\\xC3"'), (Bytes(b""), 'Bytes ""'), (Double(0x3FF0_0000_0000_000A), "Double 0x3FF000000000000A"),
+            (Map(((Int(-3), Null()), (String(b"k"), Optional(None)))), 'Map {Int -3: Null, String "k": Optional none}'),
+            (List((Uint(4), Optional(Bool(True)), List(()))), "List [Uint 4, Optional of Bool true, List []]")):
+        check(says, show(shown), says)
+    wide = List((Null(),))
+    for _ in range(18):
+        wide = List((wide, wide))
+    cut_short = outcome_line(("value", wide, 1, 2, 3))
+    check("a long value is cut", cut_short[1_000_000:], " ... steps 1 cells 2 bytes 3")
+    replay = Replay()
+    said = [replay.answer(line) for line in ("room 1 0", "bind 3 - 0c08000100000300", "bind 3 - 000300", "bind 4 - 0c08000100000300", "bind 128 - 00", "what",
+                                             "eval 1 0 0 - 07040003", "empty", "eval 1 0 0 - 07040003", "eval 0 0 0 - 000300", "eval 9 0 0 - ff", "eval 1 0 0 -")]
+    check("replay", said, [None, "ok", "11 0", "10 0", "5 0", "bad line 6", "List [Null] steps 1 cells 0 bytes 0", None, "Error 1 at 0 steps 1 cells 0 bytes 0",
+                           "Exhausted Steps steps 0 cells 0 bytes 0", "Refused 2 at 0", "bad line 12"])
 
 
 # ---------------------------------------------------------------- the readings, row by row

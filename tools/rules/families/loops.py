@@ -127,20 +127,25 @@ def pending_errors() -> Iterator[Case]:
             yield case(optional_index(listing(ONE), comprehension(3, 4, over(word), init, true, step, R)))
 
 
+def random_loop(draw: Draw) -> Node:
+    """A comprehension whose parts are drawn: those of the macros, and any."""
+    rules = Rules(draw)
+    accu, item = draw.pick(((3, 4), (3, 4), (3, 3), (4, 3), (20, 21)))
+    over = draw.pick((listing(ONE, TWO), listing(ZERO, ONE, TWO), name(7), name(10), name(8), rules.rule("list", 8)))
+    init = draw.pick((true, false, listing(), listing(), ZERO, string(""), rules.any(4)))
+    rules.items = [accu, item]
+    accu_, item_ = name(accu), name(item)
+    condition = draw.pick((true, true, not_strictly_false(accu_), not_strictly_false(negation(accu_)),
+                           rules.rule("bool", 6)))
+    step = draw.pick((
+        both(accu_, rules.rule("bool", 8)), either(accu_, rules.rule("bool", 8)), plus(accu_, listing(rules.any(6))),
+        conditional(rules.rule("bool", 6), plus(accu_, listing(rules.any(4))), accu_), plus(accu_, item_),
+        rules.any(10), listing(accu_, item_)))
+    result = draw.pick((accu_, accu_, accu_, item_, rules.any(5)))
+    return comprehension(accu, item, over, init, condition, step, result)
+
+
 def random_loops(seed: int = 3, count: int = 900) -> Iterator[Case]:
     draw = Draw(seed)
     for _ in range(count):
-        rules = Rules(draw)
-        accu, item = draw.pick(((3, 4), (3, 4), (3, 3), (4, 3), (20, 21)))
-        over = draw.pick((listing(ONE, TWO), listing(ZERO, ONE, TWO), name(7), name(10), name(8), rules.rule("list", 8)))
-        init = draw.pick((true, false, listing(), listing(), ZERO, string(""), rules.any(4)))
-        rules.items = [accu, item]
-        accu_, item_ = name(accu), name(item)
-        condition = draw.pick((true, true, not_strictly_false(accu_), not_strictly_false(negation(accu_)),
-                               rules.rule("bool", 6)))
-        step = draw.pick((
-            both(accu_, rules.rule("bool", 8)), either(accu_, rules.rule("bool", 8)), plus(accu_, listing(rules.any(6))),
-            conditional(rules.rule("bool", 6), plus(accu_, listing(rules.any(4))), accu_), plus(accu_, item_),
-            rules.any(10), listing(accu_, item_)))
-        result = draw.pick((accu_, accu_, accu_, item_, rules.any(5)))
-        yield case(comprehension(accu, item, over, init, condition, step, result), DESK)
+        yield case(random_loop(draw), DESK)

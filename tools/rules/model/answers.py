@@ -54,13 +54,17 @@ def evaluate(table: bytes, text: bytes, room: "Room | None" = None, limits: Limi
     return Outcome(("value", value, *meter.counts()), meter.cells, bytes(meter.text))
 
 
-def ask(data: bytes) -> str:
-    """Program `ask`: from the length of the text, the text and the table to one line. Document 01 fixes the line of a value."""
-    length = int.from_bytes(data[:2], "little")
-    answer = evaluate(data[2 + length:], data[2:2 + length]).answer
+def answer_line(answer: tuple) -> str:
+    """An answer as the line that `ask` prints."""
     if answer[0] == "value":
         return "{} steps {} cells {} bytes {}".format(show(answer[1]), *answer[2:])
     if answer[0] == "refused":
         return "Refused {} at {}".format(*answer[1:])
     head = "Error {} at {}".format(*answer[1:3]) if answer[0] == "error" else f"Exhausted {answer[1]}"
     return head + " steps {} cells {} bytes {}".format(*answer[-1])
+
+
+def ask(data: bytes) -> str:
+    """Program `ask`: from the length of the text, the text and the table to one line."""
+    length = int.from_bytes(data[:2], "little")
+    return answer_line(evaluate(data[2 + length:], data[2:2 + length]).answer)

@@ -164,6 +164,11 @@ Value = Union[Null, Bool, Int, Uint, Double, String, Bytes, List, Map, Optional]
 NULL, NONE, EMPTY_LIST = Null(), Optional(None), List(())
 
 
+def quoted(data: bytes) -> str:
+    """Text as `ask` prints it: bytes from 0x20 to 0x7E as they are but for quote and backslash, all others as \\xHH."""
+    return '"' + "".join(chr(byte) if 0x20 <= byte <= 0x7E and byte not in b'"\\' else f"\\x{byte:02X}" for byte in data) + '"'
+
+
 def show(value: Value, sort: bool = False) -> str:
     """The value as `ask` prints it; with `sort`, a map's entries by kind of key, then by key."""
     if isinstance(value, Null):
@@ -173,9 +178,9 @@ def show(value: Value, sort: bool = False) -> str:
     if isinstance(value, (Int, Uint)):
         return f"{type(value).__name__} {value.number}"
     if isinstance(value, Double):
-        return f"Double 0x{value.bits:016x}"
+        return f"Double 0x{value.bits:016X}"
     if isinstance(value, (String, Bytes)):
-        return f"{type(value).__name__} 0x{value.data.hex()}"
+        return f"{type(value).__name__} {quoted(value.data)}"
     if isinstance(value, List):
         return "List [" + ", ".join(show(item, sort) for item in value.items) + "]"
     if isinstance(value, Map):

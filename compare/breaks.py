@@ -1,0 +1,114 @@
+#!/usr/bin/env python3
+"""Wrong evaluators on purpose, the twenty-two edits of breaks.txt: the comparison with the crate must find each.
+
+    breaks.py ORACLE                    the edits of the evaluator's code, each in a copy of this repository, compiled with no proof (unproved)
+    breaks.py ORACLE --model            the same edits of the model in tools/rules
+    breaks.py list                      what there is
+    breaks.py apply NUMBER FOLDER       makes one edit of the code in the repository at FOLDER
+
+Of each, N cases (--count, 20,000) are compared with the crate; the edit is found if one differs. An edit of the code is known by
+its text, in whatever file of crates/*/src it stands; the text must stand there once. Options: --only NUMBER; --from FOLDER, another
+repository; --through "COMMAND {}", what runs the program, where it does not take the lines itself.
+"""
+
+from __future__ import annotations
+
+import argparse
+import re
+import shutil
+import subprocess
+import sys
+import tempfile
+from pathlib import Path
+from typing import NamedTuple
+
+HERE = Path(__file__).resolve().parent
+RULES = HERE.parent / "tools" / "rules"
+
+
+class Break(NamedTuple):
+    says: str
+    code: "tuple[str, str]"  # in crates/*/src
+    model: "tuple[str, str]"  # in tools/rules/model
+
+
+def breaks() -> "list[Break]":
+    """What breaks.txt has."""
+    found = []
+    for block in re.split(r"^== ", (HERE / "breaks.txt").read_text(), flags=re.MULTILINE)[1:]:
+        says, *texts = re.split(r"\n-- (?:code|becomes|model)\n", block)
+        code, new_code, model, new_model = texts
+        found.append(Break(says, (code, new_code), (model, new_model.rstrip("\n"))))
+    return found
+
+
+BREAKS = breaks()
+
+
+def edited(folder: Path, pattern: str, edit: "tuple[str, str]") -> Path:
+    """Makes the edit in the one file where its text stands once."""
+    old, new = edit
+    holders = [path for path in sorted(folder.glob(pattern)) if old in path.read_text()]
+    times = sum(path.read_text().count(old) for path in holders)
+    if times != 1:
+        raise SystemExit(f"this text stands {times} times, and not once, in {folder}/{pattern}:\n{old}")
+    holders[0].write_text(holders[0].read_text().replace(old, new))
+    return holders[0]
+
+
+def broken_model(number: int, room: Path) -> str:
+    copy = room / "rules"
+    shutil.copytree(RULES, copy, ignore=shutil.ignore_patterns("__pycache__"))
+    edited(copy, "model/*.py", BREAKS[number].model)
+    return f"{sys.executable} {copy / 'replay.py'}"
+
+
+def broken_code(number: int, room: Path, repository: Path) -> str:
+    copy = room / "repository"
+    copy.mkdir()
+    shutil.copytree(repository / "crates", copy / "crates")
+    shutil.copy(repository / "crates.txt", copy)
+    edited(copy, "crates/*/src/**/*.rt", BREAKS[number].code)
+    subprocess.run([str(HERE / "unproved"), str(copy), str(room / "out")], check=True, stdout=subprocess.DEVNULL)
+    return str(room / "out" / "replay")
+
+
+def tried(number: int, arguments: argparse.Namespace) -> bool:
+    """Whether the comparison finds the edit."""
+    with tempfile.TemporaryDirectory() as name:
+        room = Path(name)
+        program = broken_model(number, room) if arguments.model else broken_code(number, room, Path(arguments.source))
+        program = arguments.through.replace("{}", program)
+        command = [sys.executable, str(HERE / "compare.py"), arguments.oracle, program, "--count", str(arguments.count), "--no-hand-made"]
+        run = subprocess.run(command, stdout=subprocess.PIPE, stderr=subprocess.DEVNULL, text=True)
+    found = re.search(r"(\d+) answers in \d+ seconds, (\d+) different", run.stdout)
+    of, different = (int(found[1]), int(found[2])) if found else (0, 0)
+    print(f"{number + 1:2} {'found' if different else 'NOT FOUND'}, {different} of {of} answers: {BREAKS[number].says}", flush=True)
+    return different > 0
+
+
+def main() -> None:
+    if sys.argv[1:] == ["list"]:
+        for number, one in enumerate(BREAKS, 1):
+            print(f"{number:2} {one.says}")
+        return
+    if sys.argv[1:2] == ["apply"] and len(sys.argv) == 4:
+        path = edited(Path(sys.argv[3]), "crates/*/src/**/*.rt", BREAKS[int(sys.argv[2]) - 1].code)
+        print(f"{path}: {BREAKS[int(sys.argv[2]) - 1].says}")
+        return
+    parser = argparse.ArgumentParser(description=__doc__, formatter_class=argparse.RawDescriptionHelpFormatter)
+    parser.add_argument("oracle")
+    parser.add_argument("--model", action="store_true")
+    parser.add_argument("--count", type=int, default=20_000)
+    parser.add_argument("--only", type=int)
+    parser.add_argument("--from", dest="source", default=str(HERE.parent))
+    parser.add_argument("--through", default="{}")
+    arguments = parser.parse_args()
+    numbers = range(len(BREAKS)) if arguments.only is None else [arguments.only - 1]
+    missed = [number for number in numbers if not tried(number, arguments)]
+    print(f"{len(numbers)} tried, {len(missed)} not found")
+    sys.exit(bool(missed))
+
+
+if __name__ == "__main__":
+    main()
