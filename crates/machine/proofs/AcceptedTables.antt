@@ -8,13 +8,11 @@ use mathlib.Core.Bool.{Bool, true, false, cond}
 use native.Mathlib.Omega.{arith}
 use lib.ListN.{length, take, drop, getD, getElem?, length-take, length-drop}
 use lib.Dec.{leb}
-use lib.Signed.{mag}
 use borrow.Author.Tests.{leb-true}
 use mir.Syntax.{w64}
-use mir.Val.{toZ}
 use mir.ValLaws.{toZ-fits}
 use Rattle.text.specs.Utf8.{wellFormed}
-use Rattle.meaning.specs.Limits.{names, byteNumbers, deepestRecord}
+use Rattle.meaning.specs.Limits.{byteNumbers, deepestRecord}
 use Rattle.meaning.specs.Errors.{WrongField, WrongExtent, UnknownKind}
 use Rattle.meaning.specs.Expr.{Expr, Elements, Pairs}
 use Rattle.meaning.specs.Kinds.{ExprKind, nullKind, boolKind, intKind, uintKind, doubleKind, stringKind, bytesKind, nameKind, unaryKind, binaryKind, conditionalKind, selectKind, listKind, mapKind, comprehensionKind, functionKind, Kind, mark, expr, Called, toOne, toNone, toTwo, Row, kinds}
@@ -25,7 +23,6 @@ use Rattle.laws.proofs.Fine.{Perhaps, Each}
 use Rattle.laws.proofs.Reading.{Only, Reads, reads-got, reads-refused, reads-bind, reads-bind-any, reads-then, reads-demand, reads-orRefuse, was-read}
 use Rattle.laws.proofs.TableNumbers.{NumbersFit, head-fits}
 use Rattle.laws.proofs.TableFormed.{reads-name}
-use Rattle.rooms.specs.Rooms.{part}
 use Rattle.machine.specs.Literals.{wordIn}
 use Rattle.machine.specs.Accepted.{Spells, Accepted, AcceptedElements, AcceptedPairs}
 

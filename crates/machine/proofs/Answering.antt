@@ -3,19 +3,18 @@
 use Prim.Native.Nat.{ℕ, zero, suc, _+_, _*_, _/_, _≤_, _<_, min}
 use mathlib.Core.Path.{_≡_, refl, sym, ap, _∙_, subst}
 use mathlib.Core.List.{List, [], _∷_, map}
-use mathlib.Core.Option.{some}
 use native.Mathlib.Omega.{arith}
 use lib.ListN.{length, getD, set, take, drop, replicate}
 use lib.Seq.{drop-set-lt}
-use Rattle.meaning.specs.Limits.{Counts, mostCells, mostBytes, nothingYet, cut}
+use Rattle.meaning.specs.Limits.{Counts, nothingYet, cut}
 use Rattle.meaning.specs.Errors.{ErrorAt, Exhausted}
 use Rattle.meaning.specs.Value as Meaning
 use Rattle.meaning.specs.Value.{nil, cons, count, valueList}
 use Rattle.meaning.specs.Expr.{Expr}
-use Rattle.meaning.specs.Run.{Trace, Eval}
+use Rattle.meaning.specs.Run.{Trace}
 use Rattle.meaning.specs.Comprehension as Comprehension
 use Rattle.meaning.specs.Limited as Limited
-use Rattle.meaning.specs.Limited.{Cell, zeroCell, holding, limited, cellsBuilt, textBuilt, built, cleared, roomsAfter}
+use Rattle.meaning.specs.Limited.{zeroCell, holding, limited, cellsBuilt, textBuilt, built, cleared, roomsAfter}
 use Rattle.meaning.specs.Meaning.{run}
 use Rattle.meaning.specs.Heads.{got}
 use Rattle.meaning.specs.Table.{readTable}
@@ -31,7 +30,6 @@ use Rattle.rooms.proofs.ReadBack.{reads}
 use Rattle.rooms.proofs.Zeroed.{zeroed-length, cleared-words, cleared-bytes}
 use Rattle.machine.specs.declared.outcome.Outcome.{Outcome}
 use Rattle.machine.specs.declared.outcome.Outcome.the-variants as Outcome
-use Rattle.machine.specs.Outcomes.{Res}
 use Rattle.machine.specs.Machine.{machine}
 use Rattle.machine.specs.Refines.{usedOf, errorOf, limitOf, countsOf, FitCells, Live, Below, Roomy, Keeps, Logged, Good, Matches, Start}
 use Rattle.machine.specs.Accepted.{Accepted}

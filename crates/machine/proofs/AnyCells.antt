@@ -1,22 +1,19 @@
 -- Any words of 64 bits hold, in every cell, a value that words can hold, or `Absent`. So a run may begin in rooms as they are lent,
 -- whatever they hold. Assumes nothing.
-use Prim.Native.Nat.{ℕ, _+_, _-_, _*_, _/_, _%_, _^_, _≤_, _<_}
+use Prim.Native.Nat.{ℕ, _+_, _*_, _^_, _<_}
 use mathlib.Core.Path.{_≡_, refl}
 use mathlib.Core.Bool.{Bool, true, false, cond}
 use mathlib.Core.List.{List}
 use native.Mathlib.Omega.{arith}
 use lib.Dec.{ltb, eqb}
-use lib.ListN.{length, getD}
-use lib.IntN.{pos, negsuc}
+use lib.ListN.{getD}
 use lib.Signed.{mag}
 use borrow.Author.Tests.{ltb-true, ltb-false}
-use Rattle.numbers.specs.Double.{doubleOf}
 use Rattle.rooms.specs.declared.value.Value.{Value}
 use Rattle.rooms.specs.declared.value.Value.the-variants as Value
 use Rattle.rooms.specs.declared.value.TextSpace.{TextSpace}
 use Rattle.rooms.specs.declared.value.CellSpace.{CellSpace}
 use Rattle.rooms.specs.declared.value.CellSpace.the-variants as Cells
-use Rattle.rooms.specs.Value.{doubleValue}
 use Rattle.rooms.specs.Cells.{Fits, signedOf, textPlace, cellPlace, bareOf, textOf, containerOf, valueOf, cellOf, hasCell, cellIn}
 use Rattle.rooms.specs.Rooms.{Rooms, cellAt}
 use Rattle.machine.specs.Refines.{FitCells}

@@ -1,6 +1,6 @@
 -- The turns of the append path refine its rule. Rests on Gathering. Assumes nothing.
-use Prim.Native.Nat.{ℕ, zero, suc, _+_, _*_, _≤_, _<_}
-use mathlib.Core.Path.{_≡_, refl, sym, ap, _∙_, subst}
+use Prim.Native.Nat.{ℕ, _+_, _≤_, _<_}
+use mathlib.Core.Path.{refl, sym, subst}
 use mathlib.Core.List.{List, [], _∷_}
 use mathlib.Core.Option.{Option, none, some}
 use mathlib.Core.Bool.{Bool, true, false}
@@ -11,21 +11,20 @@ use Rattle.meaning.specs.Errors.{UnexpectedType, aBool}
 use Rattle.meaning.specs.Value as Meaning
 use Rattle.meaning.specs.Value.{Values, list, join}
 use Rattle.meaning.specs.Expr.{LogicalFold}
-use Rattle.meaning.specs.Run.{Charge, cells, Result, value, error, Raised, byRule, Eval, Rule, charged, onValue, _>>=_, operand, tryBool, choose, built}
+use Rattle.meaning.specs.Run.{cells, error, byRule, Eval, Rule, charged, onValue, _>>=_, tryBool, choose, built}
 use Rattle.meaning.specs.Logic.{raisedError}
 use Rattle.meaning.specs.Comprehension as Rules
-use Rattle.meaning.specs.Comprehension.{Scope, store, itemsOf, Comprehension, appendItems, appendTurn, appendLoop}
+use Rattle.meaning.specs.Comprehension.{Scope, store, Comprehension, appendItems, appendTurn, appendLoop}
 use Rattle.rooms.specs.declared.value.Value.{Value}
 use Rattle.rooms.specs.declared.value.CellSpace.{CellSpace}
 use Rattle.rooms.specs.declared.scope.Scope as Code
 use Rattle.rooms.specs.Value.{partsOf}
 use Rattle.rooms.specs.Rooms.{Rooms, cellAt}
 use Rattle.rooms.specs.Scope.{stored}
-use Rattle.rooms.specs.Stands.{Alive, Holds, Agrees}
+use Rattle.rooms.specs.Stands.{Alive, Agrees}
 use Rattle.machine.specs.declared.outcome.Used.{Used}
 use Rattle.machine.specs.declared.outcome.Outcome.the-variants as Outcome
-use Rattle.machine.specs.Outcomes.{Res, Does, withValue}
-use Rattle.machine.specs.Views.{boolIn}
+use Rattle.machine.specs.Outcomes.{Res, Does}
 use Rattle.machine.specs.Logic.{branch}
 use Rattle.machine.specs.Comprehension as Machine
 use Rattle.machine.specs.Comprehension.{asks, Gathered, gatherParts, gathered, guarded, appendTurns}

@@ -1,16 +1,14 @@
 -- Arithmetic, unary `-`, and `+` on texts and lists refine their rules. Rests on Numbers and Building. Assumes nothing.
-use Prim.Native.Nat.{ℕ, zero, suc, _+_, _-_, _^_, _≤_, _<_, max}
-use mathlib.Core.Path.{_≡_, refl, sym, ap, ap₂, _∙_, subst, fun-ext}
-use mathlib.Core.List.{List, [], _∷_, _++_}
+use Prim.Native.Nat.{ℕ, suc, _^_, _≤_, _<_, max}
+use mathlib.Core.Path.{_≡_, refl, sym, ap, _∙_, subst, fun-ext}
+use mathlib.Core.List.{List, _++_}
 use mathlib.Core.Option.{Option, none, some, bind}
-use mathlib.Core.Bool.{Bool, true, false, cond}
+use mathlib.Core.Bool.{true}
 use native.Mathlib.Omega.{arith}
-use lib.IntN.{ℤ, pos, negsuc}
+use lib.IntN.{ℤ}
 use lib.Signed.{mag}
 use lib.ListN.{length}
-use borrow.Author.Tests.{ltb-true}
 use Rattle.numbers.specs.declared.double.Double.{Double}
-use Rattle.numbers.specs.declared.double.Double.the-variants as Bits
 use Rattle.numbers.specs.declared.int.IntAnswer.{IntAnswer}
 use Rattle.numbers.specs.declared.int.IntAnswer.the-variants as IntAnswer
 use Rattle.numbers.specs.declared.uint.UintAnswer.{UintAnswer}
@@ -22,42 +20,32 @@ use Rattle.numbers.specs.Int as Int
 use Rattle.numbers.specs.Double as Doubles
 use Rattle.numbers.specs.Double.{bitsOf, doubleOf}
 use Rattle.numbers.proofs.IntLaws.{in-range}
-use Rattle.numbers.proofs.DoubleLaws.{bits-back}
 use Rattle.meaning.specs.Limits.{Counts, deepestValue}
 use Rattle.meaning.specs.Errors.{NoOverload, Arithmetic}
 use Rattle.meaning.specs.Value as Meaning
 use Rattle.meaning.specs.Value.{null, bool, int, uint, double, string, bytes, Values, scalar, list, map, optionalNone, optionalOf, scalarOf, elementsOf, stringIn, nesting, nestingIn, count, join}
 use Rattle.meaning.specs.Expr.{Arith, add, sub, div, mul, rem}
-use Rattle.meaning.specs.Run.{value, Rule, pure, charged, after, onValue, _>>=_, fail, orFail, built}
-use Rattle.meaning.specs.Numbers as Rules
+use Rattle.meaning.specs.Run.{Rule, pure, charged, after, onValue, _>>=_, fail, orFail, built}
 use Rattle.meaning.specs.Numbers.{intIn, uintIn, doubleIn, bytesIn, intArith, intRule, uintArith, uintRule, doubleArith, onlyAdd, builtText, scalarArith, arithRule, scalarNegate, negateRule}
 use Rattle.meaning.specs.Comprehension as Comprehension
-use Rattle.laws.proofs.SoundNumbers.{IntInRange, int-in-range, negated-in-range, UintInRange, uint-in-range, DoubleInRange, double-in-range, negated-double-in-range}
+use Rattle.laws.proofs.SoundNumbers.{IntInRange, int-in-range, negated-in-range, UintInRange, uint-in-range, double-in-range, negated-double-in-range}
 use Rattle.rooms.specs.declared.value.Value.{Value}
 use Rattle.rooms.specs.declared.value.Value.the-variants as Value
 use Rattle.rooms.specs.declared.value.TextSpace.{TextSpace}
 use Rattle.rooms.specs.declared.value.TextSpace.the-variants as Text
 use Rattle.rooms.specs.declared.value.CellSpace.{CellSpace}
-use Rattle.rooms.specs.declared.value.Plain.{Plain}
-use Rattle.rooms.specs.declared.value.Plain.the-variants as Plain
-use Rattle.rooms.specs.declared.value.Parts.{Parts}
-use Rattle.rooms.specs.declared.value.Parts.the-variants as Parts
 use Rattle.rooms.specs.declared.scope.Scope.{Scope}
 use Rattle.rooms.specs.Value.{plainOf, partsOf, nestingOf, doubleValue}
-use Rattle.rooms.specs.Cells.{wordOf, Fits}
+use Rattle.rooms.specs.Cells.{Fits}
 use Rattle.rooms.specs.Rooms.{Rooms}
 use Rattle.rooms.specs.Stands.{Alive, TextAt, StandsScalar, Stands, StandsCells, Holds}
 use Rattle.machine.specs.declared.outcome.Used.{Used}
-use Rattle.machine.specs.declared.outcome.Outcome.{Outcome}
-use Rattle.machine.specs.declared.outcome.Outcome.the-variants as Outcome
 use Rattle.machine.specs.Outcomes.{Res, noOverload}
 use Rattle.machine.specs.Numbers as Machine
-use Rattle.machine.specs.Numbers.{intOut, uintOut, doubleOut, doublesOut, numberArith, negatePlain, textSum, stringSum, bytesSum, bothLists, listSum, partsArith, plainArith, arithmetic}
+use Rattle.machine.specs.Numbers.{intOut, uintOut, doubleOut, doublesOut, numberArith, negatePlain, textSum, stringSum, bytesSum, bothLists, listSum, plainArith, arithmetic}
 use Rattle.machine.specs.Refines.{usedOf, Start}
-use Rattle.machine.proofs.Words.{bits-fit}
 use Rattle.machine.proofs.Match.{Says, value-now, error-now}
-use Rattle.machine.proofs.Seen.{scalar-parts}
-use Rattle.machine.proofs.Numbers.{small, held-int, held-uint, held-double, twice, never, intPlain, uintPlain, doublePlain, stringPlain, bytesPlain, plain-double, int-view, uint-view, DoubleView, double-view, TextView, string-text, bytes-text, ListView, list-view, intOr, number-int, uintOr, number-uint, doubleOr, number-double, textOr, string-sum, bytes-sum}
+use Rattle.machine.proofs.Numbers.{small, held-int, held-uint, held-double, twice, never, doublePlain, stringPlain, bytesPlain, plain-double, int-view, uint-view, DoubleView, double-view, TextView, string-text, bytes-text, ListView, list-view, intOr, number-int, uintOr, number-uint, doubleOr, number-double, textOr, string-sum, bytes-sum}
 use Rattle.machine.proofs.Building.{Spelling, lists-say, texts-say, string-spelling, bytes-spelling}
 use Rattle.rooms.proofs.Depths.{stands-nesting}
 

@@ -1,18 +1,16 @@
 -- New values that are built at once: a present Optional, a list, a text. Rests on Charges, Taking, Texts. Assumes nothing.
-use Prim.Native.Nat.{ℕ, zero, suc, _+_, _*_, _/_, _^_, _≤_, _<_, min, max}
+use Prim.Native.Nat.{ℕ, suc, _+_, _^_, _≤_, _<_, max}
 use mathlib.Core.Path.{_≡_, refl, sym, ap, ap₂, _∙_, subst}
-use mathlib.Core.Logic.{_⊎_, inl, inr}
+use mathlib.Core.Logic.{inr}
 use mathlib.Core.List.{List, [], _∷_, _++_, append-nil}
-use mathlib.Core.Bool.{Bool, true, false, cond}
 use native.Mathlib.Omega.{arith}
 use native.Mathlib.Numerals.{add-one}
-use lib.Dec.{ltb, leb}
 use lib.ListN.{length, length-append}
 use borrow.Author.Tests.{lt-ltb}
-use Rattle.meaning.specs.Limits.{Counts, deepestValue, mostCells, mostBytes}
+use Rattle.meaning.specs.Limits.{Counts, deepestValue}
 use Rattle.meaning.specs.Value as Meaning
 use Rattle.meaning.specs.Value.{Scalar, string, bytes, Values, nil, cons, scalar, list, optionalOf, nesting, nestingIn, count, join}
-use Rattle.meaning.specs.Run.{Charge, cells, text, nest, Trace, value, Rule, pure, charged, placed, built}
+use Rattle.meaning.specs.Run.{cells, text, nest, value, pure, charged, placed, built}
 use Rattle.meaning.specs.Optionals.{optionalOfRule}
 use Rattle.meaning.specs.Numbers.{builtText}
 use Rattle.meaning.specs.Comprehension as Comprehension
@@ -28,17 +26,15 @@ use Rattle.rooms.specs.Value.{nestingOf}
 use Rattle.rooms.specs.Cells.{settled, Fits}
 use Rattle.rooms.specs.Rooms.{Rooms, cellAt, part}
 use Rattle.rooms.specs.Stands.{Alive, TextAt, StandsScalar, Stands, StandsCells, Agrees, Holds}
-use Rattle.rooms.specs.Building.{cellRoom, textRoom, takenOf}
 use Rattle.rooms.proofs.Frame.{frame, frame-cells}
 use Rattle.rooms.proofs.Built.{settled-stands}
-use Rattle.machine.specs.declared.outcome.Limit.the-variants as Limit
 use Rattle.machine.specs.declared.outcome.Outcome.{Outcome}
 use Rattle.machine.specs.declared.outcome.Outcome.the-variants as Outcome
-use Rattle.machine.specs.Outcomes.{Res, withCells, withBytes, withText, written, onTaken, taking, whole, present}
+use Rattle.machine.specs.Outcomes.{withText, written, whole, present}
 use Rattle.machine.specs.Numbers.{bothTexts, textSum, bothLists}
-use Rattle.machine.specs.Refines.{usedOf, FitCells, Below, Live, Roomy, Keeps, Logged, Matches, Start}
+use Rattle.machine.specs.Refines.{usedOf, FitCells, Below, Live, Roomy, Keeps, Matches, Start}
 use Rattle.machine.proofs.Words.{store-same, store-keeps}
-use Rattle.machine.proofs.Keeping.{agrees-narrow, keeps-both, keeps-then, keeps-lower, keeps-agrees, roomy-same, agrees-sub, agrees-then, live-below, live-sub}
+use Rattle.machine.proofs.Keeping.{agrees-narrow, keeps-both, keeps-then, keeps-agrees, roomy-same, agrees-sub, live-below, live-sub}
 use Rattle.machine.proofs.Taking.{took, upto-took, taken, taken-keeps, copiedTo, copy-keeps, copy-stands}
 use Rattle.machine.proofs.Texts.{both-keep, both-spell}
 use Rattle.machine.proofs.Traces.{count-join, nesting-join, stands-join}

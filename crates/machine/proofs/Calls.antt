@@ -1,8 +1,8 @@
 -- size and the functions on Optionals refine their rules. Rests on Selecting, Building, Numbers. Assumes nothing.
-use Prim.Native.Nat.{ℕ, zero, suc, _+_, _^_, _≤_, _<_}
-use mathlib.Core.Path.{_≡_, refl, sym, ap, ap₂, _∙_, subst}
-use mathlib.Core.List.{List, [], _∷_}
-use mathlib.Core.Bool.{Bool, true, false}
+use Prim.Native.Nat.{ℕ, _^_, _<_}
+use mathlib.Core.Path.{_≡_, refl, sym, subst}
+use mathlib.Core.List.{List}
+use mathlib.Core.Bool.{true, false}
 use native.Mathlib.Omega.{arith}
 use lib.IntN.{pos}
 use lib.ListN.{length}
@@ -13,9 +13,9 @@ use Rattle.text.proofs.Utf8Laws.{code-points-length}
 use Rattle.meaning.specs.Limits.{Counts}
 use Rattle.meaning.specs.Errors.{NoOverload, FunctionError}
 use Rattle.meaning.specs.Value as Meaning
-use Rattle.meaning.specs.Value.{null, bool, int, uint, double, string, bytes, scalar, list, map, optionalNone, optionalOf, nesting, count, countEntries}
+use Rattle.meaning.specs.Value.{null, bool, int, uint, double, string, bytes, scalar, list, map, optionalNone, optionalOf, count, countEntries}
 use Rattle.meaning.specs.Expr.{Function, sizeCall, ofCall, hasValueCall, valueCall}
-use Rattle.meaning.specs.Run.{Result, value, error, Eval, Rule, pure, _>>=_, onValue, operand, fail, truth}
+use Rattle.meaning.specs.Run.{Eval, pure, fail, truth}
 use Rattle.meaning.specs.Optionals.{Unwrapped, NotOptional, Some, None, unwrapOptional, hasValueRule, valueRule, orValueRule}
 use Rattle.meaning.specs.Calls.{counted, scalarSize, sizeRule, callRule, orValueCall}
 use Rattle.meaning.specs.Comprehension as Comprehension
@@ -26,12 +26,10 @@ use Rattle.comparing.specs.declared.sizes.Size.the-variants as Size
 use Rattle.rooms.specs.declared.scope.Scope.{Scope}
 use Rattle.rooms.specs.Value.{doubleValue}
 use Rattle.rooms.specs.Rooms.{Rooms, cellAt}
-use Rattle.rooms.specs.Stands.{Alive, StandsScalar, Stands, Agrees, Holds}
+use Rattle.rooms.specs.Stands.{Alive, StandsScalar, Stands, Holds}
 use Rattle.comparing.specs.Sizes.{sizeOf}
-use Rattle.machine.specs.declared.outcome.Outcome.the-variants as Outcome
-use Rattle.machine.specs.declared.outcome.Error.the-variants as Error
-use Rattle.machine.specs.Outcomes.{Res, Does, truthOut, noOverload, withValue}
-use Rattle.machine.specs.Views.{Optional, notOptional, nonePresent, optionalIn}
+use Rattle.machine.specs.Outcomes.{Does}
+use Rattle.machine.specs.Views.{optionalIn}
 use Rattle.machine.specs.Calls.{sizeOut, hasValueOut, valueOut, orValueOut, called}
 use Rattle.machine.specs.Machine.{orValueDoes}
 use Rattle.machine.specs.Refines.{usedOf, Start, Refines}

@@ -1,41 +1,34 @@
 -- Charges met: a record's step, cells, text, pairs of values, the nesting of a new value. Rests on Match, Taking. Assumes nothing.
-use Prim.Native.Nat.{ℕ, zero, suc, _+_, _≤_, _<_, _^_}
-use mathlib.Core.Path.{_≡_, refl, sym, ap, ap₂, _∙_, subst}
-use mathlib.Core.Logic.{_⊎_, inl, inr}
-use mathlib.Core.List.{List, [], _∷_, _++_, append-nil}
+use Prim.Native.Nat.{ℕ, suc, _+_, _≤_, _<_}
+use mathlib.Core.Path.{_≡_, refl, sym, ap, subst}
+use mathlib.Core.Logic.{_⊎_}
+use mathlib.Core.List.{List, [], _∷_}
 use mathlib.Core.Bool.{Bool, true, false, cond}
 use native.Mathlib.Omega.{arith}
 use native.Mathlib.Numerals.{add-one}
-use lib.Dec.{leb, ltb}
-use lib.ListN.{length, take, drop, replicate}
+use lib.Dec.{leb}
+use lib.ListN.{length}
 use borrow.Author.Tests.{leb-true, leb-false}
 use Rattle.meaning.specs.Limits.{Counts, deepestValue}
 use Rattle.meaning.specs.Value as Meaning
-use Rattle.meaning.specs.Value.{Values, count, nesting, join}
-use Rattle.meaning.specs.Run.{Charge, step, cells, text, nest, Trace, Result, value, error, Eval, Rule, pure, charged, after, onValue, _>>=_, placed, here, begin}
+use Rattle.meaning.specs.Value.{Values, count, nesting}
+use Rattle.meaning.specs.Run.{step, cells, text, nest, Trace, value, error, Rule, charged, placed, here, begin}
 use Rattle.meaning.specs.Comprehension as Comprehension
-use Rattle.meaning.specs.Comparison.{Tally, compared}
 use Rattle.meaning.specs.Limited as Limited
 use Rattle.meaning.specs.Limited.{spend, onward, make, ended, outcome, cellsBuilt, textBuilt, charge, fits, through, stopped}
 use Rattle.rooms.specs.declared.value.Value.{Value}
 use Rattle.rooms.specs.declared.value.CellSpace.the-variants as Cells
 use Rattle.rooms.specs.declared.building.Taken.the-variants as Taken
-use Rattle.comparing.specs.declared.equality.Pairs.{Pairs}
-use Rattle.comparing.specs.declared.equality.Pairs.the-variants as Pairs
-use Rattle.comparing.specs.declared.lookup.Found.{Found}
-use Rattle.comparing.specs.declared.lookup.Found.the-variants as Found
 use Rattle.rooms.specs.declared.scope.Scope.{Scope}
 use Rattle.rooms.specs.Rooms.{Rooms, part}
 use Rattle.rooms.specs.Stands.{Alive, Stands, StandsCells, Holds}
 use Rattle.rooms.specs.Building.{cellRoom, textRoom, takenOf, cellsTaken}
-use Rattle.comparing.specs.Equality.{pays, paysFound, pair, pairFound, decided}
-use Rattle.comparing.specs.Equality as Equality
 use Rattle.rooms.proofs.BuildingSteps.{cells-kept}
 use Rattle.machine.specs.declared.outcome.Used.{Used}
 use Rattle.machine.specs.declared.outcome.Limit.the-variants as Limit
 use Rattle.machine.specs.declared.outcome.Outcome.{Outcome}
 use Rattle.machine.specs.declared.outcome.Outcome.the-variants as Outcome
-use Rattle.machine.specs.Outcomes.{Res, Does, stepped, withSteps, withCells, withBytes, withWords, afterStep, recorded, onTaken, taking, whole}
+use Rattle.machine.specs.Outcomes.{Res, Does, withCells, withWords, afterStep, recorded, onTaken, taking, whole}
 use Rattle.machine.specs.Refines.{usedOf, from, countsOf, Live, Roomy, Keeps, Logged, Good, Matches, Start, Meets}
 use Rattle.machine.proofs.Keeping.{upto-same, keeps-same, keeps-steps}
 use Rattle.machine.proofs.Taking.{took, taken}

@@ -1,9 +1,9 @@
 -- `==`, `!=`, the order and operators of two operands refine their rules. Rests on Steps, Operands, and the crate rooms. Assumes nothing.
-use Prim.Native.Nat.{ℕ, zero, suc, _+_}
+use Prim.Native.Nat.{ℕ}
 use mathlib.Core.Path.{_≡_, refl, sym, ap, ap₂, _∙_, subst}
-use mathlib.Core.List.{List, [], _∷_}
-use mathlib.Core.Option.{Option, none, some, bind}
-use mathlib.Core.Bool.{Bool, true, false, cond, Bool·beq}
+use mathlib.Core.List.{List}
+use mathlib.Core.Option.{Option, none, some}
+use mathlib.Core.Bool.{Bool, Bool·beq}
 use Rattle.numbers.specs.declared.order.Order.{Order}
 use Rattle.numbers.specs.declared.order.Order.the-variants as Order
 use Rattle.meaning.specs.Limits.{Counts}
@@ -11,22 +11,19 @@ use Rattle.meaning.specs.Errors.{NoOverload, Unordered}
 use Rattle.meaning.specs.Value as Meaning
 use Rattle.meaning.specs.Value.{Scalar, scalar, list, map, optionalNone, optionalOf, scalarOf}
 use Rattle.meaning.specs.Expr.{Comparison}
-use Rattle.meaning.specs.Run.{Result, value, error, Raised, Eval, Rule, pure, charged, after, onValue, _>>=_, fail, orFail, operand, truth}
+use Rattle.meaning.specs.Run.{Eval, Rule, pure, charged, after, onValue, _>>=_, fail, orFail, operand, truth}
 use Rattle.meaning.specs.Comparison.{rank, scalarOrder, holds, ordered, compareValues, compareRule, equal, equalRule}
 use Rattle.meaning.specs.Comprehension as Comprehension
 use Rattle.meaning.specs.Meaning.{ofTwo}
 use Rattle.rooms.specs.declared.value.Value.{Value}
-use Rattle.comparing.specs.declared.order.Compared.{Compared}
 use Rattle.rooms.specs.declared.scope.Scope.{Scope}
 use Rattle.rooms.specs.Rooms.{Rooms}
-use Rattle.rooms.specs.Stands.{Alive, Stands, Agrees, Holds}
+use Rattle.rooms.specs.Stands.{Alive, Stands, Holds}
 use Rattle.comparing.specs.Equality.{Seen, seenScalar, seenNone, seenOther, seenIn}
 use Rattle.comparing.specs.Order.{orderSeen, comparedOf}
 use Rattle.comparing.proofs.EqualMeaning.{equal-pairs}
 use Rattle.machine.specs.declared.outcome.Used.{Used}
-use Rattle.machine.specs.declared.outcome.Outcome.{Outcome}
-use Rattle.machine.specs.declared.outcome.Outcome.the-variants as Outcome
-use Rattle.machine.specs.Outcomes.{Res, Does, truthOut, noOverload, withValue}
+use Rattle.machine.specs.Outcomes.{Res, Does, truthOut, withValue}
 use Rattle.machine.specs.Comparison.{equalOut, comparedOut, compareOut}
 use Rattle.machine.specs.Machine.{wantsValue, onLeft, both}
 use Rattle.machine.specs.Refines.{usedOf, Start, Refines}

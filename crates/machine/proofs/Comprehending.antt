@@ -1,18 +1,18 @@
 -- A comprehension refines its rule, from its parts. Rests on Turns, Appending. Assumes nothing.
-use Prim.Native.Nat.{ℕ, zero, suc, _+_, _≤_, _<_}
+use Prim.Native.Nat.{ℕ, suc, _<_}
 use mathlib.Core.Path.{_≡_, refl, sym, ap, _∙_, subst}
-use mathlib.Core.List.{List, [], _∷_}
+use mathlib.Core.List.{List}
 use mathlib.Core.Option.{Option, none, some}
 use mathlib.Core.Bool.{Bool, true, false}
 use native.Mathlib.Omega.{arith}
-use lib.Dec.{eqb, eqb·suc-zero}
+use lib.Dec.{eqb·suc-zero}
 use lib.ListN.{length}
-use Rattle.meaning.specs.Limits.{Counts, deepestValue, names}
+use Rattle.meaning.specs.Limits.{Counts, names}
 use Rattle.meaning.specs.Errors.{UnexpectedType, anIterable}
 use Rattle.meaning.specs.Value as Meaning
-use Rattle.meaning.specs.Value.{Values, nil, cons, Entries, empty, entry, scalar, list, map, optionalNone, optionalOf, nesting, nestingIn, count, countEntries, valueList}
+use Rattle.meaning.specs.Value.{Values, nil, cons, Entries, empty, entry, scalar, list, map, optionalNone, optionalOf, nesting, count, countEntries, valueList}
 use Rattle.meaning.specs.Expr.{LogicalFold}
-use Rattle.meaning.specs.Run.{Result, value, error, Eval, Rule, pure, charged, after, onValue, _>>=_, fail, orFail, operand, choose}
+use Rattle.meaning.specs.Run.{Eval, pure, charged, after, onValue, _>>=_, fail, orFail, choose}
 use Rattle.meaning.specs.Comprehension as Rules
 use Rattle.meaning.specs.Comprehension.{Scope, store, keyList, itemsOf, Comprehension, isEmptyList, loop, appendLoop, loopFrom, comprehensionRule}
 use Rattle.rooms.specs.declared.value.Value.{Value}
@@ -21,16 +21,16 @@ use Rattle.rooms.specs.declared.scope.Scope as Code
 use Rattle.rooms.specs.Value.{partsOf}
 use Rattle.rooms.specs.Rooms.{Rooms}
 use Rattle.rooms.specs.Scope.{stored}
-use Rattle.rooms.specs.Stands.{Alive, Stands, Holds, Agrees}
+use Rattle.rooms.specs.Stands.{Alive, Stands, Holds}
 use Rattle.rooms.proofs.Frame.{holds-frame}
-use Rattle.machine.specs.Outcomes.{Res, Does}
+use Rattle.machine.specs.Outcomes.{Does}
 use Rattle.machine.specs.Comprehension as Machine
-use Rattle.machine.specs.Comprehension.{Loop, Items, itemsParts, onItems, emptyParts, appends, turns, appendTurns, nothingGathered, comprehends}
+use Rattle.machine.specs.Comprehension.{Loop, Items, itemsParts, onItems, emptyParts, appends, turns, nothingGathered, comprehends}
 use Rattle.machine.specs.Refines.{usedOf, Start, Refines}
 use Rattle.machine.proofs.Match.{Says, error-now}
 use Rattle.machine.proofs.Operands.{value-of}
 use Rattle.machine.proofs.Seen.{scalar-parts}
-use Rattle.machine.proofs.Turns.{ItemsAt, list-items, map-items, stores, looping, meant, turns-ok}
+use Rattle.machine.proofs.Turns.{ItemsAt, list-items, map-items, stores, turns-ok}
 use Rattle.machine.proofs.Gathering.{ItemsOk, gathers-nothing}
 use Rattle.machine.proofs.Appending.{GuardOk, append-ok}
 

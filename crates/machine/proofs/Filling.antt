@@ -1,22 +1,18 @@
 -- A container being filled: its cells are taken as its record begins; those that are ready stand for values, the others are Null and are
 -- reached by nothing alive. What runs, is stored or counted meanwhile. Rests on Charges, Words. Assumes nothing.
-use Prim.Native.Nat.{ℕ, zero, suc, _+_, _-_, _*_, _/_, _≤_, _<_, min, max}
+use Prim.Native.Nat.{ℕ, zero, suc, _+_, _-_, _/_, _≤_, _<_, min}
 use mathlib.Core.Path.{_≡_, refl, sym, ap, ap₂, _∙_, subst}
 use mathlib.Core.Logic.{_⊎_, inl, inr}
-use mathlib.Core.List.{List, [], _∷_, _++_, append-assoc, append-nil}
-use mathlib.Core.Bool.{Bool, true, false, cond}
+use mathlib.Core.List.{List, [], _∷_, _++_}
 use native.Mathlib.Omega.{arith}
-use lib.ListN.{length, take, length-append}
+use lib.ListN.{length, length-append}
 use Rattle.meaning.specs.Limits.{Counts, mostCells}
-use Rattle.meaning.specs.Errors.{ErrorAt}
 use Rattle.meaning.specs.Value as Meaning
-use Rattle.meaning.specs.Value.{null, Values, nil, cons, scalar, count, join}
-use Rattle.meaning.specs.Run.{Charge, step, cells, text, nest, Trace, Result, value, error, Raised, byRule, byOperand, Run, Eval, Rule, pure, charged, after, onValue, fromOperand, operand, placed}
-use Rattle.meaning.specs.Containers.{Making, readyIn, pad}
-use Rattle.meaning.specs.Logic.{raisedError}
+use Rattle.meaning.specs.Value.{Values, nil, cons, count, join}
+use Rattle.meaning.specs.Run.{cells, text, Trace, value, charged, operand}
+use Rattle.meaning.specs.Containers.{pad}
 use Rattle.meaning.specs.Comprehension as Comprehension
-use Rattle.meaning.specs.Limited as Limited
-use Rattle.meaning.specs.Limited.{Spent, through, stopped, onward, spend, ended, outcome, cellsBuilt, textBuilt}
+use Rattle.meaning.specs.Limited.{cellsBuilt, textBuilt}
 use Rattle.rooms.specs.declared.value.Value.{Value}
 use Rattle.rooms.specs.declared.value.Value.the-variants as Value
 use Rattle.rooms.specs.declared.value.CellSpace.{CellSpace}
@@ -24,18 +20,16 @@ use Rattle.rooms.specs.declared.value.CellSpace.the-variants as Cells
 use Rattle.rooms.specs.declared.scope.Scope.{Scope}
 use Rattle.rooms.specs.Cells.{settled, Fits}
 use Rattle.rooms.specs.Rooms.{Rooms, cellAt, part}
-use Rattle.rooms.specs.Stands.{Alive, StandsScalar, Stands, StandsCells, Agrees, Holds}
+use Rattle.rooms.specs.Stands.{Alive, StandsScalar, Stands, StandsCells, Agrees}
 use Rattle.rooms.proofs.Built.{settled-stands}
-use Rattle.rooms.proofs.Frame.{frame, frame-cells, part-same, holds-frame}
-use Rattle.machine.specs.declared.outcome.Outcome.{Outcome}
-use Rattle.machine.specs.declared.outcome.Outcome.the-variants as Outcome
-use Rattle.machine.specs.Outcomes.{Res, Does, written}
-use Rattle.machine.specs.Refines.{usedOf, errorOf, limitOf, countsOf, Live, Upto, Roomy, Keeps, Logged, Matches, Below, Start, Refines}
+use Rattle.rooms.proofs.Frame.{frame, frame-cells, part-same}
+use Rattle.machine.specs.Outcomes.{written}
+use Rattle.machine.specs.Refines.{Live, Upto, Roomy, Keeps, Logged, Start}
 use Rattle.machine.proofs.Words.{low-cell, store-same, store-other, store-keeps}
-use Rattle.machine.proofs.Keeping.{upto-same, upto-then, keeps-same, keeps-lower, keeps-higher, keeps-both, keeps-back, keeps-roomy, keeps-agrees, roomy-same, agrees-sub, agrees-narrow, agrees-then}
-use Rattle.machine.proofs.Traces.{count-join, join-nil, join-assoc, stands-join, spend-append, from-grows, cells-append, text-append, part-add}
-use Rattle.machine.proofs.Match.{raisedPlace, operand-here, move, HandsOut}
-use Rattle.machine.proofs.Charges.{walked, relog, start-walked}
+use Rattle.machine.proofs.Keeping.{upto-same, upto-then, keeps-agrees, roomy-same, agrees-sub, agrees-narrow}
+use Rattle.machine.proofs.Traces.{count-join, stands-join, cells-append, text-append, part-add}
+use Rattle.machine.proofs.Match.{move}
+use Rattle.machine.proofs.Charges.{walked, start-walked}
 use Rattle.machine.proofs.Taking as Taking
 use Rattle.machine.proofs.Taking.{took, taken-keeps, taken-null}
 use Rattle.rooms.proofs.Scopes.{scope-frame}

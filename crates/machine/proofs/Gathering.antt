@@ -1,51 +1,42 @@
 -- The append path of a comprehension refines its rule. Rests on Runs, Turns, Building. Assumes nothing.
-use Prim.Native.Nat.{ℕ, zero, suc, _+_, _*_, _≤_, _<_, max}
-use mathlib.Core.Path.{_≡_, refl, sym, ap, ap₂, _∙_, subst}
+use Prim.Native.Nat.{ℕ, suc, _+_, _*_, _≤_, _<_, max}
+use mathlib.Core.Path.{_≡_, refl, sym, ap, _∙_, subst}
 use mathlib.Core.List.{List, [], _∷_, _++_}
-use mathlib.Core.Option.{Option, none, some}
-use mathlib.Core.Bool.{Bool, true, false, cond}
+use mathlib.Core.Option.{none}
+use mathlib.Core.Bool.{Bool, true, false}
 use native.Mathlib.Omega.{arith}
 use lib.Dec.{eqb}
-use lib.ListN.{length, set, replicate, length-append, length-set, length-replicate}
+use lib.ListN.{length, set, length-append, length-set, length-replicate}
 use borrow.Author.Tests.{eqb-true, eqb-false}
-use Rattle.meaning.specs.Limits.{Counts, deepestValue, names}
-use Rattle.meaning.specs.Errors.{UnexpectedType, aBool}
+use Rattle.meaning.specs.Limits.{Counts, deepestValue}
 use Rattle.meaning.specs.Value as Meaning
 use Rattle.meaning.specs.Value.{Values, nil, cons, scalar, list, map, optionalNone, optionalOf, nesting, nestingIn, count, join}
-use Rattle.meaning.specs.Run.{Charge, cells, nest, Trace, Result, value, error, Raised, byRule, byOperand, Eval, Rule, pure, charged, after, onValue, _>>=_, fromOperand, operand, placed, tryBool, choose, built}
-use Rattle.meaning.specs.Logic.{raisedError}
-use Rattle.meaning.specs.Comprehension as Rules
-use Rattle.meaning.specs.Comprehension.{Scope, store, Comprehension, Gathering, appendItems, appendTurn, appendLoop}
+use Rattle.meaning.specs.Run.{cells, nest, Result, value, error, Eval, Rule, pure, charged, onValue, _>>=_, fromOperand, operand, placed, built}
+use Rattle.meaning.specs.Comprehension.{Scope, Gathering}
 use Rattle.meaning.specs.Limited.{spend, outcome, cellsBuilt, textBuilt}
 use Rattle.rooms.specs.declared.value.Value.{Value}
 use Rattle.rooms.specs.declared.value.Value.the-variants as Value
 use Rattle.rooms.specs.declared.value.CellSpace.{CellSpace}
 use Rattle.rooms.specs.declared.value.CellSpace.the-variants as Cells
-use Rattle.rooms.specs.declared.value.Parts.{Parts}
-use Rattle.rooms.specs.declared.value.Parts.the-variants as Parts
 use Rattle.rooms.specs.declared.scope.Scope as Code
-use Rattle.rooms.specs.Value.{partsOf, nestingOf}
-use Rattle.rooms.specs.Rooms.{Rooms, cellAt}
-use Rattle.rooms.specs.Scope.{stored}
+use Rattle.rooms.specs.Value.{partsOf}
+use Rattle.rooms.specs.Rooms.{Rooms}
 use Rattle.rooms.specs.Stands.{Alive, Stands, StandsCells, Holds, Agrees}
 use Rattle.rooms.proofs.Frame.{frame-cells}
 use Rattle.machine.specs.declared.outcome.Used.{Used}
 use Rattle.machine.specs.declared.outcome.Outcome.{Outcome}
 use Rattle.machine.specs.declared.outcome.Outcome.the-variants as Outcome
-use Rattle.machine.specs.Outcomes.{Res, Does, withWords, withValue, taking}
-use Rattle.machine.specs.Views.{boolIn}
-use Rattle.machine.specs.Logic.{branch}
+use Rattle.machine.specs.Outcomes.{Res, Does, withValue}
 use Rattle.machine.specs.Comprehension as Machine
-use Rattle.machine.specs.Comprehension.{Loop, asks, Gathered, nothingGathered, addRun, gatherParts, gathered, guarded, appendTurns, mostRuns}
-use Rattle.machine.specs.Refines.{usedOf, errorOf, FitCells, Live, Upto, Roomy, Keeps, Logged, Matches, Below, Start, Refines}
-use Rattle.machine.proofs.Keeping.{keeps-both, keeps-agrees, agrees-narrow, agrees-then, roomy-same}
+use Rattle.machine.specs.Comprehension.{Gathered, nothingGathered, addRun, gatherParts, gathered, mostRuns}
+use Rattle.machine.specs.Refines.{usedOf, Live, Roomy, Keeps, Logged, Matches, Start, Refines}
+use Rattle.machine.proofs.Keeping.{keeps-both, keeps-agrees, agrees-narrow, roomy-same}
 use Rattle.machine.proofs.Taking.{took, taken, taken-keeps, copiedTo, copy-keeps, copy-stands}
 use Rattle.machine.proofs.Traces.{count-join, join-nil, nesting-join}
-use Rattle.machine.proofs.Match.{raisedPlace, Says, weaken, move, raises, HandsOut, then-built}
+use Rattle.machine.proofs.Match.{Says, weaken, move, raises, then-built}
 use Rattle.machine.proofs.Charges.{takes}
-use Rattle.machine.proofs.Operands.{operand-says, try-bool}
+use Rattle.machine.proofs.Operands.{operand-says}
 use Rattle.machine.proofs.Building.{list-end}
-use Rattle.machine.proofs.Turns.{ItemsAt, items-frame, stores}
 use Rattle.machine.proofs.Runs.{flat, flat-snoc, RunsAt, runs-frame, runs-snoc, runsTo, RunsDone, runs-done}
 
 -- what was gathered so far

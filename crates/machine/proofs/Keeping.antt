@@ -1,17 +1,16 @@
 -- Runs one after the other keep what both keep; what is alive below the counts is the same after a run. Rests on Words. Assumes nothing.
-use Prim.Native.Nat.{ℕ, zero, suc, _+_, _*_, _/_, _≤_, _<_, min}
-use mathlib.Core.Path.{_≡_, refl, sym, ap, ap₂, _∙_, subst}
-use mathlib.Core.Logic.{_⊎_, inl, inr}
-use mathlib.Core.List.{List}
+use Prim.Native.Nat.{ℕ, _*_, _/_, _≤_, _<_, min}
+use mathlib.Core.Path.{_≡_, refl, sym, ap, _∙_, subst}
+use mathlib.Core.Logic.{inl, inr}
 use native.Mathlib.Omega.{arith}
 use lib.ListN.{length, take, drop}
 use Rattle.meaning.specs.Limits.{Counts, mostCells, mostBytes}
 use Rattle.rooms.specs.declared.value.CellSpace.{CellSpace}
 use Rattle.rooms.specs.declared.value.CellSpace.the-variants as Cells
 use Rattle.rooms.specs.Rooms.{Rooms, cellAt}
-use Rattle.rooms.specs.Stands.{Alive, Stands, StandsCells, Agrees, Holds}
+use Rattle.rooms.specs.Stands.{Alive, Agrees}
 use Rattle.rooms.specs.Building.{cellRoom, textRoom}
-use Rattle.machine.specs.Refines.{FitCells, Live, Upto, Roomy, Keeps, Below}
+use Rattle.machine.specs.Refines.{Live, Upto, Roomy, Keeps, Below}
 use Rattle.machine.proofs.Words.{take-lower, drop-higher, low-cell, binding-cell}
 
 -- ---- counts

@@ -1,39 +1,35 @@
 -- A List record refines its rule. Rests on Makings. Assumes nothing.
-use Prim.Native.Nat.{ℕ, zero, suc, _+_, _^_, _≤_, _<_, max}
-use mathlib.Core.Path.{_≡_, refl, sym, ap, ap₂, _∙_, subst}
-use mathlib.Core.Logic.{_⊎_, inl, inr}
-use mathlib.Core.List.{List, [], _∷_, _++_, append-assoc, append-nil}
+use Prim.Native.Nat.{ℕ, suc, _+_, _≤_, _<_, max}
+use mathlib.Core.Path.{_≡_, refl, sym, ap, _∙_, subst}
+use mathlib.Core.List.{List, [], _∷_, _++_, append-nil}
 use mathlib.Core.Option.{Option, none, some}
-use mathlib.Core.Bool.{Bool, true, false, cond}
+use mathlib.Core.Bool.{Bool, true, false}
 use native.Mathlib.Omega.{arith}
 use native.Mathlib.Numerals.{add-one}
 use Rattle.meaning.specs.Limits.{Counts, deepestValue}
 use Rattle.meaning.specs.Value as Meaning
 use Rattle.meaning.specs.Value.{Values, nil, cons, list, nesting, nestingIn, count, join}
-use Rattle.meaning.specs.Run.{Charge, cells, nest, Trace, Result, value, error, Raised, byRule, byOperand, Run, Eval, Rule, pure, charged, after, onValue, _>>=_, operand, placed}
+use Rattle.meaning.specs.Run.{Charge, cells, nest, Trace, Result, value, error, Raised, Eval, Rule, pure, charged, after, onValue, _>>=_, placed}
 use Rattle.meaning.specs.Containers.{Making, keeping, having, readyIn, unmarked, kept, append, elementRule, pad, finished, listRule, into}
 use Rattle.meaning.specs.Optionals.{Unwrapped, NotOptional, Some, None, unwrapOptional}
 use Rattle.meaning.specs.Comprehension as Comprehension
-use Rattle.meaning.specs.Limited.{spend, outcome, cellsBuilt, textBuilt}
+use Rattle.meaning.specs.Limited.{spend, outcome}
 use Rattle.rooms.specs.declared.value.Value.{Value}
 use Rattle.rooms.specs.declared.value.Value.the-variants as Value
-use Rattle.rooms.specs.declared.value.CellSpace.{CellSpace}
 use Rattle.rooms.specs.declared.value.CellSpace.the-variants as Cells
 use Rattle.rooms.specs.declared.scope.Scope.{Scope}
 use Rattle.rooms.specs.Value.{nestingOf}
 use Rattle.rooms.specs.Rooms.{Rooms, cellAt}
-use Rattle.rooms.specs.Stands.{Alive, Stands, StandsCells, Agrees, Holds}
+use Rattle.rooms.specs.Stands.{Alive, Stands, Holds}
 use Rattle.rooms.proofs.Frame.{frame-cells}
 use Rattle.rooms.proofs.CellLaws.{written-length}
 use Rattle.machine.specs.declared.outcome.Used.{Used}
-use Rattle.machine.specs.declared.outcome.Outcome.{Outcome}
-use Rattle.machine.specs.declared.outcome.Outcome.the-variants as Outcome
-use Rattle.machine.specs.Outcomes.{Res, Does, written, withValue, taking, whole}
+use Rattle.machine.specs.Outcomes.{Res, Does, written, withValue, taking}
 use Rattle.machine.specs.Views.{partIn, unmarkedIn, optionalIn}
 use Rattle.machine.specs.Containers.{addElement, element, listDone}
-use Rattle.machine.specs.Refines.{usedOf, countsOf, Live, Upto, Roomy, Keeps, Logged, Matches, Start, Refines}
-use Rattle.machine.proofs.Keeping.{upto-same, keeps-agrees, keeps-both, keeps-higher, keeps-back, agrees-sub, agrees-narrow, roomy-same}
-use Rattle.machine.proofs.Taking.{took, upto-took, taken, taken-keeps, taken-null}
+use Rattle.machine.specs.Refines.{usedOf, countsOf, Live, Roomy, Keeps, Matches, Start, Refines}
+use Rattle.machine.proofs.Keeping.{keeps-both, keeps-higher, keeps-back, agrees-sub, roomy-same}
+use Rattle.machine.proofs.Taking.{took, taken, taken-keeps}
 use Rattle.machine.proofs.Traces.{count-join, nesting-join, from-grows}
 use Rattle.machine.proofs.Match.{Says}
 use Rattle.machine.proofs.Charges.{takes}
@@ -41,7 +37,6 @@ use Rattle.machine.proofs.Selecting.{UnwrapView, unwrap-view}
 use Rattle.machine.proofs.Filling.{Filling, pad-count, stored-keeps, fill-store, Stored, empty-filling}
 use Rattle.machine.proofs.Makings.{closing, FillsTo, fills-error, fills-done, fills-then}
 use Rattle.rooms.specs.Cells.{Fits}
-use Rattle.rooms.proofs.Scopes.{scope-frame}
 use Rattle.rooms.proofs.Depths.{stands-nesting}
 
 -- one element more

@@ -1,18 +1,16 @@
 -- Literals and names refine what they mean. Rests on Numbers. Assumes nothing.
-use Prim.Native.Nat.{ℕ, zero, suc, _+_, _^_, _≤_, _<_}
-use mathlib.Core.Path.{_≡_, refl, sym, ap, ap₂, _∙_, subst}
-use mathlib.Core.List.{List, [], _∷_}
+use Prim.Native.Nat.{ℕ, _+_}
+use mathlib.Core.Path.{_≡_, refl, sym, ap, _∙_, subst}
+use mathlib.Core.List.{List}
 use mathlib.Core.Option.{Option, none, some}
-use mathlib.Core.Bool.{Bool, true, false}
 use native.Mathlib.Omega.{arith}
-use lib.ListN.{length}
 use Rattle.numbers.specs.declared.double.Double.{Double}
 use Rattle.numbers.specs.declared.double.Double.the-variants as Bits
 use Rattle.meaning.specs.Limits.{Counts}
 use Rattle.meaning.specs.Errors.{UndeclaredReference}
 use Rattle.meaning.specs.Value as Meaning
 use Rattle.meaning.specs.Value.{Scalar, null, bool, int, uint, double, string, bytes, scalar, list, map, optionalNone, optionalOf, nesting}
-use Rattle.meaning.specs.Run.{Rule, pure, fail, orFail}
+use Rattle.meaning.specs.Run.{pure, fail, orFail}
 use Rattle.meaning.specs.Comprehension as Comprehension
 use Rattle.rooms.specs.declared.value.Value.{Value}
 use Rattle.rooms.specs.declared.value.Value.the-variants as Value
@@ -24,7 +22,7 @@ use Rattle.rooms.specs.Scope.{slotOf, StandsSlot}
 use Rattle.rooms.specs.Stands.{Alive, TextAt, StandsScalar, Stands, Holds}
 use Rattle.machine.specs.declared.outcome.Used.{Used}
 use Rattle.machine.specs.declared.outcome.Outcome.the-variants as Outcome
-use Rattle.machine.specs.Literals.{wordIn, literalValue, fieldValue, nameOut}
+use Rattle.machine.specs.Literals.{wordIn, literalValue, nameOut}
 use Rattle.machine.specs.Accepted.{Spells, AcceptedLiteral}
 use Rattle.machine.specs.Refines.{usedOf, Start}
 use Rattle.machine.proofs.Match.{Says, value-now, error-now}

@@ -1,18 +1,17 @@
 -- `!`, not-strictly-false, `||`, `&&` and the conditional refine their rules. Rests on Operands. Assumes nothing.
-use Prim.Native.Nat.{ℕ, zero, suc, _+_}
-use mathlib.Core.Path.{_≡_, refl, sym, ap, ap₂, _∙_, subst}
-use mathlib.Core.List.{List, [], _∷_}
+use Prim.Native.Nat.{ℕ}
+use mathlib.Core.Path.{_≡_, refl, sym, ap, _∙_, subst}
+use mathlib.Core.List.{List, []}
 use mathlib.Core.Option.{Option, none, some}
 use mathlib.Core.Bool.{Bool, true, false, cond, not, Bool·beq, true≢false}
-use Rattle.numbers.specs.declared.error.ArithmeticError.{ArithmeticError}
 use Rattle.numbers.specs.declared.error.ArithmeticError.the-variants as Arithmetic
 use Rattle.meaning.specs.Limits.{Counts}
 use Rattle.meaning.specs.Errors as Errors
 use Rattle.meaning.specs.Errors.{UnexpectedType, aBool, anIterable, NoOverload}
 use Rattle.meaning.specs.Value as Meaning
 use Rattle.meaning.specs.Value.{scalar, bool, boolOf}
-use Rattle.meaning.specs.Expr.{LogicalFold, And, Or}
-use Rattle.meaning.specs.Run.{Result, value, error, Raised, byRule, byOperand, Eval, Rule, pure, charged, after, onValue, _>>=_, fail, orFail, operand, truth, tryBool, choose}
+use Rattle.meaning.specs.Expr.{LogicalFold}
+use Rattle.meaning.specs.Run.{value, error, Raised, byRule, Eval, pure, charged, after, onValue, _>>=_, fail, orFail, operand, truth, choose}
 use Rattle.meaning.specs.Logic as Logic
 use Rattle.meaning.specs.Logic.{absorbing, absorbs, raisedError, boolWanted, rightBool, afterLeft, logicRule, boolOrTrue, notStrictlyFalseRule, conditionalRule}
 use Rattle.meaning.specs.Numbers.{notRule}
@@ -29,10 +28,10 @@ use Rattle.machine.specs.Outcomes.{Res, Does, truthOut, noOverload, with
 use Rattle.machine.specs.Views.{boolIn}
 use Rattle.machine.specs.Logic as Machine
 use Rattle.machine.specs.Logic.{notOut, logicLeft, unlessDecided, logicBool, undecided, bothBools, logicRight, branch}
-use Rattle.machine.specs.Machine.{unaryOut, onLeft, binaryDoes, conditionalDoes}
-use Rattle.machine.specs.Refines.{usedOf, errorOf, Matches, Start, Refines}
-use Rattle.machine.proofs.Match.{raisedPlace, Says, value-now, raises, error-now, HandsOut}
-use Rattle.machine.proofs.Operands.{bool-view, operand-says, of-operand, value-of, try-bool}
+use Rattle.machine.specs.Machine.{onLeft, conditionalDoes}
+use Rattle.machine.specs.Refines.{usedOf, errorOf, Start, Refines}
+use Rattle.machine.proofs.Match.{raisedPlace, Says, value-now, raises, error-now}
+use Rattle.machine.proofs.Operands.{bool-view, operand-says, value-of, try-bool}
 use Rattle.machine.proofs.Seen.{bool-is, held-bool}
 
 beq-true : (a b : Bool) → Bool·beq a b ≡ true → a ≡ b

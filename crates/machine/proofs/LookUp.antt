@@ -1,11 +1,10 @@
 -- Look-up in a List or a Map, and `in`, refine their rules; what becomes of a look-up. Rests on Steps, Building. Assumes nothing.
 use Prim.Native.Nat.{ℕ, zero, suc, _+_, _≤_, _<_, max}
-use mathlib.Core.Path.{_≡_, refl, sym, ap, ap₂, _∙_, subst}
-use mathlib.Core.List.{List, [], _∷_}
+use mathlib.Core.Path.{_≡_, refl, sym, subst}
+use mathlib.Core.List.{List}
 use mathlib.Core.Option.{Option, none, some, bind}
 use mathlib.Core.Bool.{Bool, true, false, cond}
 use native.Mathlib.Omega.{arith}
-use lib.Dec.{ltb}
 use lib.IntN.{ℤ, pos, negsuc}
 use borrow.Author.Tests.{lt-ltb, le-ltb}
 use Rattle.numbers.specs.declared.double.Double.{Double}
@@ -14,8 +13,8 @@ use Rattle.meaning.specs.Limits.{Counts, deepestValue}
 use Rattle.meaning.specs.Errors.{NoOverload, NoSuchKey, IndexOutOfBounds}
 use Rattle.meaning.specs.Value as Meaning
 use Rattle.meaning.specs.Value.{Scalar, null, bool, int, uint, double, string, bytes, Values, nil, cons, Entries, empty, entry, scalar, list, map, optionalNone, optionalOf, scalarOf, keyScalar, nesting, nestingIn, nestingOver, count, countEntries, nth}
-use Rattle.meaning.specs.Run.{Result, value, error, Raised, Rule, pure, charged, after, onValue, _>>=_, fail, orFail, truth}
-use Rattle.meaning.specs.Comparison.{Tally, tick, scalarEqual, find, among, compared}
+use Rattle.meaning.specs.Run.{value, Rule, pure, charged, after, onValue, _>>=_, fail, orFail, truth}
+use Rattle.meaning.specs.Comparison.{tick, scalarEqual, find, among, compared}
 use Rattle.meaning.specs.Maps as Rules
 use Rattle.meaning.specs.Maps.{probeOf, positionOf, positionIn, elementAt, isFound, inRule}
 use Rattle.meaning.specs.Selection as Rules2
@@ -27,21 +26,20 @@ use Rattle.rooms.specs.declared.value.Parts.{Parts}
 use Rattle.rooms.specs.declared.value.Parts.the-variants as Parts
 use Rattle.comparing.specs.declared.sizes.Position.{Position}
 use Rattle.comparing.specs.declared.sizes.Position.the-variants as Position
-use Rattle.comparing.specs.declared.lookup.Found.{Found}
 use Rattle.rooms.specs.declared.scope.Scope.{Scope}
 use Rattle.rooms.specs.Value.{partsOf, doubleValue}
 use Rattle.rooms.specs.Rooms.{Rooms, cellAt}
 use Rattle.rooms.specs.Stands.{Alive, StandsScalar, Stands, StandsCells, StandsEntries, Holds}
-use Rattle.comparing.specs.Equality.{findIn, amongIn}
+use Rattle.comparing.specs.Equality.{findIn}
 use Rattle.comparing.specs.Sizes.{insideInt}
 use Rattle.comparing.specs.Sizes as Positions
 use Rattle.comparing.proofs.EqualMeaning.{find-ok, among-ok}
 use Rattle.machine.specs.declared.outcome.Outcome.{Outcome}
 use Rattle.machine.specs.declared.outcome.Outcome.the-variants as Outcome
 use Rattle.machine.specs.declared.outcome.Error.the-variants as Error
-use Rattle.machine.specs.Outcomes.{Res, truthOut, noOverload}
+use Rattle.machine.specs.Outcomes.{truthOut, noOverload}
 use Rattle.machine.specs.Views.{isKey}
-use Rattle.machine.specs.Comparison.{onPairs, onFound}
+use Rattle.machine.specs.Comparison.{onFound}
 use Rattle.machine.specs.Selection.{elementOut, entryOut, lookUpIn, lookUp, inParts, optionally, tells}
 use Rattle.machine.specs.Refines.{usedOf, Start}
 use Rattle.machine.proofs.Match.{Says, value-now, error-now, then}

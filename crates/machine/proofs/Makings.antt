@@ -1,30 +1,26 @@
 -- A container in the making, of a list's elements or a map's entries: what goes on from an operand, an error, or its last part.
 -- Rests on Filling. Assumes nothing.
-use Prim.Native.Nat.{ℕ, zero, suc, _+_, _≤_, _<_}
-use mathlib.Core.Path.{_≡_, refl, sym, ap, ap₂, _∙_, subst}
+use Prim.Native.Nat.{ℕ, suc, _+_, _≤_}
+use mathlib.Core.Path.{_≡_, refl, sym, ap, _∙_, subst}
 use mathlib.Core.List.{List, [], _∷_, _++_, append-assoc, append-nil}
-use mathlib.Core.Bool.{Bool, true, false, cond}
-use native.Mathlib.Omega.{arith}
-use lib.ListN.{replicate}
 use Rattle.meaning.specs.Limits.{Counts, deepestValue}
 use Rattle.meaning.specs.Errors.{ErrorAt}
 use Rattle.meaning.specs.Value as Meaning
-use Rattle.meaning.specs.Value.{Values, nesting, count}
-use Rattle.meaning.specs.Run.{Charge, step, cells, nest, Trace, Result, value, error, Raised, byRule, byOperand, Run, Eval, Rule, pure, charged, after, onValue, fromOperand, operand, placed}
+use Rattle.meaning.specs.Value.{Values, nesting}
+use Rattle.meaning.specs.Run.{Charge, step, cells, nest, Trace, Result, value, error, Raised, byRule, byOperand, Eval, Rule, pure, charged, after, fromOperand, operand, placed}
 use Rattle.meaning.specs.Containers.{Making, readyIn, pad}
 use Rattle.meaning.specs.Logic.{raisedError}
 use Rattle.meaning.specs.Comprehension as Comprehension
 use Rattle.meaning.specs.Limited as Limited
 use Rattle.meaning.specs.Limited.{Spent, through, stopped, onward, spend, ended, outcome, cellsBuilt, textBuilt}
 use Rattle.rooms.specs.declared.value.Value.{Value}
-use Rattle.rooms.specs.declared.value.CellSpace.the-variants as Cells
 use Rattle.rooms.specs.declared.scope.Scope.{Scope}
 use Rattle.rooms.specs.Rooms.{Rooms}
-use Rattle.rooms.specs.Stands.{Alive, Stands, StandsCells, Agrees, Holds}
+use Rattle.rooms.specs.Stands.{Alive, Stands, Agrees, Holds}
 use Rattle.machine.specs.declared.outcome.Outcome.{Outcome}
 use Rattle.machine.specs.declared.outcome.Outcome.the-variants as Outcome
 use Rattle.machine.specs.Outcomes.{Res, Does, whole}
-use Rattle.machine.specs.Refines.{usedOf, errorOf, limitOf, from, countsOf, Live, Upto, Roomy, Keeps, Logged, Matches, Start, Refines}
+use Rattle.machine.specs.Refines.{usedOf, errorOf, limitOf, from, countsOf, Live, Upto, Keeps, Logged, Matches, Refines}
 use Rattle.machine.proofs.Keeping.{keeps-same, keeps-lower, keeps-higher, keeps-both, keeps-back, keeps-agrees}
 use Rattle.machine.proofs.Traces.{spend-append, from-grows}
 use Rattle.machine.proofs.Match.{raisedPlace, HandsOut}

@@ -1,10 +1,9 @@
 -- A Map record refines its rule. Rests on Makings, Steps. Assumes nothing.
-use Prim.Native.Nat.{ℕ, zero, suc, _+_, _*_, _^_, _≤_, _<_, max}
-use mathlib.Core.Path.{_≡_, refl, sym, ap, ap₂, _∙_, subst}
-use mathlib.Core.Logic.{_⊎_, inl, inr}
+use Prim.Native.Nat.{ℕ, suc, _+_, _*_, _≤_, _<_, max}
+use mathlib.Core.Path.{_≡_, refl, sym, ap, _∙_, subst}
 use mathlib.Core.List.{List, [], _∷_, _++_, append-assoc, append-nil}
 use mathlib.Core.Option.{Option, none, some}
-use mathlib.Core.Bool.{Bool, true, false, cond}
+use mathlib.Core.Bool.{Bool, true, false}
 use native.Mathlib.Omega.{arith}
 use native.Mathlib.Numerals.{add-one}
 use lib.ListN.{replicate}
@@ -12,13 +11,13 @@ use Rattle.meaning.specs.Limits.{Counts, deepestValue}
 use Rattle.meaning.specs.Errors.{DuplicateKey, UnsupportedKeyType}
 use Rattle.meaning.specs.Value as Meaning
 use Rattle.meaning.specs.Value.{Values, nil, cons, Entries, empty, entry, scalar, map, nesting, nestingOver, count, countEntries, join, addEntry, keyScalar, keyOf}
-use Rattle.meaning.specs.Run.{Charge, step, cells, nest, Trace, Result, value, error, Raised, byRule, byOperand, Run, Eval, Rule, pure, charged, after, onValue, _>>=_, fail, orFail, operand, placed}
+use Rattle.meaning.specs.Run.{Charge, step, cells, nest, Trace, Result, value, error, Raised, byRule, Eval, Rule, pure, charged, after, onValue, _>>=_, fail, orFail, operand, placed}
 use Rattle.meaning.specs.Comparison.{Tally, find, compared}
 use Rattle.meaning.specs.Containers.{Making, keeping, having, readyIn, unmarked, kept, addNew, insert, entryRule, pairRule, pad, cellsAnEntry, entryCells, finished, mapRule, into}
 use Rattle.meaning.specs.Optionals.{Unwrapped, NotOptional, Some, None, unwrapOptional}
 use Rattle.meaning.specs.Comprehension as Comprehension
 use Rattle.meaning.specs.Logic.{raisedError}
-use Rattle.meaning.specs.Limited.{spend, outcome, cellsBuilt, textBuilt}
+use Rattle.meaning.specs.Limited.{spend, outcome}
 use Rattle.rooms.specs.declared.value.Value.{Value}
 use Rattle.rooms.specs.declared.value.Value.the-variants as Value
 use Rattle.rooms.specs.declared.value.CellSpace.{CellSpace}
@@ -28,23 +27,23 @@ use Rattle.comparing.specs.declared.lookup.Found.the-variants as Found
 use Rattle.rooms.specs.declared.scope.Scope.{Scope}
 use Rattle.rooms.specs.Value.{nestingOf}
 use Rattle.rooms.specs.Rooms.{Rooms, cellAt}
-use Rattle.rooms.specs.Stands.{Alive, StandsScalar, Stands, StandsCells, StandsEntries, Agrees, Holds}
+use Rattle.rooms.specs.Stands.{Alive, Stands, StandsCells, StandsEntries, Holds}
 use Rattle.comparing.specs.Equality.{findIn}
-use Rattle.rooms.proofs.Frame.{frame, frame-entries, scalar-frame, holds-frame}
+use Rattle.rooms.proofs.Frame.{frame-entries, scalar-frame, holds-frame}
 use Rattle.rooms.proofs.CellLaws.{written-length}
 use Rattle.comparing.proofs.EqualMeaning.{FoundIs, Finds, find-ok}
 use Rattle.machine.specs.declared.outcome.Used.{Used}
 use Rattle.machine.specs.declared.outcome.Error.the-variants as Error
 use Rattle.machine.specs.declared.outcome.Outcome.{Outcome}
 use Rattle.machine.specs.declared.outcome.Outcome.the-variants as Outcome
-use Rattle.machine.specs.Outcomes.{Res, Does, written, withValue, taking, whole}
+use Rattle.machine.specs.Outcomes.{Res, Does, written, withValue, taking}
 use Rattle.machine.specs.Views.{isKey, partIn, unmarkedIn, optionalIn}
 use Rattle.machine.specs.Containers as Machine
 use Rattle.machine.specs.Containers.{ifKey, ifNew, mapDone}
-use Rattle.machine.specs.Refines.{usedOf, errorOf, countsOf, Live, Upto, Roomy, Keeps, Logged, Matches, Start, Refines}
-use Rattle.machine.proofs.Keeping.{upto-same, keeps-same, keeps-agrees, keeps-both, keeps-higher, keeps-back, agrees-sub, roomy-same}
+use Rattle.machine.specs.Refines.{usedOf, errorOf, countsOf, Live, Upto, Roomy, Keeps, Matches, Start, Refines}
+use Rattle.machine.proofs.Keeping.{keeps-same, keeps-both, keeps-higher, keeps-back, agrees-sub, roomy-same}
 use Rattle.machine.proofs.Taking.{took, taken, taken-keeps}
-use Rattle.machine.proofs.Traces.{count-join, from-grows}
+use Rattle.machine.proofs.Traces.{from-grows}
 use Rattle.machine.proofs.Match.{raisedPlace, Says}
 use Rattle.machine.proofs.Charges.{walked, takes}
 use Rattle.machine.proofs.Steps.{found-in, steps-then}

@@ -1,25 +1,21 @@
 -- A run that goes on from another: the laws by which every record's rule is met. Rests on Keeping, Traces. Assumes nothing.
 -- A rule at place p is met (`Says`) where its record is. `then` goes on from whatever a run came to; the others are its uses.
-use Prim.Native.Nat.{ℕ, zero, suc, _+_, _≤_, _<_}
+use Prim.Native.Nat.{ℕ, _+_}
 use mathlib.Core.Path.{_≡_, refl, sym, ap, ap₂, _∙_, subst}
-use mathlib.Core.Logic.{_⊎_, inl, inr}
-use mathlib.Core.List.{List, [], _∷_, _++_}
-use mathlib.Core.Option.{Option, none, some}
-use mathlib.Core.Bool.{Bool, true, false, cond}
+use mathlib.Core.Logic.{inl}
+use mathlib.Core.List.{List, [], _++_}
 use native.Mathlib.Omega.{arith}
-use native.Mathlib.Numerals.{add-one}
-use lib.Dec.{leb, ltb}
-use lib.ListN.{length, take, drop, length-append}
+use lib.ListN.{length, length-append}
 use Rattle.meaning.specs.Limits.{Counts}
 use Rattle.meaning.specs.Errors as Errors
 use Rattle.meaning.specs.Errors.{ErrorAt}
 use Rattle.meaning.specs.Value as Meaning
-use Rattle.meaning.specs.Value.{count, join}
-use Rattle.meaning.specs.Run.{Charge, step, cells, Trace, Result, value, error, Raised, byRule, byOperand, Eval, Rule, pure, charged, after, fail, fromOperand, operand, placed, here, begin}
+use Rattle.meaning.specs.Value.{count}
+use Rattle.meaning.specs.Run.{cells, Trace, Result, value, error, Raised, byRule, byOperand, Rule, pure, charged, after, fail, fromOperand, placed}
 use Rattle.meaning.specs.Comprehension as Comprehension
 use Rattle.meaning.specs.Logic.{raisedError}
 use Rattle.meaning.specs.Limited as Limited
-use Rattle.meaning.specs.Limited.{Spent, through, stopped, onward, spend, ended, outcome, cellsBuilt, textBuilt, charge, fits}
+use Rattle.meaning.specs.Limited.{Spent, through, stopped, onward, spend, ended, outcome, cellsBuilt, textBuilt}
 use Rattle.rooms.specs.declared.value.Value.{Value}
 use Rattle.rooms.specs.declared.value.CellSpace.the-variants as Cells
 use Rattle.rooms.specs.declared.scope.Scope.{Scope}
@@ -31,10 +27,10 @@ use Rattle.machine.specs.declared.outcome.Error.{Error}
 use Rattle.machine.specs.declared.outcome.Limit.{Limit}
 use Rattle.machine.specs.declared.outcome.Outcome.{Outcome}
 use Rattle.machine.specs.declared.outcome.Outcome.the-variants as Outcome
-use Rattle.machine.specs.Outcomes.{Res, Does, stepped, withValue, afterStep, recorded}
-use Rattle.machine.specs.Refines.{usedOf, errorOf, limitOf, from, countsOf, Live, Upto, Roomy, Keeps, Logged, Good, Matches, Below, Start, Meets, Refines}
-use Rattle.machine.proofs.Keeping.{upto-same, keeps-cells, keeps-text, keeps-roomy, keeps-same, keeps-then, keeps-steps, keeps-agrees, agrees-sub, agrees-then, live-below, live-sub, live-wider}
-use Rattle.machine.proofs.Traces.{count-join, stands-join, spend-append, paid, from-charge, cells-append, text-append, part-add}
+use Rattle.machine.specs.Outcomes.{Res}
+use Rattle.machine.specs.Refines.{usedOf, errorOf, limitOf, from, countsOf, Live, Upto, Keeps, Logged, Good, Matches, Below, Start}
+use Rattle.machine.proofs.Keeping.{upto-same, keeps-cells, keeps-text, keeps-roomy, keeps-same, keeps-then, keeps-agrees, agrees-sub, agrees-then, live-below, live-sub}
+use Rattle.machine.proofs.Traces.{count-join, stands-join, spend-append, cells-append, text-append, part-add}
 use Rattle.rooms.proofs.Scopes.{scope-frame}
 
 -- ---- what was built, one after the other

@@ -1,9 +1,9 @@
 -- Operands: what goes on from an operand's value, from its Bool, or from its error. Rests on Match. Assumes nothing.
-use Prim.Native.Nat.{ℕ, zero, suc, _+_, _≤_, _<_}
-use mathlib.Core.Path.{_≡_, refl, sym, ap, ap₂, _∙_, subst}
-use mathlib.Core.List.{List, [], _∷_, _++_, append-assoc}
+use Prim.Native.Nat.{ℕ, _≤_}
+use mathlib.Core.Path.{_≡_, refl, sym, ap, _∙_, subst}
+use mathlib.Core.List.{List, append-assoc}
 use mathlib.Core.Option.{Option, none, some, bind}
-use mathlib.Core.Bool.{Bool, true, false, cond}
+use mathlib.Core.Bool.{Bool}
 use Rattle.numbers.specs.declared.double.Double.{Double}
 use Rattle.numbers.specs.declared.double.Double.the-variants as Bits
 use native.Mathlib.Omega.{arith}
@@ -11,19 +11,17 @@ use Rattle.meaning.specs.Limits.{Counts}
 use Rattle.meaning.specs.Errors.{UnexpectedType, aBool}
 use Rattle.meaning.specs.Value as Meaning
 use Rattle.meaning.specs.Value.{null, bool, int, uint, double, string, bytes, scalar, list, map, optionalNone, optionalOf, scalarOf, boolOf}
-use Rattle.meaning.specs.Run.{Trace, Result, value, error, Raised, byRule, byOperand, Run, Eval, Rule, pure, charged, after, onValue, _>>=_, fail, orFail, operand, placed, tryBool}
+use Rattle.meaning.specs.Run.{Result, value, error, Raised, byRule, Run, Eval, Rule, pure, charged, after, onValue, _>>=_, fail, orFail, operand, tryBool}
 use Rattle.meaning.specs.Logic.{raisedError}
 use Rattle.meaning.specs.Comprehension as Comprehension
 use Rattle.meaning.specs.Limited.{spend, outcome}
 use Rattle.rooms.specs.declared.value.Value.{Value}
-use Rattle.rooms.specs.declared.value.Value.the-variants as Value
 use Rattle.rooms.specs.declared.scope.Scope.{Scope}
 use Rattle.rooms.specs.Value.{doubleValue}
 use Rattle.rooms.specs.Rooms.{Rooms}
 use Rattle.rooms.specs.Stands.{Alive, StandsScalar, Stands, Agrees, Holds}
 use Rattle.machine.specs.declared.outcome.Used.{Used}
 use Rattle.machine.specs.declared.outcome.Error.{Error}
-use Rattle.machine.specs.declared.outcome.Error.the-variants as Error
 use Rattle.machine.specs.declared.outcome.Outcome.{Outcome}
 use Rattle.machine.specs.declared.outcome.Outcome.the-variants as Outcome
 use Rattle.machine.specs.Outcomes.{Res, Does, withValue}

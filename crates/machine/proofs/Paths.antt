@@ -1,6 +1,6 @@
 -- The append path that a step opens is in the machine what it is in the definition. Rests on Comprehending. Assumes nothing.
-use Prim.Native.Nat.{ℕ, zero, suc, _+_, _≤_, _<_}
-use mathlib.Core.Path.{_≡_, refl, sym, ap, _∙_, subst}
+use Prim.Native.Nat.{ℕ, suc, _+_, _≤_}
+use mathlib.Core.Path.{_≡_, refl, sym, ap, subst}
 use mathlib.Core.List.{List, [], _∷_, _++_, append-nil}
 use mathlib.Core.Option.{Option, none, some, Option·map}
 use mathlib.Core.Bool.{Bool, true, false, cond}
@@ -10,24 +10,22 @@ use borrow.Author.Tests.{eqb-true}
 use Rattle.meaning.specs.Limits.{Counts}
 use Rattle.meaning.specs.Errors.{ErrorAt}
 use Rattle.meaning.specs.Value as Meaning
-use Rattle.meaning.specs.Value.{Values, nil, cons, list, nesting, count, join}
+use Rattle.meaning.specs.Value.{Values, nil, list, count}
 use Rattle.meaning.specs.Expr.{LogicalFold, Arith, add, sub, div, mul, rem, Binary, logic, equals, notEquals, index, optIndex, optSelect, arith as arithOp, compare, isIn, Elements, noElements, element, markedElement, countElements}
-use Rattle.meaning.specs.Run.{Charge, step, cells, nest, Trace, Result, value, error, Raised, byRule, byOperand, Run, Eval, Rule, pure, charged, after, onValue, _>>=_, fromOperand, operand, placed, here, begin}
+use Rattle.meaning.specs.Run.{step, cells, Trace, Result, value, error, Raised, byRule, byOperand, Eval, Rule, pure, charged, after, onValue, _>>=_, fromOperand, operand, placed, here, begin}
 use Rattle.meaning.specs.Containers.{Making, keeping, having, readyIn, kept, append, elementRule, pad, finished, listRule, into}
 use Rattle.meaning.specs.Comprehension as Rules
 use Rattle.meaning.specs.Comprehension.{Scope}
-use Rattle.meaning.specs.Look.{Look, nothingSeen, aSum, aFold, ofName, guardedBy, aConditional, arithLook, binaryLook, named}
+use Rattle.meaning.specs.Look.{Look, aSum, aFold, ofName, guardedBy, aConditional, arithLook, binaryLook, named}
 use Rattle.meaning.specs.Meaning.{run, runElements}
 use Rattle.meaning.specs.Limited.{cellsBuilt}
 use Rattle.machine.specs.Outcomes.{Does}
-use Rattle.machine.specs.Comprehension as Machine
 use Rattle.machine.specs.Machine.{addedTo, sumTo, appending}
 use Rattle.machine.specs.Refines.{Refines}
 use Rattle.machine.proofs.Traces.{count-join}
 use Rattle.machine.proofs.Filling.{pad-count}
 use Rattle.machine.proofs.Lists.{longer}
 use Rattle.machine.proofs.Gathering.{elementsIn, ItemsOk}
-use Rattle.machine.proofs.Appending.{GuardOk}
 use Rattle.machine.proofs.Comprehending.{PathOk}
 
 -- ---- a List record's elements

@@ -1,7 +1,7 @@
 -- The machine refines the meaning: what it does, read out, is what the expression means under the limits. A line for each kind of record.
 -- Rests on the laws of each kind. Assumes nothing.
 use Prim.Native.Nat.{ℕ, _+_, _*_}
-use mathlib.Core.Path.{_≡_, refl}
+use mathlib.Core.Path.{refl}
 use mathlib.Core.List.{List}
 use mathlib.Core.Option.{Option, none, some}
 use mathlib.Core.Bool.{Bool, true, false, cond, _&&_}
@@ -16,21 +16,21 @@ use Rattle.meaning.specs.Selection.{selectField}
 use Rattle.meaning.specs.Calls.{callRule, orValueCall}
 use Rattle.meaning.specs.Containers.{Making, listRule, mapRule, into, cellsAnEntry}
 use Rattle.meaning.specs.Comprehension as Comprehension
-use Rattle.meaning.specs.Look.{Look, nothingSeen, ofName, named}
+use Rattle.meaning.specs.Look.{Look, ofName, named}
 use Rattle.meaning.specs.Look as Look
 use Rattle.meaning.specs.Meaning.{ofOne, unaryRule, binaryRule, run, runElements, runPairs, look}
 use Rattle.rooms.specs.declared.value.Value.{Value}
 use Rattle.rooms.specs.declared.value.Value.the-variants as Value
 use Rattle.rooms.specs.declared.scope.Scope.{Scope}
 use Rattle.rooms.specs.Rooms.{Rooms}
-use Rattle.rooms.specs.Value.{plainOf, partsOf}
+use Rattle.rooms.specs.Value.{partsOf}
 use Rattle.rooms.specs.Scope.{slotOf}
 use Rattle.rooms.specs.Stands.{Alive, Holds}
 use Rattle.machine.specs.declared.outcome.Used.{Used}
 use Rattle.machine.specs.declared.outcome.Outcome.the-variants as Outcome
 use Rattle.machine.specs.Outcomes.{Res, Does, recorded, withValue, taking}
 use Rattle.machine.specs.Literals.{wordIn, literalValue, fieldValue, nameOut}
-use Rattle.machine.specs.Numbers.{negatePlain, arithmetic}
+use Rattle.machine.specs.Numbers.{arithmetic}
 use Rattle.machine.specs.Comparison.{equalOut, compareOut}
 use Rattle.machine.specs.Selection as Selection
 use Rattle.machine.specs.Calls.{called}

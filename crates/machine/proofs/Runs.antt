@@ -1,14 +1,13 @@
 -- The runs of cells that the append path remembers: they stand for what was gathered, and are copied one after the other to its list.
 -- Rests on Taking. Assumes nothing.
-use Prim.Native.Nat.{ℕ, zero, suc, _+_, _*_, _≤_, _<_, max}
-use mathlib.Core.Path.{_≡_, refl, sym, ap, ap₂, _∙_, subst}
+use Prim.Native.Nat.{ℕ, suc, _+_, _<_}
+use mathlib.Core.Path.{_≡_, refl, sym, ap, _∙_, subst}
 use mathlib.Core.List.{List, [], _∷_, _++_}
 use native.Mathlib.Omega.{arith}
-use lib.ListN.{length, getD, set, length-append, length-set}
+use lib.ListN.{length, getD, set}
 use lib.Seq.{getD-set-same, getD-set-other}
 use Rattle.meaning.specs.Limits.{Counts}
-use Rattle.meaning.specs.Value.{Values, nil, cons, count, join}
-use Rattle.rooms.specs.declared.value.CellSpace.{CellSpace}
+use Rattle.meaning.specs.Value.{Values, nil, count, join}
 use Rattle.rooms.specs.declared.value.CellSpace.the-variants as Cells
 use Rattle.rooms.specs.Rooms.{Rooms}
 use Rattle.rooms.specs.Stands.{Alive, Stands, StandsCells, Agrees}
@@ -16,7 +15,7 @@ use Rattle.rooms.specs.Building.{copied}
 use Rattle.rooms.proofs.Frame.{frame-cells}
 use Rattle.machine.specs.Outcomes.{withWords}
 use Rattle.machine.specs.Comprehension.{runsCopied}
-use Rattle.machine.specs.Refines.{FitCells, Live, Upto, Roomy, Keeps, Below}
+use Rattle.machine.specs.Refines.{FitCells, Live, Roomy, Keeps, Below}
 use Rattle.machine.proofs.Keeping.{keeps-same, keeps-then, keeps-agrees, roomy-same, agrees-sub, live-below, live-sub}
 use Rattle.machine.proofs.Taking.{took, upto-took, copiedTo, copy-keeps, copy-stands}
 use Rattle.machine.proofs.Traces.{count-join, join-nil, join-assoc, stands-join}

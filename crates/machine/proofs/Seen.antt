@@ -1,14 +1,12 @@
 -- What the machine sees of a value is what the definition sees of what it stands for. Assumes nothing.
-use Prim.Native.Nat.{ℕ, zero, suc, _+_, _^_, _≤_, _<_, max}
-use mathlib.Core.Path.{_≡_, refl, sym, ap, ap₂, _∙_, subst}
+use Prim.Native.Nat.{ℕ}
+use mathlib.Core.Path.{_≡_, refl, ap, _∙_}
 use mathlib.Core.List.{List}
 use mathlib.Core.Option.{Option, none, some, bind}
-use mathlib.Core.Bool.{Bool, true, false, cond}
+use mathlib.Core.Bool.{Bool, true, false}
 use native.Mathlib.Omega.{arith}
-use lib.ListN.{length}
 use Rattle.numbers.specs.declared.double.Double.{Double}
 use Rattle.numbers.specs.declared.double.Double.the-variants as Bits
-use Rattle.meaning.specs.Limits.{deepestValue}
 use Rattle.meaning.specs.Value as Meaning
 use Rattle.meaning.specs.Value.{null, bool, int, uint, double, string, bytes, scalar, list, map, optionalNone, optionalOf, scalarOf, stringOf, stringIn, keyIn, keyOf, keyScalar, nesting}
 use Rattle.meaning.specs.Maps.{probeOf, probeIn}
@@ -16,11 +14,10 @@ use Rattle.rooms.specs.declared.value.Value.{Value}
 use Rattle.rooms.specs.declared.value.Value.the-variants as Value
 use Rattle.rooms.specs.declared.value.Parts.{Parts}
 use Rattle.rooms.specs.declared.value.Parts.the-variants as Parts
-use Rattle.rooms.specs.Value.{plainOf, partsOf, doubleValue}
+use Rattle.rooms.specs.Value.{partsOf, doubleValue}
 use Rattle.rooms.specs.Rooms.{Rooms}
 use Rattle.rooms.specs.Stands.{Alive, StandsScalar, Stands, Holds}
-use Rattle.machine.specs.Views.{boolIn, isKey, isString, Optional, notOptional, nonePresent, optionalIn}
-use Rattle.rooms.specs.Cells.{Fits}
+use Rattle.machine.specs.Views.{boolIn, isKey, isString, notOptional, optionalIn}
 
 -- ---- Bools
 

@@ -1,15 +1,15 @@
 -- Select, index and optional select refine their rules. Rests on LookUp. Assumes nothing.
-use Prim.Native.Nat.{ℕ, zero, suc, _+_, _≤_, _<_}
-use mathlib.Core.Path.{_≡_, refl, sym, ap, ap₂, _∙_, subst}
-use mathlib.Core.List.{List, [], _∷_}
+use Prim.Native.Nat.{ℕ}
+use mathlib.Core.Path.{_≡_, refl, sym, ap, subst}
+use mathlib.Core.List.{List}
 use mathlib.Core.Option.{Option, none, some}
-use mathlib.Core.Bool.{Bool, true, false, cond}
+use mathlib.Core.Bool.{Bool, true, false}
 use native.Mathlib.Omega.{arith}
-use Rattle.meaning.specs.Limits.{Counts, deepestValue}
+use Rattle.meaning.specs.Limits.{Counts}
 use Rattle.meaning.specs.Errors.{NoOverload, NoSuchKey, FunctionError}
 use Rattle.meaning.specs.Value as Meaning
 use Rattle.meaning.specs.Value.{string, scalar, list, map, optionalNone, optionalOf, nesting, stringOf}
-use Rattle.meaning.specs.Run.{Result, value, error, Raised, Eval, Rule, pure, charged, after, onValue, _>>=_, fail, orFail, operand, truth}
+use Rattle.meaning.specs.Run.{Eval, Rule, pure, charged, after, onValue, _>>=_, fail, orFail, operand}
 use Rattle.meaning.specs.Optionals.{Unwrapped, NotOptional, Some, None, unwrapOptional}
 use Rattle.meaning.specs.Selection as Rules
 use Rattle.meaning.specs.Selection.{indexRule, optSelectRule, optSelectIn}
@@ -20,20 +20,16 @@ use Rattle.rooms.specs.declared.value.Value.{Value}
 use Rattle.rooms.specs.declared.value.Value.the-variants as Value
 use Rattle.rooms.specs.declared.value.CellSpace.{CellSpace}
 use Rattle.rooms.specs.declared.value.Parts.{Parts}
-use Rattle.rooms.specs.declared.value.Parts.the-variants as Parts
 use Rattle.rooms.specs.declared.scope.Scope.{Scope}
 use Rattle.rooms.specs.Value.{partsOf}
 use Rattle.rooms.specs.Rooms.{Rooms, cellAt}
-use Rattle.rooms.specs.Stands.{Alive, StandsScalar, Stands, Agrees, Holds}
-use Rattle.machine.specs.declared.outcome.Used.{Used}
+use Rattle.rooms.specs.Stands.{Alive, Stands, Holds}
 use Rattle.machine.specs.declared.outcome.Outcome.{Outcome}
 use Rattle.machine.specs.declared.outcome.Outcome.the-variants as Outcome
-use Rattle.machine.specs.declared.outcome.Error.the-variants as Error
-use Rattle.machine.specs.Outcomes.{Res, Does, noOverload, withValue}
-use Rattle.machine.specs.Views.{isString, Optional, notOptional, nonePresent, optionalIn}
+use Rattle.machine.specs.Outcomes.{Res, Does, withValue}
+use Rattle.machine.specs.Views.{Optional, notOptional, optionalIn}
 use Rattle.machine.specs.Views as Views
-use Rattle.machine.specs.Selection as Machine
-use Rattle.machine.specs.Selection.{lookUp, optionally, tells, selectInContainer, selectInMap, selectInNone, selectInPresent, selectPlain, selectParts, selectField, perhaps, indexIn, index, optSelect}
+use Rattle.machine.specs.Selection.{lookUp, optionally, selectInContainer, selectInMap, selectInNone, selectInPresent, selectPlain, selectParts, selectField, perhaps, indexIn, index, optSelect}
 use Rattle.machine.specs.Machine.{unlessNone, indexLeft, onLeft, both}
 use Rattle.machine.specs.Refines.{usedOf, Start, Refines}
 use Rattle.machine.proofs.Match.{Says, value-now, raises, error-now}

@@ -1,15 +1,15 @@
 -- Pairs of values are charged a step each, by equality and by the look-up of a key. Rests on Charges and on the crate rooms. Assumes nothing.
-use Prim.Native.Nat.{ℕ, zero, suc, _+_, _≤_, _<_}
-use mathlib.Core.Path.{_≡_, refl, sym, ap, ap₂, _∙_, subst}
+use Prim.Native.Nat.{ℕ, zero, suc, _+_}
+use mathlib.Core.Path.{_≡_, refl, sym, ap, _∙_, subst}
 use mathlib.Core.List.{List, [], _∷_, _++_, append-nil}
 use mathlib.Core.Option.{Option, none, some}
 use mathlib.Core.Bool.{Bool, true, false, cond}
 use native.Mathlib.Omega.{arith}
-use lib.Dec.{leb, ltb}
+use lib.Dec.{ltb}
 use lib.ListN.{replicate}
 use Rattle.meaning.specs.Limits.{Counts}
 use Rattle.meaning.specs.Value as Meaning
-use Rattle.meaning.specs.Run.{Charge, step, Trace, Result, value, error, Rule, pure, charged, after, onValue, _>>=_, placed}
+use Rattle.meaning.specs.Run.{step, Trace, Rule, pure, charged, after, onValue, _>>=_, placed}
 use Rattle.meaning.specs.Comprehension as Comprehension
 use Rattle.meaning.specs.Comparison.{Tally, compared}
 use Rattle.meaning.specs.Limited as Limited
@@ -28,10 +28,10 @@ use Rattle.machine.specs.declared.outcome.Used.{Used}
 use Rattle.machine.specs.declared.outcome.Limit.the-variants as Limit
 use Rattle.machine.specs.declared.outcome.Outcome.{Outcome}
 use Rattle.machine.specs.declared.outcome.Outcome.the-variants as Outcome
-use Rattle.machine.specs.Outcomes.{Res, withSteps}
+use Rattle.machine.specs.Outcomes.{Res}
 use Rattle.machine.specs.Comparison.{onPairs}
 use Rattle.machine.specs.Refines.{usedOf, Keeps, Matches, Start}
-use Rattle.machine.proofs.Keeping.{upto-same, keeps-same}
+use Rattle.machine.proofs.Keeping.{keeps-same}
 use Rattle.machine.proofs.Traces.{from-charge, cells-step, text-step}
 use Rattle.machine.proofs.Traces as Traces
 use Rattle.machine.proofs.Match.{Says}

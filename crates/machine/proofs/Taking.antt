@@ -1,17 +1,17 @@
 -- Cells that are taken are Null, cells that are copied stand for the same; no other word changes. Rests on Words, Keeping. Assumes nothing.
-use Prim.Native.Nat.{ℕ, zero, suc, _+_, _-_, _*_, _/_, _^_, _≤_, _<_, min, max}
+use Prim.Native.Nat.{ℕ, zero, suc, _+_, _*_, _/_, _≤_, _<_}
 use mathlib.Core.Path.{_≡_, refl, sym, ap, ap₂, _∙_, subst}
-use mathlib.Core.Logic.{_⊎_, inl, inr}
-use mathlib.Core.Bool.{Bool, true, false, cond}
-use mathlib.Core.List.{List, [], _∷_}
+use mathlib.Core.Logic.{inr}
+use mathlib.Core.Bool.{Bool, true, false}
+use mathlib.Core.List.{List}
 use native.Mathlib.Omega.{arith}
-use lib.Dec.{ltb, leb, eqb}
+use lib.Dec.{ltb, leb}
 use lib.ListN.{length, getD, set, take, drop, length-set}
-use lib.Seq.{getD-set-same, getD-set-other, take-set-le, drop-set-lt}
+use lib.Seq.{getD-set-same, take-set-le, drop-set-lt}
 use borrow.Author.Tests.{lt-ltb, ltb-true, ltb-false, le-leb, leb-true, leb-false}
-use Rattle.meaning.specs.Limits.{Counts, mostCells, deepestValue}
+use Rattle.meaning.specs.Limits.{Counts}
 use Rattle.meaning.specs.Value as Meaning
-use Rattle.meaning.specs.Value.{Values, nil, cons, nesting, nestingIn, count}
+use Rattle.meaning.specs.Value.{Values, nil, cons, count}
 use Rattle.rooms.specs.declared.value.Value.{Value}
 use Rattle.rooms.specs.declared.value.Value.the-variants as Value
 use Rattle.rooms.specs.declared.value.CellSpace.{CellSpace}
@@ -25,7 +25,7 @@ use Rattle.rooms.proofs.Built.{settled-stands}
 use Rattle.machine.specs.Outcomes.{withWords, written}
 use Rattle.machine.specs.Refines.{FitCells, Live, Upto, Roomy, Keeps, Below}
 use Rattle.machine.proofs.Words.{cell-low, cell-high, below-same, store-same, store-keeps}
-use Rattle.machine.proofs.Keeping.{keeps-same, keeps-then, keeps-agrees, roomy-same, live-below, live-sub, live-wider, agrees-sub, agrees-then}
+use Rattle.machine.proofs.Keeping.{keeps-same, keeps-then, keeps-agrees, roomy-same, live-below, live-sub, agrees-sub, agrees-then}
 
 -- ---- words become 0
 

@@ -1,22 +1,20 @@
 -- Text that is copied behind the text there is: no other byte changes, and it spells the same. Rests on Keeping. Assumes nothing.
-use Prim.Native.Nat.{ℕ, zero, suc, _+_, _-_, _*_, _≤_, _<_, min}
+use Prim.Native.Nat.{ℕ, zero, suc, _+_, _≤_, _<_}
 use mathlib.Core.Path.{_≡_, refl, sym, ap, ap₂, _∙_, subst}
-use mathlib.Core.Logic.{_≢_}
 use mathlib.Core.List.{List, [], _∷_, _++_}
 use native.Mathlib.Omega.{arith}
-use lib.ListN.{length, getD, set, take, drop, length-set, length-take, length-drop, length-append}
+use lib.ListN.{length, getD, set, take, drop, length-set, length-take, length-drop}
 use lib.Seq.{getD-set-same, take-set-le, drop-set-lt, drop-cons}
-use Rattle.meaning.specs.Limits.{Counts, mostBytes}
+use Rattle.meaning.specs.Limits.{Counts}
 use Rattle.rooms.specs.declared.value.TextSpace.{TextSpace}
 use Rattle.rooms.specs.declared.value.TextSpace.the-variants as Text
-use Rattle.rooms.specs.declared.value.CellSpace.{CellSpace}
-use Rattle.rooms.specs.Rooms.{Rooms, part, textOf, spanIn, cellAt}
-use Rattle.rooms.specs.Stands.{Alive, Within, TextAt, Agrees}
-use Rattle.rooms.specs.Building.{textRoom, pasted}
+use Rattle.rooms.specs.Rooms.{Rooms, part, textOf, cellAt}
+use Rattle.rooms.specs.Stands.{Alive, Within, TextAt}
+use Rattle.rooms.specs.Building.{pasted}
 use Rattle.rooms.proofs.Frame.{part-same, text-frame}
 use Rattle.machine.specs.Outcomes.{withText}
 use Rattle.machine.specs.Numbers.{bothTexts}
-use Rattle.machine.specs.Refines.{FitCells, Live, Upto, Roomy, Keeps, Below}
+use Rattle.machine.specs.Refines.{FitCells, Live, Roomy, Keeps, Below}
 use Rattle.machine.proofs.Words.{below-same}
 use Rattle.machine.proofs.Keeping.{keeps-then, keeps-agrees, roomy-same, live-below}
 use Rattle.machine.proofs.Traces.{part-add}

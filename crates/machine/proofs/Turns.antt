@@ -1,18 +1,18 @@
 -- The loop of a comprehension refines its rule: each turn with a scope that changes, and an error that may be pending. Rests on Operands.
 -- Assumes nothing.
-use Prim.Native.Nat.{ℕ, zero, suc, _+_, _≤_, _<_, max}
-use mathlib.Core.Path.{_≡_, refl, sym, ap, ap₂, _∙_, subst}
+use Prim.Native.Nat.{ℕ, suc, _+_, _≤_, _<_}
+use mathlib.Core.Path.{_≡_, refl, sym, subst}
 use mathlib.Core.List.{List, [], _∷_, _++_}
 use mathlib.Core.Option.{Option, none, some}
-use mathlib.Core.Bool.{Bool, true, false, cond}
+use mathlib.Core.Bool.{Bool, true, false}
 use native.Mathlib.Omega.{arith}
 use lib.ListN.{length}
 use Rattle.meaning.specs.Limits.{Counts, deepestValue, names}
 use Rattle.meaning.specs.Errors.{ErrorAt, UnexpectedType, aBool}
 use Rattle.meaning.specs.Value as Meaning
-use Rattle.meaning.specs.Value.{Values, nil, cons, Entries, empty, entry, scalar, nesting, nestingIn, nestingOver, count, countEntries, valueList, keyScalar, boolOf}
+use Rattle.meaning.specs.Value.{Values, nil, cons, Entries, empty, entry, nesting, nestingIn, valueList, boolOf}
 use Rattle.meaning.specs.Expr.{LogicalFold}
-use Rattle.meaning.specs.Run.{Result, value, error, Raised, byRule, byOperand, Eval, Rule, charged, after, onValue, _>>=_, fromOperand, operand, placed, tryBool, choose}
+use Rattle.meaning.specs.Run.{Result, value, error, Raised, byRule, byOperand, Eval, Rule, charged, after, onValue, _>>=_, fromOperand, operand, choose}
 use Rattle.meaning.specs.Logic.{absorbs, raisedError}
 use Rattle.meaning.specs.Comprehension as Rules
 use Rattle.meaning.specs.Comprehension.{Scope, store, keyList, itemsOf, Comprehension, Onward, finish, foldStep, afterStep, turn, loop}
@@ -21,19 +21,19 @@ use Rattle.rooms.specs.declared.value.CellSpace.{CellSpace}
 use Rattle.rooms.specs.declared.scope.Scope as Code
 use Rattle.rooms.specs.Rooms.{Rooms, cellAt}
 use Rattle.rooms.specs.Scope.{stored}
-use Rattle.rooms.specs.Stands.{Alive, StandsScalar, Stands, StandsCells, StandsEntries, Holds, Agrees}
-use Rattle.rooms.proofs.Frame.{frame, holds-frame}
+use Rattle.rooms.specs.Stands.{Alive, Stands, StandsCells, StandsEntries, Holds, Agrees}
+use Rattle.rooms.proofs.Frame.{frame}
 use Rattle.rooms.proofs.Scopes.{scope-stored}
 use Rattle.machine.specs.declared.outcome.Error.{Error}
 use Rattle.machine.specs.declared.outcome.Outcome.{Outcome}
 use Rattle.machine.specs.declared.outcome.Outcome.the-variants as Outcome
-use Rattle.machine.specs.Outcomes.{Res, Does, withValue}
+use Rattle.machine.specs.Outcomes.{Res, Does}
 use Rattle.machine.specs.Views.{boolIn}
 use Rattle.machine.specs.Logic.{branch}
 use Rattle.machine.specs.Comprehension as Machine
 use Rattle.machine.specs.Comprehension.{Loop, asks, turns}
-use Rattle.machine.specs.Refines.{usedOf, errorOf, Matches, Start, Refines}
-use Rattle.machine.proofs.Match.{raisedPlace, Says, raises, error-now, HandsOut, then}
+use Rattle.machine.specs.Refines.{usedOf, errorOf, Start, Refines}
+use Rattle.machine.proofs.Match.{raisedPlace, Says, raises, HandsOut, then}
 use Rattle.machine.proofs.Operands.{bool-view, operand-says, try-bool}
 
 -- ---- what is iterated over

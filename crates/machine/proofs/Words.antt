@@ -1,32 +1,28 @@
 -- What a store, a taking and a copy of cells change: one cell, none outside. Assumes nothing.
-use Prim.Native.Nat.{ℕ, zero, suc, _+_, _-_, _*_, _/_, _^_, _≤_, _<_, min}
-use mathlib.Core.Path.{_≡_, refl, sym, ap, ap₂, _∙_, subst}
+use Prim.Native.Nat.{ℕ, _+_, _-_, _*_, _/_, _^_, _≤_, _<_}
+use mathlib.Core.Path.{_≡_, refl, sym, ap, _∙_, subst}
 use mathlib.Core.Logic.{_≢_}
 use mathlib.Core.Bool.{Bool, true, false, cond, true≢false}
-use mathlib.Core.List.{List, [], _∷_}
+use mathlib.Core.List.{List}
 use native.Mathlib.Omega.{arith}
-use lib.Dec.{ltb, leb, eqb}
+use lib.Dec.{ltb, eqb}
 use lib.Ieee.{binary64, ofBits}
 use lib.Ieee.Bits.{toBits-lt, ofBits-fits}
-use lib.ListN.{length, getD, set, take, drop, length-set}
-use lib.Seq.{getD-set-same, getD-set-other, getD-take, getD-drop, take-set-le, drop-set-lt, take-take, drop-drop}
-use borrow.Author.Tests.{lt-ltb, le-ltb, ltb-true, eqb-true, eq-eqb, le-leb}
+use lib.ListN.{length, getD, set, take, drop}
+use lib.Seq.{getD-take, getD-drop, take-set-le, drop-set-lt, take-take, drop-drop}
+use borrow.Author.Tests.{eqb-true, eq-eqb}
 use Rattle.numbers.specs.declared.double.Double.{Double}
 use Rattle.numbers.specs.declared.double.Double.the-variants as Bits
 use Rattle.numbers.specs.Double.{bitsOf, doubleOf, isNan}
-use Rattle.meaning.specs.Limits.{Counts, mostCells}
-use Rattle.meaning.specs.Value as Meaning
-use Rattle.meaning.specs.Value.{null, bool, int, uint, double, string, bytes, scalar, list, map, optionalNone, optionalOf}
+use Rattle.meaning.specs.Limits.{Counts}
 use Rattle.rooms.specs.declared.value.Value.{Value}
 use Rattle.rooms.specs.declared.value.Value.the-variants as Value
-use Rattle.rooms.specs.declared.value.CellSpace.{CellSpace}
 use Rattle.rooms.specs.declared.value.CellSpace.the-variants as Cells
 use Rattle.rooms.specs.Value.{doubleValue}
-use Rattle.rooms.specs.Cells.{Fits, payloadOf, settled, headOf, cellOf, valueOf, bareOf, hasCell, cellIn, writtenIn}
-use Rattle.rooms.specs.Rooms.{Rooms, cellAt, wordsOf}
-use Rattle.rooms.specs.Building.{cellRoom, zeroed, cellsTaken, copied}
+use Rattle.rooms.specs.Cells.{Fits, payloadOf, settled, headOf, cellOf, hasCell, cellIn, writtenIn}
+use Rattle.rooms.specs.Rooms.{Rooms, cellAt}
 use Rattle.rooms.proofs.CellLaws.{written-length, written-same, written-other}
-use Rattle.machine.specs.Outcomes.{withWords, written}
+use Rattle.machine.specs.Outcomes.{written}
 use Rattle.machine.specs.Refines.{FitCells, Upto, Roomy, Keeps}
 
 -- ---- values in one spelling

@@ -1,6 +1,6 @@
 -- What the machine asks of an expression: numbers in range, names that there are, and texts that the table's spans spell in the literal
 -- text. Every expression that is read from a table and its literal text is so.
-use Prim.Native.Nat.{ℕ, _+_, _^_, _≤_, _<_}
+use Prim.Native.Nat.{ℕ, _+_, _^_, _<_}
 use mathlib.Core.Path.{_≡_}
 use mathlib.Core.List.{List}
 use lib.ListN.{length}

@@ -18,7 +18,7 @@ use Rattle.rooms.specs.Building.{cellsCleared, bytesCleared}
 use Rattle.machine.specs.declared.outcome.Used.{Used}
 use Rattle.machine.specs.declared.outcome.Outcome.{Outcome}
 use Rattle.machine.specs.declared.outcome.Outcome.the-variants as Outcome
-use Rattle.machine.specs.Outcomes.{Res, Does}
+use Rattle.machine.specs.Outcomes.{Res}
 use Rattle.machine.specs.Machine.{machine}
 use Rattle.machine.specs.Refines.{usedOf, errorOf, limitOf, countsOf}
 

@@ -1,6 +1,5 @@
 -- Module 1 on rooms: arithmetic, and `+` on texts and lists, which copies both behind what is used.
 use Prim.Native.Nat.{ℕ, _+_, max}
-use mathlib.Core.Bool.{not}
 use mathlib.Core.List.{List}
 use Rattle.numbers.specs.declared.int.IntAnswer.{IntAnswer}
 use Rattle.numbers.specs.declared.int.IntAnswer.the-variants as IntAnswer
@@ -31,7 +30,7 @@ use Rattle.machine.specs.declared.outcome.Error.the-variants as Error
 use Rattle.machine.specs.declared.outcome.Limit.the-variants as Limit
 use Rattle.machine.specs.declared.outcome.Outcome.{Outcome}
 use Rattle.machine.specs.declared.outcome.Outcome.the-variants as Outcome
-use Rattle.machine.specs.Outcomes.{Res, withCells, withBytes, withWords, withText, noOverload, onTaken, taking}
+use Rattle.machine.specs.Outcomes.{Res, withBytes, withWords, withText, noOverload, onTaken, taking}
 
 -- ---- numbers
 

@@ -5,7 +5,6 @@ use mathlib.Core.Option.{Option, none, some}
 use Rattle.numbers.specs.declared.order.Number.{Number}
 use Rattle.numbers.specs.declared.order.Number.the-variants as Number
 use Rattle.rooms.specs.declared.value.Value.{Value}
-use Rattle.rooms.specs.declared.value.Value.the-variants as Value
 use Rattle.rooms.specs.declared.value.CellSpace.{CellSpace}
 use Rattle.rooms.specs.declared.value.Plain.{Plain}
 use Rattle.rooms.specs.declared.value.Plain.the-variants as Plain
