@@ -35,9 +35,7 @@ impl Scope {
     {
         let mut changed = scope;
         if name < NAMES {
-            let slot = Slot {
-                value: value,
-            };
+            let slot = Slot { value: value };
             changed.slots[name] = slot;
         }
         changed

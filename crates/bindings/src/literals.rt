@@ -1,0 +1,49 @@
+// The literals of an accepted table.
+use rooms::value::TextSpace;
+use rooms::value::Value;
+use rooms::value::double_value;
+use table::kinds::BOOL;
+use table::kinds::BYTES;
+use table::kinds::STRING;
+use table::readers::bits_at;
+use table::readers::int_at;
+use table::readers::kind_at;
+use table::readers::number_at;
+use table::readers::span_at;
+
+const NULL: u8 = 0;
+
+const INT: u8 = 2;
+
+const UINT: u8 = 3;
+
+const DOUBLE: u8 = 4;
+
+// The value of a literal, its text where it lies; absent for any other record.
+pub fn literal_at(table: &[u8], at: usize) -> Value {
+    match kind_at(table, at) {
+        NULL => Value::Null,
+        BOOL => Value::Bool(number_at(table, at) == 1),
+        INT => Value::Int(int_at(table, at)),
+        UINT => Value::Uint(bits_at(table, at)),
+        DOUBLE => double_value(bits_at(table, at)),
+        STRING => {
+            let span = span_at(table, at);
+            Value::String(TextSpace::Literal, span.offset as u16, span.size as u16)
+        }
+        BYTES => {
+            let span = span_at(table, at);
+            Value::Bytes(TextSpace::Literal, span.offset as u16, span.size as u16)
+        }
+        _ => Value::Absent,
+    }
+}
+
+// How long its text is.
+pub fn text_length(v: Value) -> usize {
+    match v {
+        Value::String(_, _, length) => length as usize,
+        Value::Bytes(_, _, length) => length as usize,
+        _ => 0,
+    }
+}
