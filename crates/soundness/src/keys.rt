@@ -1,9 +1,14 @@
 // The keys of a Map where they lie: their kinds, and that no two of them match.
+ghost use mathlib.Core.Path.{_≡_};
+ghost use Prim.Native.Nat.{_+_, _*_, _<_};
+ghost use Rattle.soundness.specs.Keys.{isKey, repeatedIn, keysFit};
 use rooms::cells::read_cell;
 use rooms::equality::plain_equal;
 use rooms::value::Value;
 
-pub fn is_key(v: Value) -> bool {
+pub fn is_key(v: Value) -> bool
+    ensures { λ r. ⌜ r ≡ isKey v ⌝ }
+{
     match v {
         Value::Null => false,
         Value::Bool(_) => true,
@@ -22,7 +27,10 @@ pub fn is_key(v: Value) -> bool {
 }
 
 // Whether one of so many keys from a cell on is equal to a key, Int and Uint of one number being equal.
-fn repeated(cells: &[u64], text: &[u8], key: Value, first: usize, count: usize) -> bool {
+fn repeated(cells: &[u64], text: &[u8], key: Value, first: usize, count: usize) -> bool
+    requires { ⌜ first + 2 * count < 262144 ⌝ }
+    ensures { λ r. ⌜ r ≡ repeatedIn (now (cells .entry)) (now (text .entry)) key first count ⌝ }
+{
     let mut at = first;
     let mut left = count;
     while 0 < left {
@@ -37,9 +45,11 @@ fn repeated(cells: &[u64], text: &[u8], key: Value, first: usize, count: usize) 
 }
 
 // Whether so many entries from a cell on have keys, each unlike those behind it.
-pub fn keys_fit(cells: &[u64], text: &[u8], first: usize, count: usize) -> bool {
-    let mut at = first;
-    let mut left = count;
+pub(crate) fn keys_fit(cells: &[u64], text: &[u8], first: u16, length: u16) -> bool
+    ensures { λ r. ⌜ r ≡ keysFit (now (cells .entry)) (now (text .entry)) first length ⌝ }
+{
+    let mut at = first as usize;
+    let mut left = length as usize;
     while 0 < left {
         let key = read_cell(cells, at);
         if !is_key(key) {

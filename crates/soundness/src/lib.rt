@@ -1,10 +1,12 @@
 // A binding room as a caller lends it, with any contents: whether it is one that bindings make, and if not, the first bad cell.
+ghost use mathlib.Core.Path.{_≡_};
+ghost use Prim.Native.Nat.{min, _<_};
+ghost use Rattle.soundness.specs.Sound.{firstBad, slotsFit, soundOf};
 use rooms::building::cell_room;
 use rooms::building::text_room;
 use rooms::cells::read_cell;
 use rooms::scope::NAMES;
 use rooms::scope::Scope;
-use rooms::value::Value;
 
 pub mod keys;
 pub mod values;
@@ -22,31 +24,38 @@ pub enum Soundness {
     Unsound(usize),
 }
 
-fn lesser(a: usize, b: usize) -> usize {
+fn lesser(a: usize, b: usize) -> usize
+    ensures { λ r. ⌜ r ≡ min a b ⌝ }
+{
     if a < b { a } else { b }
 }
 
-// Up to which cell all are good.
-fn first_bad(cells: &[u64], text: &[u8], used: usize, bytes: usize) -> usize {
+// The first bad cell; where there is none, the used count.
+fn first_bad(cells: &[u64], text: &[u8], used: usize, bytes: usize) -> usize
+    ensures { λ r. ⌜ r ≡ firstBad (now (cells .entry)) (now (text .entry)) used bytes 0 used ⌝ }
+{
     let mut at = 0;
     let mut left = used;
     while 0 < left {
         let v = read_cell(cells, at);
-        if !values::cell_fits(cells, text, used, bytes, at + 1, v) {
+        if !values::value_fits(cells, text, used, bytes, at + 1, v) {
             return at;
         }
         at += 1;
         left -= 1;
     }
-    used
+    at
 }
 
-fn slots_fit(cells: &[u64], text: &[u8], used: usize, bytes: usize, scope: Scope) -> bool {
+fn slots_fit(cells: &[u64], text: &[u8], used: usize, bytes: usize, scope: Scope) -> bool
+    ensures { λ r. ⌜ r ≡ slotsFit (now (cells .entry)) (now (text .entry)) used bytes scope 0 128 ⌝ }
+{
     let mut at = 0;
     let mut left = NAMES;
     while 0 < left {
         let slot = scope.slots[at];
-        if !values::slot_fits(cells, text, used, bytes, slot.value) {
+        let value = slot.value;
+        if !values::slot_fits(cells, text, used, bytes, value) {
             return false;
         }
         at += 1;
@@ -56,7 +65,9 @@ fn slots_fit(cells: &[u64], text: &[u8], used: usize, bytes: usize, scope: Scope
 }
 
 // The cells below the used count are judged one by one, each by what it says and what the cells it refers to say.
-pub fn sound(cells: &[u64], text: &[u8], bindings: Bindings) -> Soundness {
+pub fn sound(cells: &[u64], text: &[u8], bindings: Bindings) -> Soundness
+    ensures { λ r. ⌜ r ≡ soundOf (now (cells .entry)) (now (text .entry)) bindings ⌝ }
+{
     let used = lesser(bindings.cells, cell_room(cells));
     let bytes = lesser(bindings.bytes, text_room(text));
     let bad = first_bad(cells, text, used, bytes);

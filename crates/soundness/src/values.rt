@@ -1,5 +1,8 @@
 // What a cell or a slot holds, judged by what it refers to: text and cells of the bindings below the used counts, and the nesting that it
 // states by that which the cells behind it state.
+ghost use mathlib.Core.Path.{_≡_};
+ghost use Prim.Native.Nat.{_+_, _<_, max};
+ghost use Rattle.soundness.specs.Fits.{deepestIn, rowFits, spanFits, stringFits, mapFits, valueFits, isAbsent, slotFits};
 use crate::keys::keys_fit;
 use rooms::cells::read_cell;
 use rooms::texts::part;
@@ -8,18 +11,24 @@ use rooms::value::TextSpace;
 use rooms::value::Value;
 use rooms::value::nesting_of;
 
-pub const DEEPEST: u8 = 32;
+const DEEPEST: u8 = 32;
+
+fn deeper(a: u8, b: u8) -> u8
+    ensures { λ r. ⌜ r ≡ max a b ⌝ }
+{
+    if a < b { b } else { a }
+}
 
 // The deepest nesting that so many cells from one on state.
-fn deepest(cells: &[u64], first: usize, count: usize) -> u8 {
+fn deepest(cells: &[u64], first: usize, count: usize) -> u8
+    requires { ⌜ first + count < 262144 ⌝ }
+    ensures { λ r. ⌜ r ≡ deepestIn (now (cells .entry)) first count ⌝ }
+{
     let mut most = 0;
     let mut at = first;
     let mut left = count;
     while 0 < left {
-        let nesting = nesting_of(read_cell(cells, at));
-        if most < nesting {
-            most = nesting;
-        }
+        most = deeper(most, nesting_of(read_cell(cells, at)));
         at += 1;
         left -= 1;
     }
@@ -33,16 +42,20 @@ fn row_fits(
     least: usize,
     nesting: u8,
     space: CellSpace,
-    first: usize,
+    first: u16,
     count: usize,
-) -> bool {
+) -> bool
+    requires { ⌜ count < 131072 ⌝ }
+    ensures { λ r. ⌜ r ≡ rowFits (now (cells .entry)) used least nesting space first count ⌝ }
+{
+    let from = first as usize;
     match space {
         CellSpace::Evaluation => false,
         CellSpace::Binding => {
-            if first < least {
+            if from < least {
                 return false;
             }
-            if used < first + count {
+            if used < from + count {
                 return false;
             }
             if DEEPEST < nesting {
@@ -51,37 +64,68 @@ fn row_fits(
             if nesting == 0 {
                 return false;
             }
-            deepest(cells, first, count) == nesting - 1
+            deepest(cells, from, count) == nesting - 1
         }
     }
 }
 
 // A span of the text.
-fn span_fits(bytes: usize, space: TextSpace, first: usize, length: usize) -> bool {
+fn span_fits(bytes: usize, space: TextSpace, first: u16, length: u16) -> bool
+    ensures { λ r. ⌜ r ≡ spanFits bytes space first length ⌝ }
+{
     match space {
         TextSpace::Literal => false,
-        TextSpace::Binding => first + length <= bytes,
+        TextSpace::Binding => first as usize + length as usize <= bytes,
         TextSpace::Evaluation => false,
     }
 }
 
-fn string_fits(text: &[u8], bytes: usize, space: TextSpace, first: usize, length: usize) -> bool {
-    if span_fits(bytes, space, first, length) {
-        text::utf8::well_formed(part(text, first, length))
-    } else {
-        false
+fn string_fits(text: &[u8], bytes: usize, space: TextSpace, first: u16, length: u16) -> bool
+    ensures { λ r. ⌜ r ≡ stringFits (now (text .entry)) bytes space first length ⌝ }
+{
+    if !span_fits(bytes, space, first, length) {
+        return false;
     }
+    text::utf8::well_formed(part(text, first as usize, length as usize))
+}
+
+fn map_fits(
+    cells: &[u64],
+    text: &[u8],
+    used: usize,
+    least: usize,
+    nesting: u8,
+    space: CellSpace,
+    first: u16,
+    length: u16,
+) -> bool
+    ensures { λ r. ⌜ r ≡ mapFits (now (cells .entry)) (now (text .entry)) used least nesting space first length ⌝ }
+{
+    if !row_fits(
+        cells,
+        used,
+        least,
+        nesting,
+        space,
+        first,
+        2 * (length as usize),
+    ) {
+        return false;
+    }
+    keys_fit(cells, text, first, length)
 }
 
 // Whether a binding can have written this.
-pub fn cell_fits(
+pub(crate) fn value_fits(
     cells: &[u64],
     text: &[u8],
     used: usize,
     bytes: usize,
     least: usize,
     v: Value,
-) -> bool {
+) -> bool
+    ensures { λ r. ⌜ r ≡ valueFits (now (cells .entry)) (now (text .entry)) used bytes least v ⌝ }
+{
     match v {
         Value::Null => true,
         Value::Bool(_) => true,
@@ -89,37 +133,13 @@ pub fn cell_fits(
         Value::Uint(_) => true,
         Value::Double(_) => true,
         Value::Nan(_) => true,
-        Value::String(space, first, length) => {
-            string_fits(text, bytes, space, first as usize, length as usize)
-        }
-        Value::Bytes(space, first, length) => {
-            span_fits(bytes, space, first as usize, length as usize)
-        }
+        Value::String(space, first, length) => string_fits(text, bytes, space, first, length),
+        Value::Bytes(space, first, length) => span_fits(bytes, space, first, length),
         Value::List(nesting, space, first, length) => {
-            row_fits(
-                cells,
-                used,
-                least,
-                nesting,
-                space,
-                first as usize,
-                length as usize,
-            )
+            row_fits(cells, used, least, nesting, space, first, length as usize)
         }
         Value::Map(nesting, space, first, length) => {
-            if row_fits(
-                cells,
-                used,
-                least,
-                nesting,
-                space,
-                first as usize,
-                2 * (length as usize),
-            ) {
-                keys_fit(cells, text, first as usize, length as usize)
-            } else {
-                false
-            }
+            map_fits(cells, text, used, least, nesting, space, first, length)
         }
         Value::OptionalNone => false,
         Value::OptionalOf(_, _, _) => false,
@@ -127,18 +147,33 @@ pub fn cell_fits(
     }
 }
 
-fn is_absent(v: Value) -> bool {
+// Whether a name has no value.
+pub fn is_absent(v: Value) -> bool
+    ensures { λ r. ⌜ r ≡ isAbsent v ⌝ }
+{
     match v {
+        Value::Null => false,
+        Value::Bool(_) => false,
+        Value::Int(_) => false,
+        Value::Uint(_) => false,
+        Value::Double(_) => false,
+        Value::Nan(_) => false,
+        Value::String(_, _, _) => false,
+        Value::Bytes(_, _, _) => false,
+        Value::List(_, _, _, _) => false,
+        Value::Map(_, _, _, _) => false,
+        Value::OptionalNone => false,
+        Value::OptionalOf(_, _, _) => false,
         Value::Absent => true,
-        _ => false,
     }
 }
 
 // A slot may be absent, and may refer to any cell.
-pub fn slot_fits(cells: &[u64], text: &[u8], used: usize, bytes: usize, v: Value) -> bool {
+pub(crate) fn slot_fits(cells: &[u64], text: &[u8], used: usize, bytes: usize, v: Value) -> bool
+    ensures { λ r. ⌜ r ≡ slotFits (now (cells .entry)) (now (text .entry)) used bytes v ⌝ }
+{
     if is_absent(v) {
-        true
-    } else {
-        cell_fits(cells, text, used, bytes, 0, v)
+        return true;
     }
+    value_fits(cells, text, used, bytes, 0, v)
 }
