@@ -1,4 +1,9 @@
 // The literals of an accepted table.
+ghost use mathlib.Core.Path.{_≡_};
+ghost use Prim.Native.Nat.{_+_, _<_, _≤_};
+ghost use lib.ListN.{length, getD};
+ghost use Rattle.table.specs.Shapes.{kindNumbers, headBytes};
+ghost use Rattle.bindings.specs.Literals.{literalValue, textLength};
 use rooms::value::TextSpace;
 use rooms::value::Value;
 use rooms::value::double_value;
@@ -20,7 +25,10 @@ const UINT: u8 = 3;
 const DOUBLE: u8 = 4;
 
 // The value of a literal, its text where it lies; absent for any other record.
-pub fn literal_at(table: &[u8], at: usize) -> Value {
+pub(crate) fn literal_at(table: &[u8], at: usize) -> Value
+    requires { ⌜ (getD (now table) at 0 < kindNumbers) × (at + headBytes (getD (now table) at 0) ≤ length (now table)) ⌝ }
+    ensures { λ r. ⌜ r ≡ literalValue (now (table .entry)) at ⌝ }
+{
     match kind_at(table, at) {
         NULL => Value::Null,
         BOOL => Value::Bool(number_at(table, at) == 1),
@@ -40,10 +48,22 @@ pub fn literal_at(table: &[u8], at: usize) -> Value {
 }
 
 // How long its text is.
-pub fn text_length(v: Value) -> usize {
+pub(crate) fn text_length(v: Value) -> usize
+    ensures { λ r. ⌜ (r ≡ textLength v) × (r < 65536) ⌝ }
+{
     match v {
+        Value::Null => 0,
+        Value::Bool(_) => 0,
+        Value::Int(_) => 0,
+        Value::Uint(_) => 0,
+        Value::Double(_) => 0,
+        Value::Nan(_) => 0,
         Value::String(_, _, length) => length as usize,
         Value::Bytes(_, _, length) => length as usize,
-        _ => 0,
+        Value::List(_, _, _, _) => 0,
+        Value::Map(_, _, _, _) => 0,
+        Value::OptionalNone => 0,
+        Value::OptionalOf(_, _, _) => 0,
+        Value::Absent => 0,
     }
 }

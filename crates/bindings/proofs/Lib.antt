@@ -1,0 +1,6 @@
+-- The laws that the functions' proofs cite, from the leaves up.
+pub mod Heads
+pub mod Rows
+pub mod LiteralLaws
+pub mod KeyLaws
+pub mod JudgingSteps
