@@ -2,5 +2,8 @@
 pub mod Heads
 pub mod Rows
 pub mod LiteralLaws
+pub mod PartLaws
 pub mod KeyLaws
+pub mod JudgeLaws
 pub mod JudgingSteps
+pub mod JudgeSteps
