@@ -87,9 +87,9 @@ elements-start t x first count s e o =
       small = rw (e, zero-less first) small-nothing;
       same = rw e (plus-start (judgedElements (elementsOf t x count first)));
     }
-    where
-      zero-less : (n : ℕ) → n - n ≡ 0
-      zero-less n = omega arith
+  where
+    zero-less : (n : ℕ) → n - n ≡ 0
+    zero-less n = omega arith
 
 small-joined : (s j r : Judged) (m n k : ℕ) → r ≡ joinedOf s j → Small s m → Small j (n - 1) → 0 < n → k ≡ m + n → Small r k
 small-joined s j r m n k e f g h i =
@@ -251,8 +251,8 @@ module _ (t x : List ℕ) (first count : ℕ) (sum : Judged) (at left : ℕ) (l 
           let kk : k ≡ judgedOf (exprOf t x at) = n ∙ ap judgedPart (bare-part t x at entries-key .1) in
           let w : plus r behind ≡ plus sum (entered f k v behind) = (rw (q, i, e) (plus-keyed sum f k v behind)) in
           let y : entered f k v behind ≡ judgedPairs (keysFrom t x (count - left) first) (pairsOf t x left at) =
-              (rw (m, kk, o, ← next-keys, pairs-next t x left at h)
-              (sym (pairs-more (keysFrom t x (count - left) first) (exprOf t x at) (partOf t x (after t at)) (pairsOf t x (left - 1) (after t (after t at)))))) in
+          (rw (m, kk, o, ← next-keys, pairs-next t x left at h)
+          (sym (pairs-more (keysFrom t x (count - left) first) (exprOf t x at) (partOf t x (after t at)) (pairsOf t x (left - 1) (after t (after t at)))))) in
           rw u (record {
             all = l .all;
             rest = first-entry t x left at h (l .rest) .2;

@@ -71,10 +71,10 @@ module _ (t x : List ℕ) (small : (i : ℕ) → getD t i 0 < 256) where
         let g : isSome (keyIn s) ≡ true = sym (h .key) ∙ (rw (← is) k) in
         let m : isAmong s (keysFrom t x n first) ≡ b = sym (among-is s v (rw is (h .seen)) g n first es) ∙ r in
         rw (e, g, m) (flipped b)
-        where
-          flipped : (b : Bool) → cond b (At p) Nowhere ≡ cond (not b) Nowhere (At p)
-          flipped true = refl
-          flipped false = refl
+      where
+        flipped : (b : Bool) → cond b (At p) Nowhere ≡ cond (not b) Nowhere (At p)
+        flipped true = refl
+        flipped false = refl
     key-by (aList b e ls f) k c r = never k (absent-key e)
     key-by (aMap b e ls f) k c r = never k (absent-key e)
     key-by (another e f g) k c r = never k (absent-key e)

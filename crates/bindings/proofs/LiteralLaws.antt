@@ -6,7 +6,8 @@ use mathlib.Core.Bool.{Bool, true, false, cond}
 use mathlib.Core.Option.{Option, none, some}
 use native.Mathlib.Omega.{arith}
 use lib.Dec.{leb, eqb}
-use lib.ListN.{length, take, drop, getD, length-take, length-drop}
+use lib.ListN.{length, take, drop, getD, set, length-take, length-drop}
+use lib.Seq.{drop-cons}
 use borrow.Author.Tests.{ne-eqb, leb-true}
 use mir.Syntax.{w64}
 use mir.Val.{toZ}
@@ -35,7 +36,9 @@ use Rattle.rooms.specs.Value.{plainOf, doubleValue}
 use Rattle.rooms.specs.Equality.{seenOf, seenScalar}
 use Rattle.soundness.specs.Keys.{isKey}
 use Rattle.soundness.specs.Fits.{isAbsent}
-use Rattle.bindings.specs.Literals.{literalIn, literalValue, textLength}
+use Rattle.rooms.specs.Building.{pasted}
+use Rattle.bindings.specs.Literals.{literalIn, literalValue, textLength, textFirst, movedTo}
+use Rattle.bindings.specs.Laying.{Room, room, typed, laidScalar}
 
 pub no-literal : (t : List ℕ) (p n : ℕ) → n ≡ getD t p 0 → (n ≡ 0 → ⊥) → (n ≡ 1 → ⊥) → (n ≡ 2 → ⊥) → (n ≡ 3 → ⊥) → (n ≡ 4 → ⊥) → (n ≡ 5 → ⊥) →
     (n ≡ 6 → ⊥) → Value.Absent ≡ literalValue t p
@@ -45,16 +48,76 @@ no-literal t p n e a b c d f g h =
 
 -- ---- what a value shows of a scalar
 
+-- the bytes of a span, copied one by one
+pasted-typed : (x t : List ℕ) (o to n : ℕ) → o + n ≤ length x → typed t to (take n (drop o x)) ≡ pasted x [] Text.Literal t o to n
+unfolding typed pasted
+pasted-typed x t o to zero h = refl
+pasted-typed x t o to (suc n) h = rw (drop-cons x o 0 (omega arith)) (pasted-typed x (set t to (getD x o 0)) (suc o) (suc to) n (omega arith))
+
+-- what is laid down of a literal's value
+abbrev pub Moved : List ℕ → Value → Room → Value × Room
+Moved x v r = (movedTo (r .bytes) v, room (r .words) (pasted x [] Text.Literal (r .text) (textFirst v) (r .bytes) (textLength v)) (r .cells) (r .bytes + textLength v))
+
 pub record Shows (x : List ℕ) (s : Scalar) (v : Value) : Type 0 where
   pub seen : seenOf x [] [] (plainOf v) ≡ seenScalar s
   pub key : isKey v ≡ isSome (keyIn s)
   pub present : isAbsent v ≡ false
   pub long : textLength v ≡ textBytes s
+  pub laid : (r : Room) → laidScalar s r ≡ Moved x v r
 
-shows-double : (x : List ℕ) (d : Double) → Shows x (double (bitsOf d)) (doubleValue d)
-unfolding keyIn textBytes
-shows-double x (Double.Plain f) = record { seen = refl; key = refl; present = refl; long = refl }
-shows-double x (Double.Nan b) = record { seen = refl; key = refl; present = refl; long = refl }
+no-more-bytes : (x : List ℕ) (v w : Value) (r : Room) → textLength v ≡ 0 → movedTo (r .bytes) v ≡ w → _≡_ {A = Value × Room} (w, r) (Moved x v r)
+unfolding pasted
+no-more-bytes x v w r e f = rw (e, f) (ap (λ n. (w, room (r .words) (r .text) (r .cells) n)) (none-more (r .bytes)))
+    where
+      none-more : (n : ℕ) → n ≡ n + 0
+      none-more n = omega arith
+
+moved-double : (n : ℕ) (d : Double) → (movedTo n (doubleValue d) ≡ doubleValue d) × (textLength (doubleValue d) ≡ 0)
+moved-double n (Double.Plain f) = (refl, refl)
+moved-double n (Double.Nan b) = (refl, refl)
+
+seen-double : (x : List ℕ) (d : Double) →
+    (seenOf x [] [] (plainOf (doubleValue d)) ≡ seenScalar (double (bitsOf d))) × (isKey (doubleValue d) ≡ false) × (isAbsent (doubleValue d) ≡ false)
+seen-double x (Double.Plain f) = (refl, refl, refl)
+seen-double x (Double.Nan b) = (refl, refl, refl)
+
+shows-double : (x : List ℕ) (b : ℕ) → b < 2 ^ 64 → Shows x (double b) (doubleValue (doubleOf b))
+unfolding keyIn textBytes laidScalar
+shows-double x b h =
+    let s = seen-double x (doubleOf b) in
+    record {
+      seen = s .0 ∙ ap (λ n. seenScalar (double n)) (bits-back b h);
+      key = s .1;
+      present = s .2;
+      long = moved-double 0 (doubleOf b) .1;
+      laid = λ r. no-more-bytes x (doubleValue (doubleOf b)) (doubleValue (doubleOf b)) r (moved-double 0 (doubleOf b) .1) (moved-double (r .bytes) (doubleOf b) .0);
+    }
+
+shows-text : (x t : List ℕ) (o to n : ℕ) → o + n ≤ length x →
+    (typed t to (take n (drop o x)) ≡ pasted x [] Text.Literal t o to n) × (length (take n (drop o x)) ≡ n)
+shows-text x t o to n h = (pasted-typed x t o to n h, simp (length-take, length-drop) (omega arith))
+
+shows-string : (x : List ℕ) (o n : ℕ) → o + n ≤ length x → Shows x (string (take n (drop o x))) (Value.String Text.Literal o n)
+unfolding keyIn textBytes laidScalar
+shows-string x o n h =
+    record {
+      seen = refl;
+      key = refl;
+      present = refl;
+      long = sym (shows-text x [] o 0 n h .1);
+      laid = λ r. let s = shows-text x (r .text) o (r .bytes) n h in rw (s .0, s .1);
+    }
+
+shows-bytes : (x : List ℕ) (o n : ℕ) → o + n ≤ length x → Shows x (bytes (take n (drop o x))) (Value.Bytes Text.Literal o n)
+unfolding keyIn textBytes laidScalar
+shows-bytes x o n h =
+    record {
+      seen = refl;
+      key = refl;
+      present = refl;
+      long = sym (shows-text x [] o 0 n h .1);
+      laid = λ r. let s = shows-text x (r .text) o (r .bytes) n h in rw (s .0, s .1);
+    }
 
 some-inside : (x : List ℕ) (o n : ℕ) → isSome (span x o n) ≡ true → o + n ≤ length x
 some-inside x o n e = leb-true (o + n) (length x) (sym (span-is x o n) ∙ e)
@@ -63,9 +126,6 @@ some-span : (o : Option (List ℕ)) → isSome (utf8 o) ≡ true → isSome o �
 unfolding utf8
 some-span none e = e
 some-span (some s) e = refl
-
-span-long : (x : List ℕ) (o n : ℕ) → isSome (span x o n) ≡ true → n ≡ length (take n (drop o x))
-span-long x o n e = let h = some-inside x o n e in simp (length-take, length-drop) (omega arith)
 
 -- ---- the kinds of records
 
@@ -79,8 +139,20 @@ pub data View (t x : List ℕ) (p : ℕ) : Type 0 where
 module _ (t x : List ℕ) (p : ℕ) (small : (i : ℕ) → getD t i 0 < 256) (s : Sound t x p) where
   long-small : (i : ℕ) → longAt t i < 2 ^ 64
   long-small i =
-      omega (arith, long-is t i, four-is t i, four-is t (i + 4), small i, small (i + 1), small (i + 2), small (i + 3), small (i + 4), small (i + 4 + 1),
-      small (i + 4 + 2), small (i + 4 + 3))
+      omega (
+        arith,
+        long-is t i,
+        four-is t i,
+        four-is t (i + 4),
+        small i,
+        small (i + 1),
+        small (i + 2),
+        small (i + 3),
+        small (i + 4),
+        small (i + 4 + 1),
+        small (i + 4 + 2),
+        small (i + 4 + 3),
+      )
 
   -- a record that is no literal and no container
   module _ (k : ExprKind) (b : getD t p 0 ≡ kindByte k) where
@@ -98,29 +170,27 @@ module _ (t x : List ℕ) (p : ℕ) (small : (i : ℕ) → getD t i 0 < 256) (s 
   called (some toTwo) = (refl, refl)
 
   by-kind : (k : ExprKind) → getD t p 0 ≡ kindByte k → View t x p
-  unfolding literalValue literalIn literalOf keyIn textBytes
-  by-kind nullKind b = shown nullKind b Value.Null null (rw b) (o nullKind b .is) (record { seen = refl; key = refl; present = refl; long = refl })
+  unfolding literalValue literalIn literalOf keyIn textBytes laidScalar
+  by-kind nullKind b = shown nullKind b Value.Null null (rw b) (o nullKind b .is) (record { seen = refl; key = refl; present = refl; long = refl; laid = λ r. no-more-bytes x Value.Null Value.Null r refl refl })
   by-kind boolKind b =
       shown boolKind b (Value.Bool (eqb (getD t (p + 3) 0) 1)) (bool (eqb (getD t (p + 3) 0) 1)) (rw b) (o boolKind b .is)
-      (record { seen = refl; key = refl; present = refl; long = refl })
+      (record { seen = refl; key = refl; present = refl; long = refl; laid = λ r. no-more-bytes x (Value.Bool (eqb (getD t (p + 3) 0) 1)) (Value.Bool (eqb (getD t (p + 3) 0) 1)) r refl refl })
   by-kind intKind b =
       shown intKind b (Value.Int (toZ w64 (longAt t (p + 3)))) (int (toZ w64 (longAt t (p + 3)))) (rw b) (o intKind b .is)
-      (record { seen = refl; key = refl; present = refl; long = refl })
+      (record { seen = refl; key = refl; present = refl; long = refl; laid = λ r. no-more-bytes x (Value.Int (toZ w64 (longAt t (p + 3)))) (Value.Int (toZ w64 (longAt t (p + 3)))) r refl refl })
   by-kind uintKind b =
       shown uintKind b (Value.Uint (longAt t (p + 3))) (uint (longAt t (p + 3))) (rw b) (o uintKind b .is)
-      (record { seen = refl; key = refl; present = refl; long = refl })
+      (record { seen = refl; key = refl; present = refl; long = refl; laid = λ r. no-more-bytes x (Value.Uint (longAt t (p + 3))) (Value.Uint (longAt t (p + 3))) r refl refl })
   by-kind doubleKind b =
-      shown doubleKind b (doubleValue (doubleOf (longAt t (p + 3)))) (double (bitsOf (doubleOf (longAt t (p + 3))))) (rw b)
-      (o doubleKind b .is ∙ ap (λ n. literal p (double n)) (sym (bits-back (longAt t (p + 3)) (long-small (p + 3)))))
-      (shows-double x (doubleOf (longAt t (p + 3))))
+      shown doubleKind b (doubleValue (doubleOf (longAt t (p + 3)))) (double (longAt t (p + 3))) (rw b) (o doubleKind b .is)
+      (shows-double x (longAt t (p + 3)) (long-small (p + 3)))
   by-kind stringKind b =
       shown stringKind b (Value.String Text.Literal (wordAt t (p + 3)) (wordAt t (p + 5))) (string (take (wordAt t (p + 5)) (drop (wordAt t (p + 3)) x)))
       (rw b) (o stringKind b .is)
-      (record { seen = refl; key = refl; present = refl; long = span-long x (wordAt t (p + 3)) (wordAt t (p + 5)) (some-span _ (o stringKind b .fits)) })
+      (shows-string x (wordAt t (p + 3)) (wordAt t (p + 5)) (some-inside x (wordAt t (p + 3)) (wordAt t (p + 5)) (some-span _ (o stringKind b .fits))))
   by-kind bytesKind b =
       shown bytesKind b (Value.Bytes Text.Literal (wordAt t (p + 3)) (wordAt t (p + 5))) (bytes (take (wordAt t (p + 5)) (drop (wordAt t (p + 3)) x))) (rw b)
-      (o bytesKind b .is)
-      (record { seen = refl; key = refl; present = refl; long = span-long x (wordAt t (p + 3)) (wordAt t (p + 5)) (o bytesKind b .fits) })
+      (o bytesKind b .is) (shows-bytes x (wordAt t (p + 3)) (wordAt t (p + 5)) (some-inside x (wordAt t (p + 3)) (wordAt t (p + 5)) (o bytesKind b .fits)))
   by-kind nameKind b = another (rw b) (rw (o nameKind b .is)) (rw (o nameKind b .is))
   by-kind unaryKind b = another (rw b) (rw (o unaryKind b .is)) (rw (o unaryKind b .is))
   by-kind binaryKind b = another (rw b) (rw (o binaryKind b .is)) (rw (o binaryKind b .is))

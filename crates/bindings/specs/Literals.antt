@@ -108,3 +108,35 @@ textLength (Value.Map d s a n) = 0
 textLength Value.OptionalNone = 0
 textLength (Value.OptionalOf d s a) = 0
 textLength Value.Absent = 0
+
+-- where it begins
+abbrev pub textFirst : Value → ℕ
+textFirst Value.Null = 0
+textFirst (Value.Bool b) = 0
+textFirst (Value.Int z) = 0
+textFirst (Value.Uint n) = 0
+textFirst (Value.Double x) = 0
+textFirst (Value.Nan b) = 0
+textFirst (Value.String s a n) = a
+textFirst (Value.Bytes s a n) = a
+textFirst (Value.List d s a n) = 0
+textFirst (Value.Map d s a n) = 0
+textFirst Value.OptionalNone = 0
+textFirst (Value.OptionalOf d s a) = 0
+textFirst Value.Absent = 0
+
+-- the same value with its text in the bindings' text, from a place on
+abbrev pub movedTo : ℕ → Value → Value
+movedTo to Value.Null = Value.Null
+movedTo to (Value.Bool b) = Value.Bool b
+movedTo to (Value.Int z) = Value.Int z
+movedTo to (Value.Uint n) = Value.Uint n
+movedTo to (Value.Double x) = Value.Double x
+movedTo to (Value.Nan b) = Value.Nan b
+movedTo to (Value.String s a n) = Value.String Text.Binding to n
+movedTo to (Value.Bytes s a n) = Value.Bytes Text.Binding to n
+movedTo to (Value.List d s a n) = Value.List d s a n
+movedTo to (Value.Map d s a n) = Value.Map d s a n
+movedTo to Value.OptionalNone = Value.OptionalNone
+movedTo to (Value.OptionalOf d s a) = Value.OptionalOf d s a
+movedTo to Value.Absent = Value.Null

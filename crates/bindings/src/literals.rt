@@ -3,7 +3,7 @@ ghost use mathlib.Core.Path.{_≡_};
 ghost use Prim.Native.Nat.{_+_, _<_, _≤_};
 ghost use lib.ListN.{length, getD};
 ghost use Rattle.table.specs.Shapes.{kindNumbers, headBytes};
-ghost use Rattle.bindings.specs.Literals.{literalValue, textLength};
+ghost use Rattle.bindings.specs.Literals.{literalValue, textLength, textFirst, movedTo};
 use rooms::value::TextSpace;
 use rooms::value::Value;
 use rooms::value::double_value;
@@ -65,5 +65,47 @@ pub(crate) fn text_length(v: Value) -> usize
         Value::OptionalNone => 0,
         Value::OptionalOf(_, _, _) => 0,
         Value::Absent => 0,
+    }
+}
+
+// Where it begins.
+pub(crate) fn text_first(v: Value) -> u16
+    ensures { λ r. ⌜ r ≡ textFirst v ⌝ }
+{
+    match v {
+        Value::Null => 0,
+        Value::Bool(_) => 0,
+        Value::Int(_) => 0,
+        Value::Uint(_) => 0,
+        Value::Double(_) => 0,
+        Value::Nan(_) => 0,
+        Value::String(_, first, _) => first,
+        Value::Bytes(_, first, _) => first,
+        Value::List(_, _, _, _) => 0,
+        Value::Map(_, _, _, _) => 0,
+        Value::OptionalNone => 0,
+        Value::OptionalOf(_, _, _) => 0,
+        Value::Absent => 0,
+    }
+}
+
+// The same value with its text in the bindings' text, from a place on.
+pub(crate) fn moved_to(to: u16, v: Value) -> Value
+    ensures { λ r. ⌜ r ≡ movedTo to v ⌝ }
+{
+    match v {
+        Value::Null => Value::Null,
+        Value::Bool(b) => Value::Bool(b),
+        Value::Int(z) => Value::Int(z),
+        Value::Uint(n) => Value::Uint(n),
+        Value::Double(float) => Value::Double(float),
+        Value::Nan(bits) => Value::Nan(bits),
+        Value::String(_, _, length) => Value::String(TextSpace::Binding, to, length),
+        Value::Bytes(_, _, length) => Value::Bytes(TextSpace::Binding, to, length),
+        Value::List(nesting, space, first, length) => Value::List(nesting, space, first, length),
+        Value::Map(nesting, space, first, length) => Value::Map(nesting, space, first, length),
+        Value::OptionalNone => Value::OptionalNone,
+        Value::OptionalOf(nesting, space, cell) => Value::OptionalOf(nesting, space, cell),
+        Value::Absent => Value::Null,
     }
 }

@@ -13,7 +13,8 @@ use rooms::value::nesting_of;
 
 const DEEPEST: u8 = 32;
 
-fn deeper(a: u8, b: u8) -> u8
+// The greater of two nestings.
+pub fn deeper(a: u8, b: u8) -> u8
     ensures { λ r. ⌜ r ≡ max a b ⌝ }
 {
     if a < b { b } else { a }
