@@ -7,3 +7,5 @@ pub mod KeyLaws
 pub mod JudgeLaws
 pub mod JudgingSteps
 pub mod JudgeSteps
+pub mod LayLaws
+pub mod LaySteps
