@@ -9,3 +9,4 @@ pub mod JudgingSteps
 pub mod JudgeSteps
 pub mod LayLaws
 pub mod LaySteps
+pub mod SpelledLaws
