@@ -32,6 +32,7 @@ scalar-used (bytes s) r = (refl, refl)
 
 mutual
   unfolding laid laidRow laidPairs cellsFor cellsAmong cellsOver countLiterals countPairs
+
   pub laid-cells : (l : Literal) (r : Room) → laid l r .1 .cells ≡ r .cells + cellsFor l
   laid-cells (scalarAt p x) r = omega (arith, scalar-used x r .0)
   laid-cells (listAt p ls) r = omega (arith, row-cells ls (r .cells) (taking r (countLiterals ls)))
@@ -48,6 +49,7 @@ mutual
 
 mutual
   unfolding laid laidRow laidPairs bytesFor bytesAmong bytesOver
+
   pub laid-bytes : (l : Literal) (r : Room) → laid l r .1 .bytes ≡ r .bytes + bytesFor l
   laid-bytes (scalarAt p x) r = scalar-used x r .1
   laid-bytes (listAt p ls) r = row-bytes ls (r .cells) (taking r (countLiterals ls))

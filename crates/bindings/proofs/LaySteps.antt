@@ -45,9 +45,9 @@ module _ (t x : List ℕ) (p : ℕ) (small : (i : ℕ) → getD t i 0 < 256) (s 
   absent-laid : (l : Literal) → here ≡ l → l ≡ scalarAt p null → v ≡ Value.Absent → (textLength v ≡ bytesFor here) × ((r : Room) → laid here r ≡ Moved x v r)
   unfolding laid laidScalar bytesFor textBytes pasted
   absent-laid l g h a = (rw (a, g, h), λ r. rw (a, g, h) (ap (λ n. (Value.Null, room (r .words) (r .text) (r .cells) n)) (none-more (r .bytes))))
-      where
-        none-more : (n : ℕ) → n ≡ n + 0
-        none-more n = omega arith
+    where
+      none-more : (n : ℕ) → n ≡ n + 0
+      none-more n = omega arith
 
   by-view : View t x p → partOf t x p ≡ bare (exprOf t x p) → (k ≡ 12 → ⊥) → (k ≡ 13 → ⊥) → (textLength v ≡ bytesFor here) × ((r : Room) → laid here r ≡ Moved x v r)
   unfolding partLiteral literalIn laid bytesFor

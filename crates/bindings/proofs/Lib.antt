@@ -10,3 +10,5 @@ pub mod JudgeSteps
 pub mod LayLaws
 pub mod LaySteps
 pub mod SpelledLaws
+pub mod BringSteps
+pub mod AcceptedLaws

@@ -68,9 +68,9 @@ pub record Shows (x : List ℕ) (s : Scalar) (v : Value) : Type 0 where
 no-more-bytes : (x : List ℕ) (v w : Value) (r : Room) → textLength v ≡ 0 → movedTo (r .bytes) v ≡ w → _≡_ {A = Value × Room} (w, r) (Moved x v r)
 unfolding pasted
 no-more-bytes x v w r e f = rw (e, f) (ap (λ n. (w, room (r .words) (r .text) (r .cells) n)) (none-more (r .bytes)))
-    where
-      none-more : (n : ℕ) → n ≡ n + 0
-      none-more n = omega arith
+  where
+    none-more : (n : ℕ) → n ≡ n + 0
+    none-more n = omega arith
 
 moved-double : (n : ℕ) (d : Double) → (movedTo n (doubleValue d) ≡ doubleValue d) × (textLength (doubleValue d) ≡ 0)
 moved-double n (Double.Plain f) = (refl, refl)

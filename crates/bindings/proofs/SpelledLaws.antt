@@ -16,7 +16,7 @@ use Rattle.meaning.specs.Containers.{cellsAnEntry}
 use Rattle.meaning.specs.Bindings as meant
 use Rattle.meaning.specs.Bindings.{textBytes, cellsOf, bytesOf}
 use Rattle.meaning.specs.Spelling.{Literal, scalarAt, listAt, mapAt, Literals, noLiterals, literals, LiteralPairs, noLiteralPairs, literalPairs, literalOf, literalsOf, literalPairsOf, newKey, keyLiteral, spelled, spelledElements, spelledEntries}
-use Rattle.laws.proofs.Reading.{Reads, reads-got, reads-refused, reads-bind, reads-then, reads-demand, reads-weaker}
+use Rattle.laws.proofs.Reading.{Reads, reads-got, reads-refused, reads-bind, reads-then, reads-demand, reads-weaker, was-read}
 use Rattle.table.specs.Shapes.{isSome}
 use Rattle.bindings.specs.declared.judging.Fault.{Fault}
 use Rattle.bindings.specs.declared.judging.Fault.the-variants.{At, Nowhere}
@@ -149,9 +149,6 @@ unfolding _>>=_
 fault-got (got a) k = refl
 fault-got (refused r p) k = refl
 
-got-reads : {A : Type 0} {P : A → Type 0} {g : Got A} {a : A} → Reads P g → g ≡ got a → P a
-got-reads {A} {P} {g} {a} r e = rw e at r .only
-
 nothing : (x : Scalar) → isAmong x [] ≡ isFound (find x empty .1)
 unfolding isAmong find isFound
 nothing x = refl
@@ -173,7 +170,7 @@ mutual
   entries-fault noLiteralPairs before es m = refl
   entries-fault (literalPairs l n ls) before es m =
       fault-bind (keyLiteral es l) _ (keyFault before l) (firstOf (keysIn l) (firstOf (keysIn n) (keysOver (before ++ (l ∷ [])) ls))) (key-fault before es m l)
-      (λ k e. let a = got-reads (key-read es l) e in
+      (λ k e. let a = was-read (key-read es l) e in
       rw (a .1)
       (fault-bind (spelled n) _ (keysIn n) (keysOver (before ++ (scalarAt (a .0) (keyScalar k) ∷ [])) ls) (spelled-fault n)
       (λ v f. entries-fault ls (before ++ (scalarAt (a .0) (keyScalar k) ∷ [])) (addEntry es k v) (matching-added before es (a .0) k v m))))

@@ -1,11 +1,17 @@
 // Bindings are brought into a room from tables of literals, refused, and emptied. A refusal changes nothing that is lent.
+ghost use mathlib.Core.Path.{_≡_};
+ghost use Prim.Native.Nat.{_+_, _≤_};
+ghost use lib.Dec.{leb};
+ghost use lib.ListN.{length};
+ghost use Rattle.table.specs.Records.{Sound, exprOf};
+ghost use Rattle.bindings.specs.Bringing.{literalFor, accepted, said, Outcome, outcomeOf, emptied};
 use rooms::building::cell_room;
 use rooms::building::text_room;
 use rooms::scope::NAMES;
 use rooms::scope::Scope;
-use rooms::value::Value;
 use soundness::Bindings;
 use soundness::Soundness;
+use soundness::values::is_absent;
 use table::Checked;
 
 pub mod judging;
@@ -35,15 +41,10 @@ pub struct Brought {
     pub bindings: Bindings,
 }
 
-fn is_bound(scope: Scope, name: usize) -> bool {
-    match Scope::value_of(scope, name) {
-        Value::Absent => false,
-        _ => true,
-    }
-}
-
 // Whether so much more fits, of a room of which some is used.
-fn has_room(room: usize, used: usize, need: usize) -> bool {
+fn has_room(room: usize, used: usize, need: usize) -> bool
+    ensures { λ r. ⌜ r ≡ leb (used + need) room ⌝ }
+{
     if room < used {
         return false;
     }
@@ -58,7 +59,10 @@ fn judge_table(
     room_bytes: usize,
     cells: usize,
     bytes: usize,
-) -> Answer {
+) -> Answer
+    requires { ⌜ Sound (now table) (now literal) 0 × (length (now table) ≤ 16384) ⌝ }
+    ensures { λ r. ⌜ r ≡ said (literalFor «room_cells» «room_bytes» cells bytes (exprOf (now (table .entry)) (now (literal .entry)) 0)) ⌝ }
+{
     let judged = judging::judge(table, literal, 0);
     let other = judged.other;
     if let Fault::At(place) = other {
@@ -88,15 +92,18 @@ fn judge_all(
     name: usize,
     table: &[u8],
     literal: &[u8],
-) -> Answer {
-    if let Soundness::Unsound(place) = soundness::sound(cells, text, bindings) {
+) -> Answer
+    ensures { λ r. ⌜ r ≡ said (accepted (now (cells .entry)) (now (text .entry)) bindings name (now (table .entry)) (now (literal .entry))) ⌝ }
+{
+    let soundness = soundness::sound(cells, text, bindings);
+    if let Soundness::Unsound(place) = soundness {
         return Answer::Refused(UNSOUND_BINDING, place);
     }
     if NAMES <= name {
         return Answer::Refused(WRONG_FIELD, 0);
     }
     let scope = bindings.scope;
-    if is_bound(scope, name) {
+    if !is_absent(Scope::value_of(scope, name)) {
         return Answer::Refused(NAME_BOUND, 0);
     }
     match table::check(table, literal) {
@@ -120,11 +127,16 @@ pub fn bring_in(
     name: usize,
     table: &[u8],
     literal: &[u8],
-) -> Brought {
+) -> Brought
+    ensures { λ r. ⌜ _≡_ {A = Outcome} (record { brought = r; words = now (cells .exit); text = now (text .exit) }) (outcomeOf (now (cells .entry)) (now (text .entry)) bindings name (now (table .entry)) (now (literal .entry))) ⌝ }
+{
     let answer = judge_all(cells, text, bindings, name, table, literal);
-    let Answer::Done = answer else {
-        return Brought { answer, bindings };
-    };
+    if let Answer::Refused(number, place) = answer {
+        return Brought {
+            answer: Answer::Refused(number, place),
+            bindings,
+        };
+    }
     let laid = laying::lay(
         table,
         literal,
@@ -138,7 +150,7 @@ pub fn bring_in(
     let before = bindings.scope;
     let scope = Scope::with(before, name, value);
     Brought {
-        answer,
+        answer: Answer::Done,
         bindings: Bindings {
             scope,
             cells: laid.cells,
@@ -148,7 +160,9 @@ pub fn bring_in(
 }
 
 // A fresh room, and what any room becomes when it is emptied: no name has a value, and all of the lent memory serves again.
-pub fn empty() -> Bindings {
+pub fn empty() -> Bindings
+    ensures { λ r. ⌜ r ≡ emptied ⌝ }
+{
     Bindings {
         scope: Scope::empty(),
         cells: 0,
