@@ -56,23 +56,57 @@ unfolding cellPlace
 cell-place Cells.Binding a n p q = simp (le-ltb 65535 a (omega arith), le-ltb 65535 n (omega arith))
 cell-place Cells.Evaluation a n p q = simp (le-ltb 65535 a (omega arith), le-ltb 65535 n (omega arith))
 
+-- what reading back asks of a value: its numbers lie within their fields
+abbrev pub Small : Value → Type 0
+Small Value.Null = Unit {0}
+Small (Value.Bool b) = Unit {0}
+Small (Value.Int z) = mag z < 2 ^ 63
+Small (Value.Uint n) = Unit {0}
+Small (Value.Double x) = Unit {0}
+Small (Value.Nan b) = Unit {0}
+Small (Value.String s a n) = (a < 2 ^ 16) × (n < 2 ^ 16)
+Small (Value.Bytes s a n) = (a < 2 ^ 16) × (n < 2 ^ 16)
+Small (Value.List d s a n) = (d < 2 ^ 8) × (a < 2 ^ 16) × (n < 2 ^ 16)
+Small (Value.Map d s a n) = (d < 2 ^ 8) × (a < 2 ^ 16) × (n < 2 ^ 16)
+Small Value.OptionalNone = Unit {0}
+Small (Value.OptionalOf d s a) = (d < 2 ^ 8) × (a < 2 ^ 16)
+Small Value.Absent = Unit {0}
+
+pub small-back : (v : Value) → Small v → cellOf (headOf v) (payloadOf v) ≡ settled v
+unfolding cellOf valueOf bareOf textOf containerOf
+small-back Value.Null f = refl
+small-back (Value.Bool true) f = refl
+small-back (Value.Bool false) f = refl
+small-back (Value.Int z) f = ap Value.Int (signed-back z f)
+small-back (Value.Uint n) f = refl
+small-back (Value.Double x) f = refl
+small-back (Value.Nan b) f = refl
+small-back (Value.String s a n) f = unpacked 5 (textNumber s) 0 n a (omega arith) (text-small s) (omega arith) ∙ ap (textOf 5 0) (text-place s a n (f .0) (f .1))
+small-back (Value.Bytes s a n) f = unpacked 6 (textNumber s) 0 n a (omega arith) (text-small s) (omega arith) ∙ ap (textOf 6 0) (text-place s a n (f .0) (f .1))
+small-back (Value.List d s a n) f = unpacked 12 (cellNumber s) d n a (omega arith) (cell-small s) (f .0) ∙ ap (containerOf 12 d) (cell-place s a n (f .1) (f .2)) ∙ simp (le-ltb 255 d (omega (arith, f .0)))
+small-back (Value.Map d s a n) f = unpacked 13 (cellNumber s) d n a (omega arith) (cell-small s) (f .0) ∙ ap (containerOf 13 d) (cell-place s a n (f .1) (f .2)) ∙ simp (le-ltb 255 d (omega (arith, f .0)))
+small-back Value.OptionalNone f = refl
+small-back (Value.OptionalOf d s a) f = unpacked 15 (cellNumber s) d 0 a (omega arith) (cell-small s) (f .0) ∙ ap (containerOf 15 d) (cell-place s a 0 (f .1) (omega arith)) ∙ simp (le-ltb 255 d (omega (arith, f .0)))
+small-back Value.Absent f = refl
+
+fits-small : (v : Value) → Fits v → Small v
+fits-small Value.Null f = tt
+fits-small (Value.Bool b) f = tt
+fits-small (Value.Int z) f = f
+fits-small (Value.Uint n) f = tt
+fits-small (Value.Double x) f = tt
+fits-small (Value.Nan b) f = tt
+fits-small (Value.String s a n) f = f
+fits-small (Value.Bytes s a n) f = f
+fits-small (Value.List d s a n) f = f
+fits-small (Value.Map d s a n) f = f
+fits-small Value.OptionalNone f = tt
+fits-small (Value.OptionalOf d s a) f = f
+fits-small Value.Absent f = tt
+
 -- Reading what was written gives the value back, for every value that fits: a Double by its bits.
 pub read-back : (v : Value) → Fits v → cellOf (headOf v) (payloadOf v) ≡ settled v
-unfolding cellOf valueOf bareOf textOf containerOf
-read-back Value.Null f = refl
-read-back (Value.Bool true) f = refl
-read-back (Value.Bool false) f = refl
-read-back (Value.Int z) f = ap Value.Int (signed-back z f)
-read-back (Value.Uint n) f = refl
-read-back (Value.Double x) f = refl
-read-back (Value.Nan b) f = refl
-read-back (Value.String s a n) f = unpacked 5 (textNumber s) 0 n a (omega arith) (text-small s) (omega arith) ∙ ap (textOf 5 0) (text-place s a n (f .0) (f .1))
-read-back (Value.Bytes s a n) f = unpacked 6 (textNumber s) 0 n a (omega arith) (text-small s) (omega arith) ∙ ap (textOf 6 0) (text-place s a n (f .0) (f .1))
-read-back (Value.List d s a n) f = unpacked 12 (cellNumber s) d n a (omega arith) (cell-small s) (f .0) ∙ ap (containerOf 12 d) (cell-place s a n (f .1) (f .2)) ∙ simp (le-ltb 255 d (omega (arith, f .0)))
-read-back (Value.Map d s a n) f = unpacked 13 (cellNumber s) d n a (omega arith) (cell-small s) (f .0) ∙ ap (containerOf 13 d) (cell-place s a n (f .1) (f .2)) ∙ simp (le-ltb 255 d (omega (arith, f .0)))
-read-back Value.OptionalNone f = refl
-read-back (Value.OptionalOf d s a) f = unpacked 15 (cellNumber s) d 0 a (omega arith) (cell-small s) (f .0) ∙ ap (containerOf 15 d) (cell-place s a 0 (f .1) (omega arith)) ∙ simp (le-ltb 255 d (omega (arith, f .0)))
-read-back Value.Absent f = refl
+read-back v f = small-back v (fits-small v f)
 
 -- ---- in a list of words
 
@@ -84,18 +118,22 @@ written-length w i v = go (hasCell w i)
     go true = length-set (set w (i * 2) (headOf v)) (i * 2 + 1) (payloadOf v) ∙ length-set w (i * 2) (headOf v)
     go false = refl
 
--- The cell that was written holds the value.
-pub written-same : (w : List ℕ) (i : ℕ) (v : Value) → i < length w / 2 → Fits v → cellIn (writtenIn w i v) i ≡ settled v
+-- the cell that was written holds its two words
+pub written-words : (w : List ℕ) (i : ℕ) (v : Value) → i < length w / 2 → cellIn (writtenIn w i v) i ≡ cellOf (headOf v) (payloadOf v)
 unfolding cellIn writtenIn
-written-same w i v h f =
+written-words w i v h =
     ap (λ (n : ℕ). cond (ltb i (n / 2)) (cellOf (getD (writtenIn w i v) (i * 2) 0) (getD (writtenIn w i v) (i * 2 + 1) 0)) Value.Absent) (written-length w i v)
-    ∙ rw (lt-ltb i (length w / 2) h) (ap₂ cellOf first second ∙ read-back v f)
+    ∙ rw (lt-ltb i (length w / 2) h) (ap₂ cellOf first second)
   where
     first : getD (set (set w (i * 2) (headOf v)) (i * 2 + 1) (payloadOf v)) (i * 2) 0 ≡ headOf v
     first = getD-set-other (set w (i * 2) (headOf v)) (i * 2 + 1) (i * 2) (payloadOf v) 0 (omega arith) ∙ getD-set-same w (i * 2) (headOf v) 0 (omega arith)
 
     second : getD (set (set w (i * 2) (headOf v)) (i * 2 + 1) (payloadOf v)) (i * 2 + 1) 0 ≡ payloadOf v
     second = getD-set-same (set w (i * 2) (headOf v)) (i * 2 + 1) (payloadOf v) 0 (omega (arith, length-set w (i * 2) (headOf v)))
+
+-- The cell that was written holds the value.
+pub written-same : (w : List ℕ) (i : ℕ) (v : Value) → i < length w / 2 → Fits v → cellIn (writtenIn w i v) i ≡ settled v
+written-same w i v h f = written-words w i v h ∙ read-back v f
 
 -- Every other cell is as it was.
 pub written-other : (w : List ℕ) (i j : ℕ) (v : Value) → j ≢ i → cellIn (writtenIn w i v) j ≡ cellIn w j

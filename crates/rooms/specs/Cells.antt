@@ -3,7 +3,8 @@
 use Prim.Native.Nat.{ℕ, _+_, _-_, _*_, _/_, _%_, _^_, _<_}
 use mathlib.Core.List.{List}
 use mathlib.Core.Bool.{Bool, true, false, cond}
-use lib.Dec.{ltb, eqb}
+use lib.Dec.{ltb, eqb, T}
+use lib.Ieee.{binary64, fits}
 use lib.IntN.{ℤ, pos, negsuc}
 use lib.ListN.{length, getD, set}
 use lib.Signed.{mag}
@@ -86,7 +87,7 @@ Fits Value.Null = Unit {0}
 Fits (Value.Bool b) = Unit {0}
 Fits (Value.Int z) = mag z < 2 ^ 63
 Fits (Value.Uint n) = n < 2 ^ 64
-Fits (Value.Double x) = Unit {0}
+Fits (Value.Double x) = T (fits binary64 x)
 Fits (Value.Nan b) = b < 2 ^ 64
 Fits (Value.String s a n) = (a < 2 ^ 16) × (n < 2 ^ 16)
 Fits (Value.Bytes s a n) = (a < 2 ^ 16) × (n < 2 ^ 16)

@@ -1,9 +1,8 @@
 -- What the contracts cite: a value's parts (`Value`), a value as two words (`Cells`), the lent memory (`Rooms`); and what a value stands
--- for (`Stands`), which the machine's theorem speaks of.
+-- for, as a function (`Reading`) and as the relation that proofs use (`Stands`, `Scope`).
 pub mod Building
 pub mod Cells
-pub mod Comparison
-pub mod Equality
+pub mod Reading
 pub mod Rooms
 pub mod Scope
 pub mod Stands

@@ -22,6 +22,13 @@ pub record Rooms : Type 0 where
 abbrev pub rooms : (literal bindingCells bindingText cells text : List ℕ) → Rooms
 rooms l c b e t = record { literal = l; bindingCells = c; bindingText = b; cells = e; text = t }
 
+-- the same rooms with other cells, or another text, of the evaluation
+abbrev pub withWords : Rooms → List ℕ → Rooms
+withWords r w = rooms (r .literal) (r .bindingCells) (r .bindingText) w (r .text)
+
+abbrev pub withText : Rooms → List ℕ → Rooms
+withText r t = rooms (r .literal) (r .bindingCells) (r .bindingText) (r .cells) t
+
 -- of the words of the bindings and of the evaluation
 abbrev pub wordsOf : List ℕ → List ℕ → CellSpace → List ℕ
 wordsOf b e Cells.Binding = b

@@ -144,36 +144,36 @@ pub fn copy_cells(
     let mut place = to as usize;
     let mut left = length as usize;
     while 0 < left {
-        let v = cell_at(binding_cells, cells, space, at);
-        write_cell(cells, place, v);
+        let value = cell_at(binding_cells, cells, space, at);
+        write_cell(cells, place, value);
         at += 1;
         place += 1;
         left -= 1;
     }
 }
 
-// Byte `i` of a space; 0 where there is none.
-fn byte_at(literal: &[u8], binding_text: &[u8], text: &[u8], space: TextSpace, i: usize) -> u8
-    ensures { λ r. ⌜ r ≡ getD (textOf (now (literal .entry)) (now («binding_text» .entry)) (now (text .entry)) space) i 0 ⌝ }
+// Byte `index` of a space; 0 where there is none.
+fn byte_at(literal: &[u8], binding_text: &[u8], text: &[u8], space: TextSpace, index: usize) -> u8
+    ensures { λ r. ⌜ r ≡ getD (textOf (now (literal .entry)) (now («binding_text» .entry)) (now (text .entry)) space) index 0 ⌝ }
 {
     match space {
-        TextSpace::Literal => byte_in(literal, i),
-        TextSpace::Binding => byte_in(binding_text, i),
-        TextSpace::Evaluation => byte_in(text, i),
+        TextSpace::Literal => byte_in(literal, index),
+        TextSpace::Binding => byte_in(binding_text, index),
+        TextSpace::Evaluation => byte_in(text, index),
     }
 }
 
-fn byte_in(bytes: &[u8], i: usize) -> u8
-    ensures { λ r. ⌜ r ≡ getD (now (bytes .entry)) i 0 ⌝ }
+fn byte_in(bytes: &[u8], index: usize) -> u8
+    ensures { λ r. ⌜ r ≡ getD (now (bytes .entry)) index 0 ⌝ }
 {
-    if i < bytes.len() { bytes[i] } else { 0 }
+    if index < bytes.len() { bytes[index] } else { 0 }
 }
 
-fn put_byte(bytes: &mut [u8], i: usize, byte: u8)
-    ensures { λ _. ⌜ now (bytes .exit) ≡ set (now (bytes .entry)) i byte ⌝ }
+fn put_byte(bytes: &mut [u8], index: usize, byte: u8)
+    ensures { λ _. ⌜ now (bytes .exit) ≡ set (now (bytes .entry)) index byte ⌝ }
 {
-    if i < bytes.len() {
-        bytes[i] = byte;
+    if index < bytes.len() {
+        bytes[index] = byte;
     }
 }
 

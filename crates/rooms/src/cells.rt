@@ -48,13 +48,13 @@ const SIGN_BIT: u64 = 0x8000_0000_0000_0000;
 const ALL_ONES: u64 = 0xFFFF_FFFF_FFFF_FFFF;
 
 // An Int as a word, in two's complement, and back.
-fn word_of(z: i64) -> u64
-    ensures { λ r. ⌜ r ≡ wordOf z ⌝ }
+fn word_of(number: i64) -> u64
+    ensures { λ r. ⌜ r ≡ wordOf number ⌝ }
 {
-    if z < 0 {
-        ALL_ONES - ((-(z + 1)) as u64)
+    if number < 0 {
+        ALL_ONES - ((-(number + 1)) as u64)
     } else {
-        z as u64
+        number as u64
     }
 }
 
@@ -94,10 +94,10 @@ fn head(kind: u64, space: u64, nesting: u8, length: u16) -> u64
     kind + space * SPACE_UNIT + (nesting as u64) * NESTING_UNIT + (length as u64) * LENGTH_UNIT
 }
 
-fn head_of(v: Value) -> u64
-    ensures { λ r. ⌜ r ≡ headOf v ⌝ }
+fn head_of(value: Value) -> u64
+    ensures { λ r. ⌜ r ≡ headOf value ⌝ }
 {
-    match v {
+    match value {
         Value::Null => NULL,
         Value::Bool(_) => BOOL,
         Value::Int(_) => INT,
@@ -114,20 +114,20 @@ fn head_of(v: Value) -> u64
     }
 }
 
-fn bit(b: bool) -> u64
-    ensures { λ r. ⌜ r ≡ bitOf b ⌝ }
+fn bit(truth: bool) -> u64
+    ensures { λ r. ⌜ r ≡ bitOf truth ⌝ }
 {
-    if b { 1 } else { 0 }
+    if truth { 1 } else { 0 }
 }
 
-fn payload_of(v: Value) -> u64
-    ensures { λ r. ⌜ r ≡ payloadOf v ⌝ }
+fn payload_of(value: Value) -> u64
+    ensures { λ r. ⌜ r ≡ payloadOf value ⌝ }
 {
-    match v {
+    match value {
         Value::Null => 0,
-        Value::Bool(b) => bit(b),
-        Value::Int(z) => word_of(z),
-        Value::Uint(n) => n,
+        Value::Bool(truth) => bit(truth),
+        Value::Int(number) => word_of(number),
+        Value::Uint(number) => number,
         Value::Double(float) => numbers::double::to_bits(numbers::double::Double::Plain(float)),
         Value::Nan(bits) => bits,
         Value::String(_, first, _) => first as u64,
@@ -289,33 +289,33 @@ fn value_of(head: u64, payload: u64) -> Value
     }
 }
 
-// Cell `i` of the words.
-pub fn read_cell(words: &[u64], i: usize) -> Value
-    ensures { λ r. ⌜ r ≡ cellIn (now (words .entry)) i ⌝ }
+// Cell `index` of the words.
+pub fn read_cell(words: &[u64], index: usize) -> Value
+    ensures { λ r. ⌜ r ≡ cellIn (now (words .entry)) index ⌝ }
 {
-    if i < words.len() / 2 {
-        value_of(words[i * 2], words[i * 2 + 1])
+    if index < words.len() / 2 {
+        value_of(words[index * 2], words[index * 2 + 1])
     } else {
         Value::Absent
     }
 }
 
-// Where there is no cell `i`, nothing is written.
-pub fn write_cell(words: &mut [u64], i: usize, v: Value)
-    ensures { λ _. ⌜ now (words .exit) ≡ writtenIn (now (words .entry)) i v ⌝ }
+// Where there is no cell `index`, nothing is written.
+pub fn write_cell(words: &mut [u64], index: usize, value: Value)
+    ensures { λ _. ⌜ now (words .exit) ≡ writtenIn (now (words .entry)) index value ⌝ }
 {
-    if i < words.len() / 2 {
-        words[i * 2] = head_of(v);
-        words[i * 2 + 1] = payload_of(v);
+    if index < words.len() / 2 {
+        words[index * 2] = head_of(value);
+        words[index * 2 + 1] = payload_of(value);
     }
 }
 
-// Cell `i` of a space.
-pub fn cell_at(binding_cells: &[u64], cells: &[u64], space: CellSpace, i: usize) -> Value
-    ensures { λ r. ⌜ r ≡ cellIn (wordsOf (now («binding_cells» .entry)) (now (cells .entry)) space) i ⌝ }
+// Cell `index` of a space.
+pub fn cell_at(binding_cells: &[u64], cells: &[u64], space: CellSpace, index: usize) -> Value
+    ensures { λ r. ⌜ r ≡ cellIn (wordsOf (now («binding_cells» .entry)) (now (cells .entry)) space) index ⌝ }
 {
     match space {
-        CellSpace::Binding => read_cell(binding_cells, i),
-        CellSpace::Evaluation => read_cell(cells, i),
+        CellSpace::Binding => read_cell(binding_cells, index),
+        CellSpace::Evaluation => read_cell(cells, index),
     }
 }

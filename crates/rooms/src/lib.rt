@@ -1,8 +1,5 @@
 // Values in lent memory: what a value is, how it lies in a cell, and what is done with it there.
 pub mod building;
 pub mod cells;
-pub mod comparison;
-pub mod equality;
 pub mod scope;
-pub mod texts;
 pub mod value;

@@ -11,15 +11,19 @@ pub struct Slot {
     pub value: Value,
 }
 
+impl Slot {
+    pub const ABSENT: Slot = Slot {
+        value: Value::Absent,
+    };
+}
+
 pub struct Scope {
-    pub slots: [Slot; 128],
+    pub slots: [Slot; NAMES],
 }
 
 impl Scope {
     pub const EMPTY: Scope = Scope {
-        slots: [Slot {
-            value: Value::Absent,
-        }; 128],
+        slots: [Slot::ABSENT; NAMES],
     };
 
     // The scope that every fresh one starts from.

@@ -50,43 +50,25 @@ pub enum Parts {
     Nothing,
 }
 
-pub fn nesting_of(v: Value) -> u8
-    ensures { λ r. ⌜ r ≡ nestingOf v ⌝ }
+pub fn nesting_of(value: Value) -> u8
+    ensures { λ r. ⌜ r ≡ nestingOf value ⌝ }
 {
-    match v {
-        Value::Null => 0,
-        Value::Bool(_) => 0,
-        Value::Int(_) => 0,
-        Value::Uint(_) => 0,
-        Value::Double(_) => 0,
-        Value::Nan(_) => 0,
-        Value::String(_, _, _) => 0,
-        Value::Bytes(_, _, _) => 0,
+    match value {
         Value::List(nesting, _, _, _) => nesting,
         Value::Map(nesting, _, _, _) => nesting,
-        Value::OptionalNone => 0,
         Value::OptionalOf(nesting, _, _) => nesting,
-        Value::Absent => 0,
+        _ => 0,
     }
 }
 
-pub fn parts_of(v: Value) -> Parts
-    ensures { λ r. ⌜ r ≡ partsOf v ⌝ }
+pub fn parts_of(value: Value) -> Parts
+    ensures { λ r. ⌜ r ≡ partsOf value ⌝ }
 {
-    match v {
-        Value::Null => Parts::Nothing,
-        Value::Bool(_) => Parts::Nothing,
-        Value::Int(_) => Parts::Nothing,
-        Value::Uint(_) => Parts::Nothing,
-        Value::Double(_) => Parts::Nothing,
-        Value::Nan(_) => Parts::Nothing,
-        Value::String(_, _, _) => Parts::Nothing,
-        Value::Bytes(_, _, _) => Parts::Nothing,
+    match value {
         Value::List(_, space, first, length) => Parts::Elements(space, first, length),
         Value::Map(_, space, first, length) => Parts::Entries(space, first, length),
-        Value::OptionalNone => Parts::Nothing,
         Value::OptionalOf(_, space, cell) => Parts::Present(space, cell),
-        Value::Absent => Parts::Nothing,
+        _ => Parts::Nothing,
     }
 }
 
@@ -112,22 +94,19 @@ pub enum Plain {
     Other,
 }
 
-pub fn plain_of(v: Value) -> Plain
-    ensures { λ r. ⌜ r ≡ plainOf v ⌝ }
+pub fn plain_of(value: Value) -> Plain
+    ensures { λ r. ⌜ r ≡ plainOf value ⌝ }
 {
-    match v {
+    match value {
         Value::Null => Plain::Null,
-        Value::Bool(b) => Plain::Bool(b),
-        Value::Int(z) => Plain::Number(Number::Int(z)),
-        Value::Uint(n) => Plain::Number(Number::Uint(n)),
+        Value::Bool(truth) => Plain::Bool(truth),
+        Value::Int(number) => Plain::Number(Number::Int(number)),
+        Value::Uint(number) => Plain::Number(Number::Uint(number)),
         Value::Double(float) => Plain::Number(Number::Double(Double::Plain(float))),
         Value::Nan(pattern) => Plain::Number(Number::Double(Double::Nan(pattern))),
         Value::String(space, first, length) => Plain::String(space, first, length),
         Value::Bytes(space, first, length) => Plain::Bytes(space, first, length),
-        Value::List(_, _, _, _) => Plain::Other,
-        Value::Map(_, _, _, _) => Plain::Other,
         Value::OptionalNone => Plain::OptionalNone,
-        Value::OptionalOf(_, _, _) => Plain::Other,
-        Value::Absent => Plain::Other,
+        _ => Plain::Other,
     }
 }

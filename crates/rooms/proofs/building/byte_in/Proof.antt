@@ -12,7 +12,7 @@ returns : tie.Need-returns
 returns c = search needs
 
 returns-2 : tie.Need-returns-2
-returns-2 c = sym (beyond (c .before .args .bytes .now) (c .before .args .i) (c .if1 .left))
+returns-2 c = sym (beyond (c .before .args .bytes .now) (c .before .args .index) (c .if1 .left))
 
 pub byte-in-spec : {M : Type 1} → statement M
 byte-in-spec = tie.close (tie.spec shared-slice-read-result returns returns-2)

@@ -15,7 +15,7 @@ returns : tie.Need-returns
 returns c = search needs
 
 returns-2 : tie.Need-returns-2
-returns-2 c = sym (set-out (c .before .args .bytes .now) (c .before .args .i) (c .before .args .byte) (c .if1 .left))
+returns-2 c = sym (set-out (c .before .args .bytes .now) (c .before .args .index) (c .before .args .byte) (c .if1 .left))
 
 pub put-byte-spec : {M : Type 1} → statement M
 put-byte-spec = tie.close (tie.spec slice-write-bytes same-length returns returns-2)

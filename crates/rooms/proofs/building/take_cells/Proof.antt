@@ -15,13 +15,13 @@ same-length : tie.Need-same-length
 same-length c = search needs
 
 returns : tie.Need-returns
-returns c = (taken-over _ (c .before .before .before .before .args .used) (c .before .before .before .before .args .count) (c .if1 .taken) ∙ ap (λ n. takenOf n (c .before .before .before .before .args .used) (c .before .before .before .before .args .count)) (c .before .cell-room .ensures), cells-kept (c .before .before .before .before .args .cells .now) (c .before .before .before .before .args .used) (c .before .before .before .before .args .count) (omega (arith, (c .before .cell-room .ensures), c .if1 .taken)))
+returns c = let given = c .before .before .before .before .args in (taken-over _ (given .used) (given .count) (c .if1 .taken) ∙ ap (λ n. takenOf n (given .used) (given .count)) (c .before .cell-room .ensures), cells-kept (given .cells .now) (given .used) (given .count) (omega (arith, (c .before .cell-room .ensures), c .if1 .taken)))
 
 same-length-2 : tie.Need-same-length-2
 same-length-2 c = search needs
 
 returns-2 : tie.Need-returns-2
-returns-2 c = (taken-full _ (c .before .before .before .before .before .args .used) (c .before .before .before .before .before .args .count) (c .before .if1 .left) (c .if2 .taken) ∙ ap (λ n. takenOf n (c .before .before .before .before .before .args .used) (c .before .before .before .before .before .args .count)) (c .before .before .cell-room .ensures), cells-kept (c .before .before .before .before .before .args .cells .now) (c .before .before .before .before .before .args .used) (c .before .before .before .before .before .args .count) (omega (arith, (c .before .before .cell-room .ensures), c .before .if1 .left, c .if2 .taken)))
+returns-2 c = let given = c .before .before .before .before .before .args in (taken-full _ (given .used) (given .count) (c .before .if1 .left) (c .if2 .taken) ∙ ap (λ n. takenOf n (given .used) (given .count)) (c .before .before .cell-room .ensures), cells-kept (given .cells .now) (given .used) (given .count) (omega (arith, (c .before .before .cell-room .ensures), c .before .if1 .left, c .if2 .taken)))
 
 mul-clear-words : tie.Need-mul-clear-words
 mul-clear-words c = record { fits = omega (arith, (c .before .before .before .cell-room .ensures), c .before .before .if1 .left, c .before .if2 .left, c .before .before .before .before .before .before .good .0 .0) }
@@ -39,7 +39,7 @@ same-length-3 : tie.Need-same-length-3
 same-length-3 c = search needs
 
 returns-3 : tie.Need-returns-3
-returns-3 c = (taken-to _ (c .before .before .before .before .before .before .before .before .before .args .used) (c .before .before .before .before .before .before .before .before .before .args .count) (c .before .before .before .before .before .if1 .left) (c .before .before .before .before .if2 .left) ∙ ap (λ n. takenOf n (c .before .before .before .before .before .before .before .before .before .args .used) (c .before .before .before .before .before .before .before .before .before .args .count)) (c .before .before .before .before .before .before .cell-room .ensures), c .before .before .clear-words .ensures ∙ cells-taken (c .before .before .before .before .before .before .before .before .before .args .cells .now) (c .before .before .before .before .before .before .before .before .before .args .used) (c .before .before .before .before .before .before .before .before .before .args .count) (omega (arith, (c .before .before .before .before .before .before .cell-room .ensures), c .before .before .before .before .before .if1 .left, c .before .before .before .before .if2 .left)))
+returns-3 c = let given = c .before .before .before .before .before .before .before .before .before .args in (taken-to _ (given .used) (given .count) (c .before .before .before .before .before .if1 .left) (c .before .before .before .before .if2 .left) ∙ ap (λ n. takenOf n (given .used) (given .count)) (c .before .before .before .before .before .before .cell-room .ensures), c .before .before .clear-words .ensures ∙ cells-taken (given .cells .now) (given .used) (given .count) (omega (arith, (c .before .before .before .before .before .before .cell-room .ensures), c .before .before .before .before .before .if1 .left, c .before .before .before .before .if2 .left)))
 
 pub take-cells-spec : {M : Type 1} → statement M
 take-cells-spec =
