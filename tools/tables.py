@@ -4,7 +4,7 @@
     tools/tables.py                 writes crates/tables/stdin and crates/tables/stdout
     tools/tables.py --against FILE  names the lines in which FILE, what a run wrote, differs from the answers
 
-The answers are those of the model in tools/rules, written from document 01 alone; the rows of KNOWN are written by hand.
+The answers are those of the model in tools/rules, which knows nothing of the code; the rows of KNOWN are written by hand.
 A line of the list is the table and the literal text in hexadecimal digits, `-` for an empty one; `HEX*COUNT` is a piece so
 many times, and `+` joins pieces. A line of the answers is the line's number, the two lengths, and
 
@@ -34,7 +34,7 @@ LONGEST_TABLE = 16_384
 ONE = integer(1)
 NULL = b"\0\3\0"
 
-# Rows of docs/FORMAT.md, and others that can be read off it. None is accepted.
+# Rows of docs/FORMAT.md, and others that can be read off it: table, text, and number and place of the refusal or None.
 KNOWN = (
     ("08040001ff", "", (2, 4)), ("08040001", "", (3, 4)), ("0803000101040001", "", (3, 0)), ("0808000100030000", "", (3, 0)),
     ("1005000700", "", (5, 0)), ("05070001000000", "", (5, 0)), ("0808000101040001", "", None), ("", "", (1, 0)),
@@ -187,14 +187,32 @@ def nesting():
             yield made.table, made.text
             made = assemble(listing(mark(listing(nested(depth - 1, null, form)))))
             yield made.table, made.text
-    # in the record that is too deep: 2 and 3 before 4; 5 and 6 after it
+    # one level too many behind the other operands of a conditional and of a comprehension
+    for form in (lambda e: conditional(e, null, null), lambda e: conditional(null, e, null), *(
+            lambda e, place=place: comprehension(3, 4, *(e if n == place else null for n in range(5))) for place in range(4))):
+        made = assemble(nested(64, null, form))
+        yield made.table, made.text
+    # in the record that is too deep: 2 and 3 before 4; 5 and 6 after it. `!` takes no mark
     for inner in ("ff", "ff0300", "00", "000400", "010300", "01040002", "010400ff", "0e0600000300", "0e0300000300", "1005000300",
-                  "10040003", "10040007", "0c05000000", "0c06000000", "0c0800010000", "05070000000100", "07040080"):
+                  "10040003", "10040007", "0c05000000", "0c06000000", "0d06000000", "0c0800010000", "05070000000100", "06070000000100",
+                  "07040080", "0705008000", "08070000000300", "08070001000300", "090a0000000300000300", "0b0b000200000000000300",
+                  "0f14008000" + "000300" * 5, "0f14000080" + "000300" * 5):
         for depth in (63, 64):
             table = bytes.fromhex(inner)
             for _ in range(depth):
-                table = b"\x0c" + u16(len(table) + 5) + b"\1\0" + table
+                table = b"\x08" + u16(len(table) + 4) + b"\1" + table
             yield table, b""
+
+
+# ---- counts
+
+
+def counts():
+    """Counts with the highest bit set, and those whose double has more than 16 bits."""
+    for count in (255, 256, 32_767, 32_768, 32_769, 65_535):
+        for kind in (12, 13):
+            for inside in (b"", NULL, NULL + NULL):
+                yield bytes([kind]) + u16(5 + len(inside)) + u16(count) + inside, b""
 
 
 # ---- marks
@@ -331,7 +349,7 @@ def accepted():
 
 
 def damaged():
-    for draw, made in rules(23, 700, 10):
+    for draw, made in rules(23, 590, 10):
         table = made.table
         for _ in range(1 + draw.below(2)):
             at = draw.below(len(table))
@@ -388,7 +406,7 @@ def spelled(data):
 
 FAMILIES = {
     "known": lambda: ((bytes.fromhex(table), bytes.fromhex(text)) for table, text, _ in KNOWN), "wrong": wrong_places,
-    "first": first_faults, "truncated": truncations, "extents": extents, "bytes": each_byte, "nesting": nesting, "marks": marks,
+    "first": first_faults, "truncated": truncations, "extents": extents, "bytes": each_byte, "nesting": nesting, "counts": counts, "marks": marks,
     "fields": fields, "spans": spans, "utf8": utf8, "lengths": lengths, "accepted": accepted, "damaged": damaged, "wild": wild,
 }
 UNREADABLE = ("", "00", "000300-")

@@ -13,8 +13,9 @@ TOOLS = Path(__file__).resolve().parent.parent
 sys.path[:0] = [str(TOOLS), str(TOOLS / "rules")]
 
 import tables
-from assemble import (assemble, binary, both, conditional, either, equals, exists, has, integer, listing, mapping, mark, name, of,
+from assemble import (assemble, binary, both, conditional, either, equals, exists, has, integer, listing, mapping, mark, name, null, of,
                       optional_select, or_value, select, size, string, true, u16)
+from families.common import nested
 from families.refusals import every_kind
 from model import read_table
 
@@ -50,6 +51,18 @@ def long_text(piece):
     return b"\x0c" + u16(5 + len(records)) + u16(60) + records, text
 
 
+def of_one_kind():
+    """Lists of about 16,000 bytes of one kind of record, and one of Lists in one another."""
+    marked = mapping((integer(1), mark(name(1))), (integer(2), mark(name(2))))
+    parts = {"Null": null, "Int": integer(7), "name": name(7), "binary": both(null, null), "Map with marks": marked,
+             "select, 4 bytes": select(name(7), "span"), "String, 2 bytes": string("ab"), "String, 8 bytes": string("abcdefgh"),
+             "String, 20 bytes": string("a string of 20 bytes")}
+    for label, part in parts.items():
+        size = len(assemble(part).table)
+        yield label, assemble(listing(*[part] * (16_000 // size)))
+    yield "60 deep", assemble(listing(*[nested(60, null)] * 52))
+
+
 def record(label, table, text):
     label = label.encode()
     return struct.pack("<III", len(label), len(table), len(text)) + label + table + text
@@ -58,7 +71,7 @@ def record(label, table, text):
 def main(timed, cases):
     rule, large = assemble(typical()), assemble(mixed(b""))
     chosen = [("typical rule", rule.table, rule.text), ("large, mixed kinds", large.table, large.text),
-              ("much text, ASCII", *long_text(b"plain words, ")), ("much text, mixed", *long_text("naïve café, 日本語 𝄞 ".encode()))]
+              *((label, made.table, made.text) for label, made in of_one_kind()), ("much text, ASCII", *long_text(b"plain words, ")), ("much text, mixed", *long_text("naïve café, 日本語 𝄞 ".encode()))]
     for _, table, text in chosen:
         read_table(table, text)
     Path(timed).write_bytes(b"".join(record(*each) for each in chosen))

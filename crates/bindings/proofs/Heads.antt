@@ -6,7 +6,7 @@ use native.Mathlib.Omega.{arith}
 use lib.ListN.{getD}
 use Rattle.meaning.specs.Kinds.{kinds}
 use Rattle.meaning.specs.Heads.{fieldBytes, bytesOf, littleEndian}
-use Rattle.table.specs.Shapes.{rowOf, headBytes, wordAt}
+use Rattle.layout.specs.Layout.{rowOf, headBytes, wordAt}
 
 pub bool-head : headBytes 1 ≡ 4
 unfolding headBytes rowOf kinds bytesOf fieldBytes

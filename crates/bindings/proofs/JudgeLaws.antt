@@ -15,8 +15,9 @@ use Rattle.meaning.specs.Expr.{Expr, literal, listOf, mapOf, Elements, noElemen
 use Rattle.meaning.specs.Heads.{Got, got, refused, _>>=_, _>>_}
 use Rattle.meaning.specs.Table.{Part, bare, marked, addElement, addPair}
 use Rattle.meaning.specs.Spelling.{Literal, scalarAt, listAt, mapAt, Literals, noLiterals, literals, LiteralPairs, noLiteralPairs, literalPairs, literalOf, literalsOf, literalPairsOf, literalNesting, literalsNesting, literalPairsNesting}
-use Rattle.table.specs.Shapes.{wordAt}
-use Rattle.table.specs.Records.{exprOf, partOf, after, Sound, SoundPart, elementsOf, pairsOf}
+use Rattle.layout.specs.Layout.{wordAt}
+use Rattle.layout.specs.Layout.{after}
+use Rattle.table.specs.Records.{exprOf, partOf, Sound, SoundPart, elementsOf, pairsOf}
 use Rattle.table.proofs.Parts.{Marked, part-marked, part-bare}
 use Rattle.rooms.specs.declared.value.Value.{Value}
 use Rattle.rooms.specs.declared.value.Value.the-variants as Value

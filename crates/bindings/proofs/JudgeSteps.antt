@@ -5,7 +5,7 @@ use mathlib.Core.List.{List, []}
 use native.Mathlib.Omega.{arith}
 use lib.Dec.{eqb}
 use lib.ListN.{length, getD}
-use Rattle.table.specs.Shapes.{headBytes, wordAt}
+use Rattle.layout.specs.Layout.{headBytes, wordAt}
 use Rattle.table.specs.Records.{partOf, elementsOf, pairsOf, SoundPart}
 use Rattle.rooms.specs.declared.value.Value.{Value}
 use Rattle.bindings.specs.declared.judging.Judged.{Judged}

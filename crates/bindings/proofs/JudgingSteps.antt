@@ -7,12 +7,13 @@ use native.Mathlib.Omega.{arith}
 use lib.ListN.{length, getD}
 use Rattle.rooms.specs.declared.value.Value.{Value}
 use Rattle.rooms.specs.Value.{plainOf}
-use Rattle.rooms.specs.Equality.{seenOf, sameSeen}
+use Rattle.comparing.specs.Equality.{seenOf, sameSeen}
 use Rattle.meaning.specs.Expr.{Elements, noElements, Pairs, noPairs}
 use Rattle.meaning.specs.Table.{Part, addElement, addPair}
 use Rattle.meaning.specs.Spelling.{Literal, literalsOf, literalPairsOf, literalsNesting, literalPairsNesting}
-use Rattle.table.specs.Shapes.{wordAt}
-use Rattle.table.specs.Records.{after, exprOf, partOf, elementsOf, pairsOf, Sound, SoundPart}
+use Rattle.layout.specs.Layout.{wordAt}
+use Rattle.layout.specs.Layout.{after}
+use Rattle.table.specs.Records.{exprOf, partOf, elementsOf, pairsOf, Sound, SoundPart}
 use Rattle.bindings.specs.declared.judging.Fault.{Fault}
 use Rattle.bindings.specs.declared.judging.Judged.{Judged}
 use Rattle.bindings.specs.Literals.{literalIn, literalsIn, literalPairsIn, literalValue, rowBytes, entryBytes, Operands, Entries, keysFrom}

@@ -11,11 +11,12 @@ use Rattle.meaning.specs.Comparison.{rank, sameClass, scalarEqual}
 use Rattle.meaning.specs.Expr.{literal}
 use Rattle.meaning.specs.Spelling.{Literal, scalarAt, listAt, mapAt}
 use Rattle.table.specs.Shapes.{isSome}
-use Rattle.table.specs.Records.{exprOf, after, Sound}
+use Rattle.layout.specs.Layout.{after}
+use Rattle.table.specs.Records.{exprOf, Sound}
 use Rattle.rooms.specs.declared.value.Value.{Value}
 use Rattle.rooms.specs.declared.value.Value.the-variants as Value
 use Rattle.rooms.specs.Value.{plainOf}
-use Rattle.rooms.specs.Equality.{seenOf, seenScalar, seenOther, sameSeen}
+use Rattle.comparing.specs.Equality.{seenOf, seenScalar, seenOther, sameSeen}
 use Rattle.soundness.specs.Keys.{isKey}
 use Rattle.bindings.specs.declared.judging.Fault.{Fault}
 use Rattle.bindings.specs.declared.judging.Fault.the-variants.{At, Nowhere}

@@ -13,8 +13,9 @@ use Rattle.meaning.specs.Bindings.{textBytes}
 use Rattle.meaning.specs.Expr.{Expr, literal}
 use Rattle.meaning.specs.Table.{Part, bare, marked}
 use Rattle.meaning.specs.Spelling.{Literal, scalarAt, listAt, mapAt, Literals, noLiterals, literals, LiteralPairs, literalNesting, literalsNesting, literalPairsNesting}
-use Rattle.table.specs.Shapes.{headBytes, wordAt}
-use Rattle.table.specs.Records.{exprOf, partOf, after, elementsOf, pairsOf, Sound, SoundPart}
+use Rattle.layout.specs.Layout.{headBytes, wordAt}
+use Rattle.layout.specs.Layout.{after}
+use Rattle.table.specs.Records.{exprOf, partOf, elementsOf, pairsOf, Sound, SoundPart}
 use Rattle.table.proofs.Parts.{Marked, part-marked, part-bare}
 use Rattle.rooms.specs.declared.value.Value.{Value}
 use Rattle.rooms.specs.declared.value.Value.the-variants as Value

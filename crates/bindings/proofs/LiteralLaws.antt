@@ -23,9 +23,11 @@ use Rattle.meaning.specs.Heads.{Got, got, refused}
 use Rattle.meaning.specs.Table.{span, utf8}
 use Rattle.meaning.specs.Bindings.{textBytes}
 use Rattle.meaning.specs.Spelling.{Literal, scalarAt, listAt, mapAt, Literals, LiteralPairs, literalOf}
-use Rattle.table.specs.Shapes.{isSome, wordAt}
-use Rattle.table.specs.Records.{exprOf, callOf, longAt, Sound, kindByte}
-use Rattle.table.proofs.LongLaws.{four-is, long-is}
+use Rattle.layout.specs.Layout.{wordAt}
+use Rattle.table.specs.Shapes.{isSome}
+use Rattle.layout.specs.Layout.{longAt}
+use Rattle.table.specs.Records.{exprOf, callOf, Sound, kindByte}
+use Rattle.layout.proofs.LongLaws.{four-is, long-is}
 use Rattle.table.proofs.FieldLaws.{span-is}
 use Rattle.table.proofs.Opened.{Opened, opened}
 use Rattle.table.proofs.Parts.{sound-kind}
@@ -33,7 +35,7 @@ use Rattle.rooms.specs.declared.value.Value.{Value}
 use Rattle.rooms.specs.declared.value.Value.the-variants as Value
 use Rattle.rooms.specs.declared.value.TextSpace.the-variants as Text
 use Rattle.rooms.specs.Value.{plainOf, doubleValue}
-use Rattle.rooms.specs.Equality.{seenOf, seenScalar}
+use Rattle.comparing.specs.Equality.{seenOf, seenScalar}
 use Rattle.soundness.specs.Keys.{isKey}
 use Rattle.soundness.specs.Fits.{isAbsent}
 use Rattle.rooms.specs.Building.{pasted}

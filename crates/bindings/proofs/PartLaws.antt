@@ -10,8 +10,9 @@ use Rattle.meaning.specs.Expr.{Expr, literal, listOf, mapOf}
 use Rattle.meaning.specs.Kinds.{ExprKind, listKind, mapKind}
 use Rattle.meaning.specs.Heads.{Got, got, refused, _>>=_, Head, headAt}
 use Rattle.meaning.specs.Table.{Part, bare, marked, bodyAt, asExpr, asPart, exprAt, partAt, wordBytes}
-use Rattle.table.specs.Shapes.{wordAt}
-use Rattle.table.specs.Records.{exprIn, partIn, exprOf, partOf, after, Sound, SoundPart, Row, elementsOf, pairsOf, kindByte, numbersIn}
+use Rattle.layout.specs.Layout.{wordAt}
+use Rattle.layout.specs.Layout.{after}
+use Rattle.table.specs.Records.{exprIn, partIn, exprOf, partOf, Sound, SoundPart, Row, elementsOf, pairsOf, kindByte, numbersIn}
 use Rattle.table.proofs.SoundLaws.{sound-here}
 use Rattle.table.proofs.Opened.{Opened, opened, headIn, head-of-kind, record-read, part-read}
 use Rattle.table.proofs.Parts.{sound-kind, Marked, part-marked, part-bare}

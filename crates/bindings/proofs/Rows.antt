@@ -6,9 +6,10 @@ use native.Mathlib.Omega.{arith}
 use native.Mathlib.Numerals.{sub-one}
 use lib.ListN.{length, getD}
 use Rattle.table.specs.declared.records.Marks.the-variants.{Anywhere, Values}
-use Rattle.table.specs.Shapes.{headBytes, wordAt}
-use Rattle.table.specs.Records.{exprOf, partOf, after, Sound, SoundPart, Row}
-use Rattle.table.proofs.KindLaws.{head-table}
+use Rattle.layout.specs.Layout.{headBytes, wordAt}
+use Rattle.layout.specs.Layout.{after}
+use Rattle.table.specs.Records.{exprOf, partOf, Sound, SoundPart, Row}
+use Rattle.layout.proofs.KindLaws.{head-table}
 use Rattle.table.proofs.HeadLaws.{Here}
 use Rattle.table.proofs.SoundLaws.{sound-here, part-here}
 use Rattle.table.proofs.Parts.{first-pair}

@@ -15,10 +15,10 @@ use Rattle.bindings.specs.declared.judging.Fault.the-variants.{At, Nowhe
 use Rattle.bindings.specs.declared.judging.Judged.{Judged}
 use Rattle.bindings.specs.Literals.{literalIn, literalsIn, literalPairsIn, literalValue, textLength}
 use Rattle.table.specs.Shapes.{isSome}
-use Rattle.table.specs.Records.{after}
+use Rattle.layout.specs.Layout.{after}
 use Rattle.rooms.specs.declared.value.Value.{Value}
 use Rattle.rooms.specs.Value.{plainOf}
-use Rattle.rooms.specs.Equality.{seenOf, sameSeen}
+use Rattle.comparing.specs.Equality.{seenOf, sameSeen}
 use Rattle.soundness.specs.Fits.{isAbsent}
 
 abbrev pub firstOf : Fault → Fault → Fault

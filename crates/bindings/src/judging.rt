@@ -4,22 +4,22 @@ ghost use mathlib.Core.Path.{_≡_};
 ghost use mathlib.Core.List.{[]};
 ghost use Prim.Native.Nat.{_+_, _-_, _<_, _≤_, max};
 ghost use lib.ListN.{length};
-ghost use Rattle.table.specs.Shapes.{wordAt};
+ghost use Rattle.layout.specs.Layout.{wordAt};
 ghost use Rattle.table.specs.Records.{Sound, SoundPart, exprOf, partOf, elementsOf, pairsOf};
 ghost use Rattle.bindings.specs.Literals.{Operands, Entries, rowBytes, entryBytes, keysFrom, literalIn};
 ghost use Rattle.bindings.specs.Judging.{firstOf, joinedOf, withKey, deepenedOf, otherFault, withoutParts, nothingJudged, Small, repeatedIn, keyFault, judgedPart, judgedElements, judgedPairs};
 use crate::literals::literal_at;
 use crate::literals::text_length;
-use rooms::equality::plain_equal;
+use comparing::plain::plain_equal;
 use rooms::value::Value;
 use soundness::keys::is_key;
 use soundness::values::is_absent;
-use table::kinds::LIST;
-use table::kinds::MAP;
-use table::readers::count_at;
-use table::readers::end_at;
-use table::readers::first_operand;
-use table::readers::kind_at;
+use layout::kinds::LIST;
+use layout::kinds::MAP;
+use layout::readers::count_at;
+use layout::readers::end_at;
+use layout::readers::first_operand;
+use layout::readers::kind_at;
 
 // The place of a record at fault, or that there is none.
 pub enum Fault {

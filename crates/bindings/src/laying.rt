@@ -22,12 +22,12 @@ use rooms::value::TextSpace;
 use rooms::value::Value;
 use rooms::value::nesting_of;
 use soundness::values::deeper;
-use table::kinds::LIST;
-use table::kinds::MAP;
-use table::readers::count_at;
-use table::readers::end_at;
-use table::readers::first_operand;
-use table::readers::kind_at;
+use layout::kinds::LIST;
+use layout::kinds::MAP;
+use layout::readers::count_at;
+use layout::readers::end_at;
+use layout::readers::first_operand;
+use layout::readers::kind_at;
 
 // What was laid down, and how much is used afterwards.
 pub struct Laid {

@@ -2,19 +2,19 @@
 ghost use mathlib.Core.Path.{_≡_};
 ghost use Prim.Native.Nat.{_+_, _<_, _≤_};
 ghost use lib.ListN.{length, getD};
-ghost use Rattle.table.specs.Shapes.{kindNumbers, headBytes};
+ghost use Rattle.layout.specs.Layout.{kindNumbers, headBytes};
 ghost use Rattle.bindings.specs.Literals.{literalValue, textLength, textFirst, movedTo};
 use rooms::value::TextSpace;
 use rooms::value::Value;
 use rooms::value::double_value;
-use table::kinds::BOOL;
-use table::kinds::BYTES;
-use table::kinds::STRING;
-use table::readers::bits_at;
-use table::readers::int_at;
-use table::readers::kind_at;
-use table::readers::number_at;
-use table::readers::span_at;
+use layout::kinds::BOOL;
+use layout::kinds::BYTES;
+use layout::kinds::STRING;
+use layout::readers::bits_at;
+use layout::readers::int_at;
+use layout::readers::kind_at;
+use layout::readers::number_at;
+use layout::readers::span_at;
 
 const NULL: u8 = 0;
 

@@ -6,6 +6,7 @@ pub mod Congruence
 pub mod Seen
 pub mod Agreement
 pub mod Bystanders
+pub mod NamesListed
 -- exhaustion comes exactly at the first charge that would pass its limit, and every table gets one answer
 pub mod Spending
 pub mod Exhausted

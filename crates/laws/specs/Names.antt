@@ -3,6 +3,7 @@
 use Prim.Native.Nat.{ℕ}
 use mathlib.Core.Path.{_≡_}
 use mathlib.Core.Logic.{_⊎_}
+use mathlib.Core.List.{List, [], _∷_}
 use mathlib.Core.Option.{none}
 use Rattle.meaning.specs.Expr.{Expr, literal, name, unary, binary, conditional, select, listOf, mapOf, comprehension, call, noneCall, orValue, Elements, noElements, element, markedElement, Pairs, noPairs, pair, markedPair}
 use Rattle.meaning.specs.Comprehension.{Scope}
@@ -44,3 +45,8 @@ Absent these s = (n : ℕ) → these n → s n ≡ none
 -- each of these names is one of those
 abbrev pub Among : (ℕ → Type 0) → (ℕ → Type 0) → Type 0
 Among these those = (n : ℕ) → these n → those n
+
+-- a number in a list of numbers
+abbrev pub In : List ℕ → ℕ → Type 0
+In [] n = ⊥
+In (m ∷ ms) n = (n ≡ m) ⊎ In ms n

@@ -2,6 +2,7 @@
 use mathlib.Core.Path.{_≡_, refl}
 use mathlib.Core.List.{List, [], _∷_}
 use mathlib.Core.Bool.{false}
+use lib.ListN.{replicate}
 use Rattle.meaning.specs.Value.{string, bytes, scalar, map, empty}
 use Rattle.meaning.proofs.Sample.{Row, row, Hold, wrapped, MarkedList, counts, ample, gives, refuses, truth, Null, True, String, Bytes, Not}
 use Rattle.meaning.proofs.Compute.{compute}
@@ -12,6 +13,11 @@ refusals =
     -- no table at all
     row [] [] [] ample
     (refuses 1 0)
+    -- a byte too many, before anything is read; one fewer
+    ∷ row (replicate 16385 0) [] [] ample
+    (refuses 1 0)
+    ∷ row (replicate 16384 0) [] [] ample
+    (refuses 3 0)
     -- an operand behind its parent's end, of an unknown kind
     ∷ row (8 ∷ 4 ∷ 0 ∷ 1 ∷ 255 ∷ []) [] [] ample
     (refuses 2 4)
@@ -69,6 +75,17 @@ refusals =
     -- a wrong extent comes before nesting
     ∷ row (wrapped 64 Not (16 ∷ 5 ∷ 0 ∷ 3 ∷ 0 ∷ [])) [] [] ample
     (refuses 3 256)
+    -- .. an empty List's and an empty Map's own too
+    ∷ row (wrapped 64 Not (12 ∷ 6 ∷ 0 ∷ 0 ∷ 0 ∷ 0 ∷ [])) [] [] ample
+    (refuses 3 256)
+    ∷ row (wrapped 64 Not (13 ∷ 6 ∷ 0 ∷ 0 ∷ 0 ∷ 0 ∷ [])) [] [] ample
+    (refuses 3 256)
+    -- nesting comes before a wrong field
+    ∷ row (wrapped 64 Not (1 ∷ 4 ∷ 0 ∷ 2 ∷ [])) [] [] ample
+    (refuses 4 256)
+    -- .. and before a misplaced mark
+    ∷ row (wrapped 64 Not (14 ∷ 6 ∷ 0 ∷ 0 ∷ 3 ∷ 0 ∷ [])) [] [] ample
+    (refuses 4 256)
     -- marks count as records: 32 lists of a mark and a Null
     ∷ row (wrapped 32 MarkedList Null) [] [] ample
     (refuses 4 256)
@@ -84,6 +101,13 @@ refusals =
     -- an unknown binary
     ∷ row (9 ∷ 10 ∷ 0 ∷ 18 ∷ 0 ∷ 3 ∷ 0 ∷ 0 ∷ 3 ∷ 0 ∷ []) [] [] ample
     (refuses 5 0)
+    -- operators and functions are numbered from 1
+    ∷ row (8 ∷ 7 ∷ 0 ∷ 0 ∷ 0 ∷ 3 ∷ 0 ∷ []) [] [] ample
+    (refuses 5 0)
+    ∷ row (9 ∷ 10 ∷ 0 ∷ 0 ∷ 0 ∷ 3 ∷ 0 ∷ 0 ∷ 3 ∷ 0 ∷ []) [] [] ample
+    (refuses 5 0)
+    ∷ row (16 ∷ 7 ∷ 0 ∷ 0 ∷ 0 ∷ 3 ∷ 0 ∷ []) [] [] ample
+    (refuses 5 0)
     -- a test that is neither
     ∷ row (11 ∷ 11 ∷ 0 ∷ 2 ∷ 0 ∷ 0 ∷ 0 ∷ 0 ∷ 0 ∷ 3 ∷ 0 ∷ []) [] [] ample
     (refuses 5 0)
@@ -95,6 +119,9 @@ refusals =
     (refuses 5 0)
     -- an accumulator above 127
     ∷ row (15 ∷ 20 ∷ 0 ∷ 128 ∷ 0 ∷ 0 ∷ 3 ∷ 0 ∷ 0 ∷ 3 ∷ 0 ∷ 0 ∷ 3 ∷ 0 ∷ 0 ∷ 3 ∷ 0 ∷ 0 ∷ 3 ∷ 0 ∷ []) [] [] ample
+    (refuses 5 0)
+    -- an item above 127
+    ∷ row (15 ∷ 20 ∷ 0 ∷ 0 ∷ 128 ∷ 0 ∷ 3 ∷ 0 ∷ 0 ∷ 3 ∷ 0 ∷ 0 ∷ 3 ∷ 0 ∷ 0 ∷ 3 ∷ 0 ∷ 0 ∷ 3 ∷ 0 ∷ []) [] [] ample
     (refuses 5 0)
     -- a second element that is missing
     ∷ row (12 ∷ 8 ∷ 0 ∷ 2 ∷ 0 ∷ 0 ∷ 3 ∷ 0 ∷ []) [] [] ample

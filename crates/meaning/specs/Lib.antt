@@ -29,6 +29,8 @@ pub mod Limited
 pub mod Kinds
 pub mod Heads
 pub mod Table
+-- what can be read off an expression
+pub mod Listing
 -- bindings
 pub mod Spelling
 pub mod Bindings

@@ -3,7 +3,7 @@ ghost use mathlib.Core.Path.{_≡_};
 ghost use Prim.Native.Nat.{_+_, _*_, _<_};
 ghost use Rattle.soundness.specs.Keys.{isKey, repeatedIn, keysFit};
 use rooms::cells::read_cell;
-use rooms::equality::plain_equal;
+use comparing::plain::plain_equal;
 use rooms::value::Value;
 
 pub fn is_key(v: Value) -> bool

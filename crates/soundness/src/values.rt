@@ -5,7 +5,7 @@ ghost use Prim.Native.Nat.{_+_, _<_, max};
 ghost use Rattle.soundness.specs.Fits.{deepestIn, rowFits, spanFits, stringFits, mapFits, valueFits, isAbsent, slotFits};
 use crate::keys::keys_fit;
 use rooms::cells::read_cell;
-use rooms::texts::part;
+use comparing::texts::part;
 use rooms::value::CellSpace;
 use rooms::value::TextSpace;
 use rooms::value::Value;

@@ -13,7 +13,8 @@ use Rattle.meaning.specs.Heads.{Got, got, refused, _>>=_, _>>_, demand, start}
 use Rattle.meaning.specs.Table.{exprAt, rootAt, readTable, wordBytes}
 use Rattle.table.specs.declared.Checked.the-variants.{Accepted}
 use Rattle.table.specs.Reading.{ends, readOf}
-use Rattle.table.specs.Records.{exprOf, after, Sound}
+use Rattle.layout.specs.Layout.{after}
+use Rattle.table.specs.Records.{exprOf, Sound}
 use Rattle.table.specs.Check.{verdict, checkOf}
 use Rattle.table.proofs.SoundLaws.{expr-is, ended}
 

@@ -7,14 +7,16 @@ use Prim.Native.Nat.{ℕ, zero, suc, _+_, _-_, _<_, _≤_}
 use native.Mathlib.Omega.{arith}
 use lib.Dec.{leb, ltb, leb·suc-suc}
 use lib.ListN.{length, getD, getElem?, take, drop}
-use borrow.Author.Tests.{le-leb, lt-leb}
+use borrow.Author.Tests.{le-leb, lt-leb, leb-true, ltb-true}
 use Rattle.text.specs.Utf8.{wellFormed}
 use Rattle.meaning.specs.Kinds.{numbered, flags, nameOf}
-use Rattle.meaning.specs.Table.{span, utf8}
+use Rattle.meaning.specs.Table.{span, utf8, wordBytes}
 use Rattle.meaning.specs.Kinds.{kinds, unaries, binaries, functions}
 use Rattle.meaning.specs.Heads.{fieldBytes, bytesOf, numbersAt}
-use Rattle.table.specs.Shapes.{rowOf, wordAt, numbersOf, isSome, fieldsFit}
-use Rattle.table.proofs.HeadLaws.{byte-is}
+use Rattle.layout.specs.Layout.{rowOf, wordAt, fieldsAt}
+use Rattle.meaning.specs.Limits.{names}
+use Rattle.table.specs.Shapes.{numbersOf, isSome, fieldsFit}
+use Rattle.layout.proofs.WordLaws.{byte-is}
 
 some-cond : {A : Type 0} (b : Bool) (a : A) → isSome (cond b (some a) none) ≡ b
 some-cond true a = refl
@@ -59,48 +61,65 @@ module _ (x : List ℕ) (o n : ℕ) where
 pub spans-same : (x : List ℕ) {a b o n : ℕ} → a ≡ o → b ≡ n → isSome (utf8 (span x a b)) ≡ isSome (utf8 (span x o n))
 spans-same x e f = rw (e, f)
 
+-- ---- what right fields give a caller
+
+pub span-inside : (x : List ℕ) (o n : ℕ) → isSome (span x o n) ≡ true → o + n ≤ length x
+span-inside x o n e = leb-true _ _ (sym (span-is x o n) ∙ e)
+
+both-of : (b : Bool) (s : List ℕ) → isSome (utf8 (cond b (some s) none)) ≡ true → (b ≡ true) × (wellFormed s ≡ true)
+unfolding utf8
+both-of true s e = (refl, sym (some-cond (wellFormed s) s) ∙ e)
+both-of false s e = let z : _≡_ {A = ℕ} 0 1 = cc in absurd (omega arith)
+
+pub text-inside : (x : List ℕ) (o n : ℕ) → isSome (utf8 (span x o n)) ≡ true → (o + n ≤ length x) × (wellFormed (take n (drop o x)) ≡ true)
+unfolding span
+text-inside x o n e = let f = both-of (leb (o + n) (length x)) (take n (drop o x)) e in (leb-true _ _ (f .0), f .1)
+
+pub name-below : (n : ℕ) → isSome (nameOf n) ≡ true → n < names
+name-below n e = ltb-true _ _ (sym (name-is n) ∙ e)
+
 -- ---- the fields of each kind that has some
 
 module _ (x t : List ℕ) (p : ℕ) where
-  pub bool-fits : leb (getD t (p + 3) 0) 1 ≡ fieldsFit x (rowOf 1 .kind) (numbersOf t p 1)
+  pub bool-fits : leb (getD t (p + fieldsAt) 0) 1 ≡ fieldsFit x (rowOf 1 .kind) (numbersOf t p 1)
   unfolding rowOf kinds fieldsFit numbersOf numbersAt fieldBytes bytesOf wordAt
-  bool-fits = rw (byte-is t (p + 3), flag-is)
+  bool-fits = rw (byte-is t (p + fieldsAt), flag-is)
 
-  pub string-fits : {a b : ℕ} → a ≡ wordAt t (p + 3) → b ≡ wordAt t (p + 3 + 2) → isSome (utf8 (span x a b)) ≡ fieldsFit x (rowOf 5 .kind) (numbersOf t p 5)
+  pub string-fits : {a b : ℕ} → a ≡ wordAt t (p + fieldsAt) → b ≡ wordAt t (p + fieldsAt + wordBytes) → isSome (utf8 (span x a b)) ≡ fieldsFit x (rowOf 5 .kind) (numbersOf t p 5)
   unfolding rowOf kinds fieldsFit numbersOf numbersAt fieldBytes bytesOf wordAt
   string-fits = λ e f. rw (e, f)
 
-  pub bytes-fits : {a b : ℕ} → a ≡ wordAt t (p + 3) → b ≡ wordAt t (p + 3 + 2) → isSome (span x a b) ≡ fieldsFit x (rowOf 6 .kind) (numbersOf t p 6)
+  pub bytes-fits : {a b : ℕ} → a ≡ wordAt t (p + fieldsAt) → b ≡ wordAt t (p + fieldsAt + wordBytes) → isSome (span x a b) ≡ fieldsFit x (rowOf 6 .kind) (numbersOf t p 6)
   unfolding rowOf kinds fieldsFit numbersOf numbersAt fieldBytes bytesOf wordAt
   bytes-fits = λ e f. rw (e, f)
 
-  pub name-fits : ltb (getD t (p + 3) 0) 128 ≡ fieldsFit x (rowOf 7 .kind) (numbersOf t p 7)
+  pub name-fits : ltb (getD t (p + fieldsAt) 0) 128 ≡ fieldsFit x (rowOf 7 .kind) (numbersOf t p 7)
   unfolding rowOf kinds fieldsFit numbersOf numbersAt fieldBytes bytesOf wordAt
-  name-fits = rw (byte-is t (p + 3), name-is)
+  name-fits = rw (byte-is t (p + fieldsAt), name-is)
 
-  pub unary-fits : (leb 1 (getD t (p + 3) 0) && leb (getD t (p + 3) 0) 3) ≡ fieldsFit x (rowOf 8 .kind) (numbersOf t p 8)
+  pub unary-fits : (leb 1 (getD t (p + fieldsAt) 0) && leb (getD t (p + fieldsAt) 0) 3) ≡ fieldsFit x (rowOf 8 .kind) (numbersOf t p 8)
   unfolding rowOf kinds fieldsFit numbersOf numbersAt fieldBytes bytesOf wordAt unaries
-  unary-fits = rw (byte-is t (p + 3)) (sym (numbered-is unaries (getD t (p + 3) 0)))
+  unary-fits = rw (byte-is t (p + fieldsAt)) (sym (numbered-is unaries (getD t (p + fieldsAt) 0)))
 
-  pub binary-fits : (leb 1 (getD t (p + 3) 0) && leb (getD t (p + 3) 0) 17) ≡ fieldsFit x (rowOf 9 .kind) (numbersOf t p 9)
+  pub binary-fits : (leb 1 (getD t (p + fieldsAt) 0) && leb (getD t (p + fieldsAt) 0) 17) ≡ fieldsFit x (rowOf 9 .kind) (numbersOf t p 9)
   unfolding rowOf kinds fieldsFit numbersOf numbersAt fieldBytes bytesOf wordAt binaries
-  binary-fits = rw (byte-is t (p + 3)) (sym (numbered-is binaries (getD t (p + 3) 0)))
+  binary-fits = rw (byte-is t (p + fieldsAt)) (sym (numbered-is binaries (getD t (p + fieldsAt) 0)))
 
-  pub select-is : (isSome (getElem? flags (getD t (p + 3) 0)) && isSome (utf8 (span x (wordAt t (p + 3 + 1)) (wordAt t (p + 3 + 1 + 2))))) ≡ fieldsFit x
+  pub select-is : (isSome (getElem? flags (getD t (p + fieldsAt) 0)) && isSome (utf8 (span x (wordAt t (p + fieldsAt + 1)) (wordAt t (p + fieldsAt + 1 + wordBytes))))) ≡ fieldsFit x
       (rowOf 11 .kind) (numbersOf t p 11)
   unfolding rowOf kinds fieldsFit numbersOf numbersAt fieldBytes bytesOf wordAt
-  select-is = rw (byte-is t (p + 3))
+  select-is = rw (byte-is t (p + fieldsAt))
 
-  names-fit : (ltb (getD t (p + 3) 0) 128 && ltb (getD t (p + 3 + 1) 0) 128) ≡ fieldsFit x (rowOf 15 .kind) (numbersOf t p 15)
+  names-fit : (ltb (getD t (p + fieldsAt) 0) 128 && ltb (getD t (p + fieldsAt + 1) 0) 128) ≡ fieldsFit x (rowOf 15 .kind) (numbersOf t p 15)
   unfolding rowOf kinds fieldsFit numbersOf numbersAt fieldBytes bytesOf wordAt
-  names-fit = rw (byte-is t (p + 3), byte-is t (p + 3 + 1), name-is (getD t (p + 3) 0), name-is (getD t (p + 3 + 1) 0))
+  names-fit = rw (byte-is t (p + fieldsAt), byte-is t (p + fieldsAt + 1), name-is (getD t (p + fieldsAt) 0), name-is (getD t (p + fieldsAt + 1) 0))
 
-  pub names-second : ltb (getD t (p + 3) 0) 128 ≡ true → ltb (getD t (p + 3 + 1) 0) 128 ≡ fieldsFit x (rowOf 15 .kind) (numbersOf t p 15)
+  pub names-second : ltb (getD t (p + fieldsAt) 0) 128 ≡ true → ltb (getD t (p + fieldsAt + 1) 0) 128 ≡ fieldsFit x (rowOf 15 .kind) (numbersOf t p 15)
   names-second e = rw e at names-fit
 
-  pub names-first : ltb (getD t (p + 3) 0) 128 ≡ false → ltb (getD t (p + 3) 0) 128 ≡ fieldsFit x (rowOf 15 .kind) (numbersOf t p 15)
+  pub names-first : ltb (getD t (p + fieldsAt) 0) 128 ≡ false → ltb (getD t (p + fieldsAt) 0) 128 ≡ fieldsFit x (rowOf 15 .kind) (numbersOf t p 15)
   names-first e = e ∙ (rw e at names-fit)
 
-  pub function-fits : (leb 1 (getD t (p + 3) 0) && leb (getD t (p + 3) 0) 6) ≡ fieldsFit x (rowOf 16 .kind) (numbersOf t p 16)
+  pub function-fits : (leb 1 (getD t (p + fieldsAt) 0) && leb (getD t (p + fieldsAt) 0) 6) ≡ fieldsFit x (rowOf 16 .kind) (numbersOf t p 16)
   unfolding rowOf kinds fieldsFit numbersOf numbersAt fieldBytes bytesOf wordAt functions
-  function-fits = rw (byte-is t (p + 3)) (sym (numbered-is functions (getD t (p + 3) 0)))
+  function-fits = rw (byte-is t (p + fieldsAt)) (sym (numbered-is functions (getD t (p + fieldsAt) 0)))

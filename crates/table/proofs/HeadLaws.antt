@@ -14,20 +14,11 @@ use Rattle.meaning.specs.Kinds.{byte, word, markRow, kinds}
 use Rattle.meaning.specs.Heads.{got, refused, _>>=_, _>>_, demand, orRefuse, first, bytesOf, fieldBytes, littleEndian, numbersAt, rowAt, extentFits, headAt}
 use Rattle.meaning.specs.Heads as heads
 use Rattle.meaning.specs.Table.{wordBytes}
-use Rattle.table.specs.declared.layout.Head.{Head}
-use Rattle.table.specs.declared.layout.Head.the-variants.{Whole, Refused}
-use Rattle.table.specs.Shapes.{rowOf, headBytes, wordAt, numbersOf, countOf, fitsExtent, headOf}
+use Rattle.table.specs.declared.heads.Head.{Head}
+use Rattle.table.specs.declared.heads.Head.the-variants.{Whole, Refused}
+use Rattle.layout.specs.Layout.{rowOf, headBytes, wordAt}
+use Rattle.table.specs.Shapes.{numbersOf, countOf, fitsExtent, headOf}
 use Rattle.table.proofs.KindLaws.{head-width, leaf-count, there, beyond}
-
--- ---- words
-
-pub word-is : (t : List ℕ) (p : ℕ) → wordAt t p ≡ getD t p 0 + 256 * getD t (p + 1) 0
-unfolding wordAt littleEndian
-word-is t p = rw (add-one p) (omega arith)
-
-pub byte-is : (t : List ℕ) (p : ℕ) → littleEndian wordBytes t 1 p ≡ getD t p 0
-unfolding littleEndian
-byte-is t p = omega arith
 
 -- ---- heads
 

@@ -1,4 +1,4 @@
--- Laws over all kinds of records, by their bytes. Assumes nothing.
+-- Laws over all kinds of records, by their bytes: operands, marks and fields. Assumes nothing.
 use mathlib.Core.Path.{_≡_, refl, ap, sym, _∙_}
 use mathlib.Core.Bool.{Bool, true, false}
 use mathlib.Core.List.{List, [], _∷_}
@@ -12,38 +12,9 @@ use Rattle.meaning.specs.Kinds.{byte, word, Called, toOne, toNone, toTwo, numbe
 use Rattle.meaning.specs.Heads.{first, bytesOf, fieldBytes}
 use Rattle.meaning.specs.Table.{wordBytes}
 use Rattle.table.specs.declared.records.Marks.the-variants.{Nowhere}
-use Rattle.table.specs.Shapes.{rowOf, headBytes, numbersOf, calledCount, countOf, marksOf, misplacedOf, fieldsFit}
-
--- ---- by every kind
-
-next : (P : ℕ → Type 0) (n : ℕ) → P 0 → ((k : ℕ) → k < n → P (suc k)) → (k : ℕ) → k < suc n → P k
-next P n here there zero h = here
-next P n here there (suc k) h = there k (omega arith)
-
-nothing : (P : ℕ → Type 0) (k : ℕ) → k < 0 → P k
-nothing P k h = absurd (omega arith)
-
-pub every-kind : (P : ℕ → Type 0) → P 0 → P 1 → P 2 → P 3 → P 4 → P 5 → P 6 → P 7 → P 8 → P 9 → P 10 → P 11 → P 12 → P 13 → P 14 → P 15 → P 16 → (k : ℕ) →
-    k < 17 → P k
-every-kind P p0 p1 p2 p3 p4 p5 p6 p7 p8 p9 p10 p11 p12 p13 p14 p15 p16 =
-    next P 16 p0
-    (next (λ k. P (suc k)) 15 p1
-    (next (λ k. P (suc (suc k))) 14 p2
-    (next (λ k. P (suc (suc (suc k)))) 13 p3
-    (next (λ k. P (suc (suc (suc (suc k))))) 12 p4
-    (next (λ k. P (suc (suc (suc (suc (suc k)))))) 11 p5
-    (next (λ k. P (suc (suc (suc (suc (suc (suc k))))))) 10 p6
-    (next (λ k. P (suc (suc (suc (suc (suc (suc (suc k)))))))) 9 p7
-    (next (λ k. P (suc (suc (suc (suc (suc (suc (suc (suc k))))))))) 8 p8
-    (next (λ k. P (suc (suc (suc (suc (suc (suc (suc (suc (suc k)))))))))) 7 p9
-    (next (λ k. P (suc (suc (suc (suc (suc (suc (suc (suc (suc (suc k))))))))))) 6 p10
-    (next (λ k. P (suc (suc (suc (suc (suc (suc (suc (suc (suc (suc (suc k)))))))))))) 5 p11
-    (next (λ k. P (suc (suc (suc (suc (suc (suc (suc (suc (suc (suc (suc (suc k))))))))))))) 4 p12
-    (next (λ k. P (suc (suc (suc (suc (suc (suc (suc (suc (suc (suc (suc (suc (suc k)))))))))))))) 3 p13
-    (next (λ k. P (suc (suc (suc (suc (suc (suc (suc (suc (suc (suc (suc (suc (suc (suc k))))))))))))))) 2 p14
-    (next (λ k. P (suc (suc (suc (suc (suc (suc (suc (suc (suc (suc (suc (suc (suc (suc (suc k)))))))))))))))) 1 p15
-    (next (λ k. P (suc (suc (suc (suc (suc (suc (suc (suc (suc (suc (suc (suc (suc (suc (suc (suc k))))))))))))))))) 0 p16
-    (nothing (λ k. P (suc (suc (suc (suc (suc (suc (suc (suc (suc (suc (suc (suc (suc (suc (suc (suc (suc k)))))))))))))))))))))))))))))))))))
+use Rattle.layout.specs.Layout.{rowOf, headBytes}
+use Rattle.table.specs.Shapes.{numbersOf, calledCount, countOf, marksOf, misplacedOf, fieldsFit}
+use Rattle.layout.proofs.KindLaws.{every-kind}
 
 -- ---- heads
 
@@ -52,22 +23,6 @@ unfolding headBytes rowOf kinds bytesOf fieldBytes
 head-width t =
     every-kind (λ k. bytesOf wordBytes t (byte ∷ word ∷ rowOf k .fields) ≡ headBytes k) refl refl refl refl refl refl refl refl refl refl refl refl refl refl
     refl refl refl
-
--- by kind byte
-abbrev heads : List ℕ
-heads = 3 ∷ 4 ∷ 11 ∷ 11 ∷ 11 ∷ 7 ∷ 7 ∷ 4 ∷ 4 ∷ 4 ∷ 3 ∷ 8 ∷ 5 ∷ 5 ∷ 3 ∷ 5 ∷ 4 ∷ []
-
-pub head-table : (k : ℕ) → k < 17 → (getD heads k 0 ≡ headBytes k) × (3 ≤ getD heads k 0) × (getD heads k 0 ≤ 16)
-unfolding headBytes rowOf kinds bytesOf fieldBytes
-head-table =
-    every-kind (λ k. (getD heads k 0 ≡ headBytes k) × (3 ≤ getD heads k 0) × (getD heads k 0 ≤ 16)) (refl, omega arith, omega arith)
-    (refl, omega arith, omega arith) (refl, omega arith, omega arith) (refl, omega arith, omega arith) (refl, omega arith, omega arith)
-    (refl, omega arith, omega arith) (refl, omega arith, omega arith) (refl, omega arith, omega arith) (refl, omega arith, omega arith)
-    (refl, omega arith, omega arith) (refl, omega arith, omega arith) (refl, omega arith, omega arith) (refl, omega arith, omega arith)
-    (refl, omega arith, omega arith) (refl, omega arith, omega arith) (refl, omega arith, omega arith) (refl, omega arith, omega arith)
-
-pub head-is : {k : ℕ} (n : ℕ) → n < 17 → k ≡ n → headBytes k ≡ getD heads n 0
-head-is n h e = ap headBytes e ∙ sym (head-table n h .0)
 
 -- ---- operands
 

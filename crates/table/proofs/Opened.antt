@@ -17,10 +17,12 @@ use Rattle.meaning.specs.Heads.{Got, got, _>>=_, _>>_, demand, orRefuse, Head, 
 use Rattle.meaning.specs.Table.{elementsFrom, pairsFrom, span, utf8, filled, calledAt, bodyAt, asExpr, asPart, exprAt, partAt, wordBytes}
 use Rattle.table.specs.declared.records.Read.the-variants.{Ends}
 use Rattle.table.specs.declared.records.Marks.the-variants.{Nowhere, Anywhere, Values}
-use Rattle.table.specs.Shapes.{rowOf, headBytes, wordAt, numbersOf, calledCount, exprCount, countOf, exprMarks, isSome, exprFits}
+use Rattle.layout.specs.Layout.{rowOf, headBytes, wordAt, after, fieldsAt}
+use Rattle.table.specs.Shapes.{numbersOf, calledCount, exprCount, countOf, exprMarks, isSome, exprFits}
 use Rattle.table.specs.Reading.{ends, readOf, operandsOf}
-use Rattle.table.specs.Records.{exprIn, exprOf, after, Sound, Row, elementsOf, pairsOf, kindByte, headOfKind, spanOf, orElse, numbersIn, callOf, node}
-use Rattle.table.proofs.HeadLaws.{byte-is, Here}
+use Rattle.table.specs.Records.{exprIn, exprOf, Sound, Row, elementsOf, pairsOf, kindByte, headOfKind, spanOf, orElse, numbersIn, callOf, node}
+use Rattle.layout.proofs.WordLaws.{byte-is}
+use Rattle.table.proofs.HeadLaws.{Here}
 use Rattle.table.proofs.OperandLaws.{body-ends, two-more, key-next, value-next}
 use Rattle.table.proofs.SoundLaws.{LowRow, low-row, up-row, cond-ended, sound-here}
 
@@ -98,7 +100,7 @@ module _ (t x : List ℕ) (p : ℕ) where
       let s = rw (two-more n) at r in
       then _ (rw (key-next n) at (s .0)) (then _ (rw (value-next n) at (s .1 .0)) (then _ (pairs-are n (after t (after t q)) (s .1 .1)) refl))
 
-  call-is : (o : Option Called) → isSome o ≡ true → (calledCount o ≡ 0 → p + 4 ≡ end) → LowRow t x Nowhere end (calledCount o) (p + 4) →
+  call-is : (o : Option Called) → isSome o ≡ true → (calledCount o ≡ 0 → p + headOfKind functionKind ≡ end) → LowRow t x Nowhere end (calledCount o) (p + headOfKind functionKind) →
       _>>=_ (orRefuse WrongField p o) (λ f. calledAt x (λ q e. exprAt wordBytes t x 63 q e) (λ q e. partAt wordBytes t x 63 q e) p (headIn functionKind) f) ≡
       got (callOf t x p o, end)
   unfolding calledAt orRefuse _>>=_
@@ -175,33 +177,33 @@ module _ (t x : List ℕ) (p : ℕ) where
   head-is comprehensionKind = refl
   head-is functionKind = refl
 
-  one-on : p + 3 + 1 ≡ p + 4
+  one-on : p + fieldsAt + 1 ≡ p + (fieldsAt + 1)
   one-on = omega arith
 
-  two-on : p + 3 + 2 ≡ p + 5
-  two-on = omega arith
+  word-on : p + fieldsAt + wordBytes ≡ p + (fieldsAt + wordBytes)
+  word-on = omega arith
 
-  three-on : p + 3 + 1 + 2 ≡ p + 6
-  three-on = omega arith
+  both-on : p + fieldsAt + 1 + wordBytes ≡ p + (fieldsAt + 1 + wordBytes)
+  both-on = omega arith
 
   numbers-are : (k : ExprKind) → numbersOf t p (kindByte k) ≡ numbersIn t x p k
   unfolding numbersOf rowOf kinds numbersAt bytesOf fieldBytes wordAt
   numbers-are nullKind = refl
-  numbers-are boolKind = rw (byte-is t (p + 3))
+  numbers-are boolKind = rw (byte-is t (p + fieldsAt))
   numbers-are intKind = refl
   numbers-are uintKind = refl
   numbers-are doubleKind = refl
-  numbers-are stringKind = rw two-on
-  numbers-are bytesKind = rw two-on
-  numbers-are nameKind = rw (byte-is t (p + 3))
-  numbers-are unaryKind = rw (byte-is t (p + 3))
-  numbers-are binaryKind = rw (byte-is t (p + 3))
+  numbers-are stringKind = rw word-on
+  numbers-are bytesKind = rw word-on
+  numbers-are nameKind = rw (byte-is t (p + fieldsAt))
+  numbers-are unaryKind = rw (byte-is t (p + fieldsAt))
+  numbers-are binaryKind = rw (byte-is t (p + fieldsAt))
   numbers-are conditionalKind = refl
-  numbers-are selectKind = rw (byte-is t (p + 3), three-on, one-on)
+  numbers-are selectKind = rw (byte-is t (p + fieldsAt), both-on, one-on)
   numbers-are listKind = refl
   numbers-are mapKind = refl
-  numbers-are comprehensionKind = rw (byte-is t (p + 3), byte-is t (p + 3 + 1), one-on)
-  numbers-are functionKind = rw (byte-is t (p + 3))
+  numbers-are comprehensionKind = rw (byte-is t (p + fieldsAt), byte-is t (p + fieldsAt + 1), one-on)
+  numbers-are functionKind = rw (byte-is t (p + fieldsAt))
 
   pub record-read : (left parent : ℕ) {g : Head} → headAt wordBytes t p parent ≡ got g →
       exprAt wordBytes t x (suc left) p parent ≡ asExpr x (λ q e. exprAt wordBytes t x left q e) (λ q e. partAt wordBytes t x left q e) p g (g .kind)
@@ -219,6 +221,8 @@ pub record Opened (t x : List ℕ) (p : ℕ) (k : ExprKind) : Type 0 where
   pub body : p + headOfKind k ≤ length t
   pub room : after t p ≤ length t
   pub least : p + headOfKind k ≤ after t p
+  -- its operands, or what follows it, begin where `first_operand` says
+  pub first : p + headBytes (getD t p 0) ≡ p + headOfKind k
   -- its fields are right
   pub fits : exprFits x k (numbersIn t x p k) ≡ true
   -- its operands are accepted, and end where it does
@@ -265,6 +269,7 @@ module _ (t x : List ℕ) (p : ℕ) (k : ExprKind) (b : getD t p 0 ≡ kindByte 
     body = rw (b, head-is t x p k) at (h .room);
     room = h .inside;
     least = let f : headOfKind k ≤ wordAt t (p + 1) = rw (b, head-is t x p k) at (h .least) in omega arith;
+    first = ap (λ (n : ℕ). p + n) (ap headBytes b ∙ head-is t x p k);
     fits = row-read .0;
     row = up-row t x (exprMarks k) (after t p) (exprCount k (numbersIn t x p k)) (p + headOfKind k) (h .inside) low-operands;
     is = same-expr;

@@ -11,10 +11,11 @@ use Rattle.meaning.specs.Heads.{Got, got, refused, _>>=_, Head, fieldBytes, byt
 use Rattle.meaning.specs.Table.{Part, Reader, bare, marked, bodyAt, asExpr, asPart, exprAt, partAt, wordBytes}
 use Rattle.table.specs.declared.records.Marks.{Marks}
 use Rattle.table.specs.declared.records.Marks.the-variants.{Nowhere, Anywhere, Values}
-use Rattle.table.specs.Shapes.{rowOf, headBytes, wordAt, numbersOf, countOf, marksOf, fieldsFit}
+use Rattle.layout.specs.Layout.{fieldsAt, rowOf, headBytes, wordAt, after}
+use Rattle.table.specs.Shapes.{numbersOf, countOf, marksOf, fieldsFit}
 use Rattle.table.specs.Reading.{ends, readOf}
-use Rattle.table.specs.Records.{exprIn, partIn, exprOf, partOf, after, Sound, SoundPart, Row, kindByte, numbersIn}
-use Rattle.table.proofs.KindLaws.{every-kind, head-table}
+use Rattle.table.specs.Records.{exprIn, partIn, exprOf, partOf, Sound, SoundPart, Row, kindByte, numbersIn}
+use Rattle.layout.proofs.KindLaws.{every-kind, head-table}
 use Rattle.table.proofs.HeadLaws.{Here, headHere}
 use Rattle.table.proofs.OperandLaws.{part-ends, two-more, key-next, value-next}
 use Rattle.table.proofs.SoundLaws.{LowRow, low-row, up-row, expr-is, sound-here, part-here}
@@ -54,11 +55,12 @@ mark-refused x e a p h k f i = let j = rw f at i in let z : _≡_ {A = ℕ} 0 1 
 
 -- a marked one
 pub record Marked (t x : List ℕ) (p : ℕ) : Type 0 where
-  pub body : p + 3 ≤ length t
+  pub body : p + fieldsAt ≤ length t
   pub room : after t p ≤ length t
-  pub operand : Sound t x (p + 3)
-  pub ends : after t (p + 3) ≡ after t p
-  pub is : partOf t x p ≡ marked p (exprOf t x (p + 3))
+  pub first : p + headBytes (getD t p 0) ≡ p + fieldsAt
+  pub operand : Sound t x (p + fieldsAt)
+  pub ends : after t (p + fieldsAt) ≡ after t p
+  pub is : partOf t x p ≡ marked p (exprOf t x (p + fieldsAt))
 
 module _ (t x : List ℕ) (p : ℕ) (s : SoundPart t x p) where
   g : Here t p (length t)
@@ -66,7 +68,7 @@ module _ (t x : List ℕ) (p : ℕ) (s : SoundPart t x p) where
 
   module _ (b : getD t p 0 ≡ 14) where
     abbrev markHead : Head
-    markHead = record { kind = mark; numbers = []; operandsAt = p + 3; end = after t p }
+    markHead = record { kind = mark; numbers = []; operandsAt = p + fieldsAt; end = after t p }
 
     mark-bytes : headBytes 14 ≡ 3
     unfolding headBytes rowOf kinds bytesOf fieldBytes
@@ -83,14 +85,14 @@ module _ (t x : List ℕ) (p : ℕ) (s : SoundPart t x p) where
     unfolding SoundPart
     mark-body = sym (part-read t x p 63 (length t) mark-read) ∙ s
 
-    marked-row : LowRow t x Nowhere (after t p) 1 (p + 3)
+    marked-row : LowRow t x Nowhere (after t p) 1 (p + fieldsAt)
     unfolding readOf fieldsFit countOf marksOf
     marked-row =
-        low-row t x p Nowhere (after t p) 1 (p + 3) (g .inside)
+        low-row t x p Nowhere (after t p) 1 (p + fieldsAt) (g .inside)
         (sym (part-ends x (λ q e. exprAt wordBytes t x 63 q e) (λ q e. partAt wordBytes t x 63 q e) (λ m q e. readOf t x 63 m q e) (λ q r. refl) (λ q r. refl)
         p markHead mark (λ z. absurd (omega arith))) ∙ ap ends mark-body)
 
-    marked-is : partOf t x p ≡ marked p (exprOf t x (p + 3))
+    marked-is : partOf t x p ≡ marked p (exprOf t x (p + fieldsAt))
     unfolding asPart partIn
     marked-is = ap partIn (sym mark-body ∙ then _ (marked-row .0) (filled-by p markHead _ (marked-row .1)))
 
@@ -98,7 +100,8 @@ module _ (t x : List ℕ) (p : ℕ) (s : SoundPart t x p) where
     part-marked = record {
       body = rw (b, mark-bytes) at (g .room);
       room = g .inside;
-      operand = up-row t x Nowhere (after t p) 1 (p + 3) (g .inside) marked-row .0;
+      first = ap (λ (n : ℕ). p + n) (ap headBytes b ∙ mark-bytes);
+      operand = up-row t x Nowhere (after t p) 1 (p + fieldsAt) (g .inside) marked-row .0;
       ends = marked-row .1;
       is = marked-is;
     }
@@ -119,10 +122,10 @@ module _ (t x : List ℕ) (p : ℕ) (s : SoundPart t x p) where
 -- ---- rows of operands
 
 module _ (t x : List ℕ) where
-  pub sound-extent : (p : ℕ) → Sound t x p → (3 ≤ wordAt t (p + 1)) × (after t p ≤ length t)
+  pub sound-extent : (p : ℕ) → Sound t x p → (fieldsAt ≤ wordAt t (p + 1)) × (after t p ≤ length t)
   sound-extent p s = let h = sound-here t x p s in let f = head-table (getD t p 0) (h .known) in (omega (arith, f .0, f .1, h .least), h .inside)
 
-  pub part-extent : (p : ℕ) → SoundPart t x p → (3 ≤ wordAt t (p + 1)) × (after t p ≤ length t)
+  pub part-extent : (p : ℕ) → SoundPart t x p → (fieldsAt ≤ wordAt t (p + 1)) × (after t p ≤ length t)
   part-extent p s = let h = part-here t x p s in let f = head-table (getD t p 0) (h .known) in (omega (arith, f .0, f .1, h .least), h .inside)
 
   -- it goes forward, to its end

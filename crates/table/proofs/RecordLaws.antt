@@ -1,5 +1,5 @@
 -- A record and its operands: a law for each way through them. Assumes nothing.
-use mathlib.Core.Path.{_≡_, refl, _∙_, ap}
+use mathlib.Core.Path.{_≡_, refl, sym, _∙_, ap}
 use mathlib.Core.Bool.{Bool, true, false, cond}
 use mathlib.Core.List.{List}
 use Prim.Native.Nat.{ℕ, zero, suc, _-_, _<_, _≤_}
@@ -8,13 +8,15 @@ use native.Mathlib.Omega.{arith}
 use lib.ListN.{getD}
 use borrow.Author.Tests.{eq-eqb, ne-eqb}
 use Rattle.meaning.specs.Errors.{Refusal, refusalNumber}
+use Rattle.meaning.specs.Kinds.{Kind}
 use Rattle.meaning.specs.Heads.{refused, _>>=_, _>>_, headAt}
 use Rattle.meaning.specs.Table.{exprAt, partAt, wordBytes}
 use Rattle.table.specs.declared.records.Read.{Read}
 use Rattle.table.specs.declared.records.Read.the-variants.{Ends, Refused}
 use Rattle.table.specs.declared.records.Marks.{Marks}
-use Rattle.table.specs.declared.layout.Head.the-variants as head
-use Rattle.table.specs.Shapes.{rowOf, numbersOf, marksOf, mayMark, misplacedOf, fieldsFit, headOf}
+use Rattle.table.specs.declared.heads.Head.the-variants as head
+use Rattle.layout.specs.Layout.{rowOf}
+use Rattle.table.specs.Shapes.{numbersOf, marksOf, mayMark, misplacedOf, fieldsFit, faultOf, headOf}
 use Rattle.table.specs.Reading.{readOf, operandsOf}
 use Rattle.table.proofs.HeadLaws.{Here, headHere, countHere, Found, found, not-found}
 use Rattle.table.proofs.OperandLaws.{expr-ends, part-ends}
@@ -23,7 +25,7 @@ use Rattle.table.proofs.OperandLaws.{expr-ends, part-ends}
 
 module _ (read : Bool → ℕ → ℕ → Read) (p : ℕ) (marks : Marks) (end : ℕ) where
   pub operands-stop : (left q : ℕ) {o : Read} {m : Bool} {n r : ℕ} → 0 < left → o ≡ read m q end → m ≡ mayMark marks left → o ≡ Refused n r →
-      o ≡ operandsOf read p marks end left q
+      Refused n r ≡ operandsOf read p marks end left q
   unfolding operandsOf
   operands-stop zero q h e f g = absurd (omega arith)
   operands-stop (suc left) q h e f g = rw (← f, ← e, g)
@@ -43,6 +45,36 @@ module _ (read : Bool → ℕ → ℕ → Read) (p : ℕ) (marks : Marks) (end :
   unfolding operandsOf
   operands-unmet zero q h e = rw (ne-eqb q end e)
   operands-unmet (suc left) q h e = absurd (omega arith)
+
+-- ---- the fault of a record
+
+module _ (x : List ℕ) (k : Kind) (ns : List ℕ) (marked : Bool) where
+  pub fault-deep : (levels : ℕ) → levels ≡ 0 → 4 ≡ faultOf x k ns levels marked
+  fault-deep zero e = refl
+  fault-deep (suc left) e = absurd (omega arith)
+
+  pub fault-field : (levels : ℕ) → (levels ≡ 0 → ⊥) → fieldsFit x k ns ≡ false → 5 ≡ faultOf x k ns levels marked
+  fault-field zero h e = absurd (h refl)
+  fault-field (suc left) h e = rw e
+
+  pub fault-mark : (levels : ℕ) → (levels ≡ 0 → ⊥) → fieldsFit x k ns ≡ true → misplacedOf k marked ≡ true → 6 ≡ faultOf x k ns levels marked
+  fault-mark zero h e f = absurd (h refl)
+  fault-mark (suc left) h e f = rw (e, f)
+
+  pub fault-none : (levels : ℕ) → (levels ≡ 0 → ⊥) → fieldsFit x k ns ≡ true → misplacedOf k marked ≡ false → 0 ≡ faultOf x k ns levels marked
+  fault-none zero h e f = absurd (h refl)
+  fault-none (suc left) h e f = rw (e, f)
+
+refused-for : (fits wrong : Bool) (p : ℕ) (o : Read) {n : ℕ} → n ≡ cond fits (cond wrong 6 0) 5 → (n ≡ 0 → ⊥) →
+    Refused n p ≡ cond fits (cond wrong (Refused 6 p) o) (Refused 5 p)
+refused-for true true p o e h = ap (λ (n : ℕ). Refused n p) e
+refused-for true false p o e h = absurd (h e)
+refused-for false wrong p o e h = ap (λ (n : ℕ). Refused n p) e
+
+not-refused : (fits wrong : Bool) (p : ℕ) (o : Read) → _≡_ {A = ℕ} (cond fits (cond wrong 6 0) 5) 0 → o ≡ cond fits (cond wrong (Refused 6 p) o) (Refused 5 p)
+not-refused true true p o e = absurd (omega arith)
+not-refused true false p o e = refl
+not-refused false wrong p o e = absurd (omega arith)
 
 -- ---- a record
 
@@ -80,25 +112,32 @@ module _ (t x : List ℕ) (p end : ℕ) where
       (expr-ends x (λ q e. exprAt wordBytes t x left q e) (λ q e. partAt wordBytes t x left q e) (λ m q e. readOf t x left m q e) (λ q r. refl) (λ q r. refl)
       p (headHere t p) (rowOf (getD t p 0) .kind) (h .leaf))
 
-  module _ {k n a b : ℕ} (w : head.Whole k n a b ≡ headOf t p end) (levels : ℕ) (marked : Bool) where
-    pub too-deep : levels ≡ 0 → Refused 4 p ≡ readOf t x levels marked p end
-    too-deep e = rw e (no-level marked (found t p end w .here))
+  module _ {k n a b : ℕ} (w : head.Whole k n a b ≡ headOf t p end) (marked : Bool) where
+    step : (left : ℕ) → readOf t x (suc left) marked p end ≡ stepOf left marked k n a b
+    step left = let o = found t p end w in rw (o .kind, o .count, o .first, o .after) (here-step left marked (o .here))
 
-    step : (levels ≡ 0 → ⊥) → readOf t x levels marked p end ≡ stepOf (levels - 1) marked k n a b
-    step = step-by levels (found t p end w)
-      where
-        step-by : (m : ℕ) → Found t p end k n a b → (m ≡ 0 → ⊥) → readOf t x m marked p end ≡ stepOf (m - 1) marked k n a b
-        step-by zero o e = absurd (e refl)
-        step-by (suc m) o e = rw (sub-one, o .kind, o .count, o .first, o .after) (here-step m marked (o .here))
+    -- a record with a fault is refused for it
+    pub faulty : (levels : ℕ) {number : ℕ} → number ≡ faultOf x (rowOf k .kind) (numbersOf t p k) levels marked → (number ≡ 0 → ⊥) →
+        Refused number p ≡ readOf t x levels marked p end
+    faulty zero e h = ap (λ (n : ℕ). Refused n p) e ∙ no-level marked (found t p end w .here)
+    faulty (suc left) e h = refused-for (fieldsFit x (rowOf k .kind) (numbersOf t p k)) (misplacedOf (rowOf k .kind) marked) p _ e h ∙ sym (step left)
 
-    module _ (deep : levels ≡ 0 → ⊥) where
-      pub wrong-field : fieldsFit x (rowOf k .kind) (numbersOf t p k) ≡ false → Refused 5 p ≡ readOf t x levels marked p end
-      wrong-field e = rw (step deep, e)
+    -- of one without, there is a level left for its operands, which are read
+    pub level-left : (levels : ℕ) {number : ℕ} → number ≡ faultOf x (rowOf k .kind) (numbersOf t p k) levels marked → number ≡ 0 → levels ≡ 0 → ⊥
+    level-left zero e h f = omega arith
+    level-left (suc left) e h f = omega arith
 
-      module _ (fits : fieldsFit x (rowOf k .kind) (numbersOf t p k) ≡ true) where
-        pub wrong-mark : misplacedOf (rowOf k .kind) marked ≡ true → Refused 6 p ≡ readOf t x levels marked p end
-        wrong-mark e = rw (step deep, fits, e)
+    pub goes-on : (levels : ℕ) {number : ℕ} → number ≡ faultOf x (rowOf k .kind) (numbersOf t p k) levels marked → number ≡ 0 →
+        operandsOf (λ m q e. readOf t x (levels - 1) m q e) p (marksOf (rowOf k .kind)) b n a ≡ readOf t x levels marked p end
+    goes-on zero e h = absurd (omega arith)
+    goes-on (suc left) e h = rw (sub-one, step left) (not-refused (fieldsFit x (rowOf k .kind) (numbersOf t p k)) (misplacedOf (rowOf k .kind) marked) p _ (sym e ∙ h))
 
-        pub goes-on : misplacedOf (rowOf k .kind) marked ≡ false → operandsOf (λ m q e. readOf t x (levels - 1) m q e) p (marksOf (rowOf k .kind)) b n a ≡
-            readOf t x levels marked p end
-        goes-on e = rw (step deep, fits, e)
+    -- without operands it ends where its head does
+    pub leaf-ends : (levels : ℕ) {number : ℕ} → number ≡ faultOf x (rowOf k .kind) (numbersOf t p k) levels marked → number ≡ 0 → n ≡ 0 →
+        Ends b ≡ readOf t x levels marked p end
+    unfolding operandsOf
+    leaf-ends levels e h z =
+        let o = found t p end w in
+        let f : a ≡ b = o .first ∙ o .here .leaf (sym (o .count) ∙ z) ∙ sym (o .after) in
+        let g : operandsOf (λ m q e. readOf t x (levels - 1) m q e) p (marksOf (rowOf k .kind)) b 0 a ≡ Ends b = rw (f, eq-eqb b b refl) in
+        sym g ∙ (rw z at (goes-on levels e h))

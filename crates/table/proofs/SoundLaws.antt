@@ -13,9 +13,10 @@ use Rattle.meaning.specs.Table.{Part, exprAt, partAt, wordBytes}
 use Rattle.table.specs.declared.records.Read.{Read}
 use Rattle.table.specs.declared.records.Read.the-variants.{Ends, Refused}
 use Rattle.table.specs.declared.records.Marks.{Marks}
-use Rattle.table.specs.Shapes.{rowOf, numbersOf, marksOf, mayMark, misplacedOf, fieldsFit}
+use Rattle.layout.specs.Layout.{rowOf, after}
+use Rattle.table.specs.Shapes.{numbersOf, marksOf, mayMark, misplacedOf, fieldsFit}
 use Rattle.table.specs.Reading.{ends, readOf, onward, closed, operandsOf}
-use Rattle.table.specs.Records.{exprIn, partIn, exprOf, partOf, after, Sound, SoundPart, Operand, Row}
+use Rattle.table.specs.Records.{exprIn, partIn, exprOf, partOf, Sound, SoundPart, Operand, Row}
 use Rattle.table.proofs.HeadLaws.{Here, HeadView, good, bad, head-view, headHere, countHere}
 use Rattle.table.proofs.RecordLaws.{refused-there, no-level, here-step}
 use Rattle.table.proofs.MoreLaws.{expr-deeper, part-deeper}

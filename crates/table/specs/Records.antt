@@ -12,10 +12,11 @@ use Rattle.meaning.specs.Limits.{deepestRecord}
 use Rattle.meaning.specs.Value.{null, bool, int, uint, double, string, bytes}
 use Rattle.meaning.specs.Expr.{Expr, literal, name, unary, binary, conditional, select, listOf, mapOf, comprehension, call, noneCall, orValue, Elements, noElements, Pairs, noPairs, Unary, notOp, Binary, equals}
 use Rattle.meaning.specs.Kinds.{ExprKind, nullKind, boolKind, intKind, uintKind, doubleKind, stringKind, bytesKind, nameKind, unaryKind, binaryKind, conditionalKind, selectKind, listKind, mapKind, comprehensionKind, functionKind, numbered, unaries, binaries, Called, toOne, toNone, toTwo, functions}
-use Rattle.meaning.specs.Heads.{Got, got, refused, littleEndian}
+use Rattle.meaning.specs.Heads.{Got, got, refused}
 use Rattle.meaning.specs.Table.{Part, bare, addElement, addPair, exprAt, partAt, wordBytes}
 use Rattle.table.specs.declared.records.Marks.{Marks}
-use Rattle.table.specs.Shapes.{fieldsAt, wordAt, mayMark}
+use Rattle.layout.specs.Layout.{fieldsAt, wordAt, after, longAt}
+use Rattle.table.specs.Shapes.{mayMark}
 
 -- ---- the expression at a place
 
@@ -33,10 +34,6 @@ exprOf t x p = exprIn (exprAt wordBytes t x deepestRecord p (length t))
 -- an operand that may be marked
 unfoldable pub partOf : (table text : List ℕ) → ℕ → Part
 partOf t x p = partIn (partAt wordBytes t x deepestRecord p (length t))
-
--- where the record at a place ends
-abbrev pub after : List ℕ → ℕ → ℕ
-after t p = p + wordAt t (p + 1)
 
 -- the record at a place is accepted
 unfoldable pub Sound : (table text : List ℕ) → ℕ → Type 0
@@ -104,13 +101,6 @@ headOfKind listKind = fieldsAt + wordBytes
 headOfKind mapKind = fieldsAt + wordBytes
 headOfKind comprehensionKind = fieldsAt + 1 + 1
 headOfKind functionKind = fieldsAt + 1
-
-abbrev pub longAt : List ℕ → ℕ → ℕ
-longAt t i = littleEndian wordBytes t 8 i
-
--- half of it
-abbrev pub fourAt : List ℕ → ℕ → ℕ
-fourAt t i = littleEndian wordBytes t 4 i
 
 abbrev pub spanOf : List ℕ → (offset size : ℕ) → List ℕ
 spanOf x offset size = take size (drop offset x)

@@ -1,46 +1,23 @@
 -- A record's shape: the row of its kind byte, the numbers in its fields, how many operands it has and which of them may be marked, and whether
 -- its fields are right. Stated by the definition's kinds, fields and words.
-use Prim.Native.Nat.{ℕ, _+_, _*_, _%_, _^_}
+use Prim.Native.Nat.{ℕ, zero, suc, _+_, _*_, _%_}
 use mathlib.Core.Bool.{Bool, true, false, not, _&&_, cond}
 use mathlib.Core.List.{List, [], _∷_}
 use mathlib.Core.Option.{Option, none, some}
 use lib.Dec.{eqb, leb}
 use lib.ListN.{getD, getElem?}
-use Rattle.meaning.specs.Limits.{byteNumbers}
-use Rattle.meaning.specs.Errors.{refusalNumber}
-use Rattle.meaning.specs.Kinds.{ExprKind, nullKind, boolKind, intKind, uintKind, doubleKind, stringKind, bytesKind, nameKind, unaryKind, binaryKind, conditionalKind, selectKind, listKind, mapKind, comprehensionKind, functionKind, Kind, mark, expr, byte, word, Row, markRow, kinds, numbered, unaries, binaries, Called, toOne, toNone, toTwo, functions, flags, nameOf}
-use Rattle.meaning.specs.Heads.{Got, got, refused, first, second, third, bytesOf, littleEndian, numbersAt, headAt}
+use Rattle.meaning.specs.Errors.{RecordNesting, WrongField, MisplacedMark, refusalNumber}
+use Rattle.meaning.specs.Kinds.{ExprKind, nullKind, boolKind, intKind, uintKind, doubleKind, stringKind, bytesKind, nameKind, unaryKind, binaryKind, conditionalKind, selectKind, listKind, mapKind, comprehensionKind, functionKind, Kind, mark, expr, byte, word, numbered, unaries, binaries, Called, toOne, toNone, toTwo, functions, flags, nameOf}
+use Rattle.meaning.specs.Heads.{Got, got, refused, first, second, third, bytesOf, numbersAt, headAt}
 use Rattle.meaning.specs.Heads as heads
 use Rattle.meaning.specs.Table.{span, utf8, wordBytes}
-use Rattle.table.specs.declared.layout.Head.{Head}
-use Rattle.table.specs.declared.layout.Head.the-variants.{Whole, Refused}
+use Rattle.layout.specs.Layout.{rowOf}
+use Rattle.table.specs.declared.heads.Head.{Head}
+use Rattle.table.specs.declared.heads.Head.the-variants.{Whole, Refused}
 use Rattle.table.specs.declared.records.Marks.{Marks}
 use Rattle.table.specs.declared.records.Marks.the-variants.{Nowhere, Anywhere, Values}
 
 -- ---- heads
-
--- from a record's place to its first field: a kind and an extent
-abbrev pub fieldsAt : ℕ
-fieldsAt = 1 + wordBytes
-
--- words are the numbers below this one
-abbrev pub wordNumbers : ℕ
-wordNumbers = byteNumbers ^ wordBytes
-
--- kinds are the bytes below this one
-abbrev pub kindNumbers : ℕ
-kindNumbers = 17
-
--- the row of a kind byte; the mark's where there is none
-unfoldable pub rowOf : ℕ → Row
-rowOf b = getD kinds b markRow
-
--- from a record's place to its first operand
-unfoldable pub headBytes : ℕ → ℕ
-headBytes b = bytesOf wordBytes [] (byte ∷ word ∷ rowOf b .fields)
-
-unfoldable pub wordAt : List ℕ → ℕ → ℕ
-wordAt t p = littleEndian wordBytes t wordBytes p
 
 -- the numbers in the fields of the record at a place, by its kind byte
 unfoldable pub numbersOf : List ℕ → ℕ → ℕ → List ℕ
@@ -144,6 +121,12 @@ exprFits text functionKind ns = isSome (numbered functions (first ns))
 unfoldable pub fieldsFit : List ℕ → Kind → List ℕ → Bool
 fieldsFit text mark ns = true
 fieldsFit text (expr k) ns = exprFits text k ns
+
+-- The first fault of a record whose head is whole, in the order of the numbers, with so many levels left; 0 where there is none.
+abbrev pub faultOf : List ℕ → Kind → List ℕ → (levels : ℕ) → Bool → ℕ
+faultOf text k ns zero marked = refusalNumber RecordNesting
+faultOf text k ns (suc left) marked =
+    cond (fieldsFit text k ns) (cond (misplacedOf k marked) (refusalNumber MisplacedMark) 0) (refusalNumber WrongField)
 
 -- ---- what is read of a head
 

@@ -6,20 +6,25 @@ ghost use lib.Dec.{leb};
 ghost use lib.ListN.{length, getD, getElem?};
 ghost use Rattle.meaning.specs.Kinds.{flags};
 ghost use Rattle.meaning.specs.Table.{span, utf8, wordBytes};
-ghost use Rattle.table.specs.Shapes.{kindNumbers, wordNumbers, rowOf, headBytes, wordAt, numbersOf, isSome, fieldsFit};
-use crate::kinds::BINARY;
-use crate::kinds::BOOL;
-use crate::kinds::BYTES;
-use crate::kinds::COMPREHENSION;
-use crate::kinds::FUNCTION;
-use crate::kinds::NAME;
-use crate::kinds::SELECT;
-use crate::kinds::STRING;
-use crate::kinds::UNARY;
-use crate::layout::FIELDS;
-use crate::layout::WORD;
-use crate::layout::wide;
-use crate::layout::word_at;
+ghost use Rattle.layout.specs.Layout.{kindNumbers, wordNumbers, rowOf, headBytes, wordAt};
+ghost use Rattle.table.specs.Shapes.{numbersOf, isSome, fieldsFit};
+use layout::kinds::BINARIES;
+use layout::kinds::BINARY;
+use layout::kinds::BOOL;
+use layout::kinds::BYTES;
+use layout::kinds::COMPREHENSION;
+use layout::kinds::FUNCTION;
+use layout::kinds::FUNCTIONS;
+use layout::kinds::LAST_FLAG;
+use layout::kinds::NAME;
+use layout::kinds::NAMES;
+use layout::kinds::SELECT;
+use layout::kinds::STRING;
+use layout::kinds::UNARIES;
+use layout::kinds::UNARY;
+use layout::words::FIELDS;
+use layout::words::WORD;
+use layout::words::word_at;
 
 // Whether a part of the literal text lies in it.
 fn span_fits(text: &[u8], offset: usize, size: usize) -> bool
@@ -55,7 +60,7 @@ fn select_fits(table: &[u8], text: &[u8], at: usize) -> bool
     requires { ⌜ at + (1 + wordBytes + wordBytes) ≤ length (now table) ⌝ }
     ensures { λ r. ⌜ r ≡ (isSome (getElem? flags (getD (now (table .entry)) at 0)) && isSome (utf8 (span (now (text .entry)) (wordAt (now (table .entry)) (at + 1)) (wordAt (now (table .entry)) (at + 1 + wordBytes))))) ⌝ }
 {
-    if 1 < table[at] {
+    if LAST_FLAG < table[at] {
         return false;
     }
     let offset = word_at(table, at + 1);
@@ -70,15 +75,15 @@ pub(crate) fn fields_fit(table: &[u8], text: &[u8], place: usize, kind: u8) -> b
 {
     let at = place + FIELDS;
     match kind {
-        BOOL => table[at] <= 1,
+        BOOL => table[at] <= LAST_FLAG,
         STRING => utf8_fits(text, word_at(table, at), word_at(table, at + WORD)),
         BYTES => span_fits(text, word_at(table, at), word_at(table, at + WORD)),
-        NAME => table[at] < 128,
-        UNARY => one_of(table[at], 3),
-        BINARY => one_of(table[at], 17),
+        NAME => table[at] < NAMES,
+        UNARY => one_of(table[at], UNARIES),
+        BINARY => one_of(table[at], BINARIES),
         SELECT => select_fits(table, text, at),
-        COMPREHENSION => table[at] < 128 && table[at + 1] < 128,
-        FUNCTION => one_of(table[at], 6),
+        COMPREHENSION => table[at] < NAMES && table[at + 1] < NAMES,
+        FUNCTION => one_of(table[at], FUNCTIONS),
         _ => true,
     }
 }

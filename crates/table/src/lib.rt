@@ -3,9 +3,7 @@ ghost use mathlib.Core.Path.{_≡_};
 ghost use Rattle.table.specs.Check.{checkOf};
 
 pub mod fields;
-pub mod kinds;
-pub mod layout;
-pub mod readers;
+pub mod heads;
 pub mod records;
 pub mod refusals;
 
@@ -23,7 +21,7 @@ pub enum Checked {
 }
 
 // No byte of the table is read more than twice: a function's number is read where its operands are counted and where it is tested, every other
-// byte once. Of the literal text each String and each field name has its own bytes read once.
+// byte at most once. Of the literal text each String and each field name has its own bytes tested once.
 pub fn check(table: &[u8], text: &[u8]) -> Checked
     ensures { λ r. ⌜ r ≡ checkOf (now (table .entry)) (now (text .entry)) ⌝ }
 {

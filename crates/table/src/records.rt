@@ -1,17 +1,19 @@
 // Records one inside another: each is tested in the order of the refusals' numbers, then its operands are read.
 ghost use mathlib.Core.Path.{_≡_};
-ghost use Prim.Native.Nat.{_<_, _≤_};
+ghost use Prim.Native.Nat.{_+_, _<_, _≤_};
 ghost use lib.ListN.{length};
-ghost use Rattle.table.specs.Shapes.{kindNumbers, rowOf, marksOf, mayMark, misplacedOf};
+ghost use Rattle.layout.specs.Layout.{kindNumbers, rowOf, headBytes};
+ghost use Rattle.table.specs.Shapes.{numbersOf, marksOf, mayMark, misplacedOf, faultOf};
 ghost use Rattle.table.specs.Reading.{readOf, operandsOf};
-use crate::kinds::LIST;
-use crate::kinds::MAP;
-use crate::kinds::MARK;
-use crate::layout::Head;
+use crate::heads::Head;
 use crate::refusals::MISPLACED_MARK;
+use crate::refusals::NO_FAULT;
 use crate::refusals::RECORD_NESTING;
 use crate::refusals::WRONG_EXTENT;
 use crate::refusals::WRONG_FIELD;
+use layout::kinds::LIST;
+use layout::kinds::MAP;
+use layout::kinds::MARK;
 
 // What was read.
 pub enum Read {
@@ -60,6 +62,23 @@ fn misplaced(kind: u8, marked: bool) -> bool
     if kind == MARK { !marked } else { false }
 }
 
+// The first fault of a record whose head is whole, in the order of the numbers.
+fn fault(table: &[u8], text: &[u8], at: usize, kind: u8, levels: usize, marked: bool) -> u8
+    requires { ⌜ (kind < kindNumbers) × (at + headBytes kind ≤ length (now table)) ⌝ }
+    ensures { λ r. ⌜ r ≡ faultOf (now (text .entry)) (rowOf kind .kind) (numbersOf (now (table .entry)) at kind) levels marked ⌝ }
+{
+    if levels == 0 {
+        return RECORD_NESTING;
+    }
+    if !crate::fields::fields_fit(table, text, at, kind) {
+        return WRONG_FIELD;
+    }
+    if misplaced(kind, marked) {
+        return MISPLACED_MARK;
+    }
+    NO_FAULT
+}
+
 // The record at a place, inside a parent that ends at another, with so many levels of nesting left.
 pub(crate) fn record_at(
     table: &[u8],
@@ -72,17 +91,15 @@ pub(crate) fn record_at(
     requires { ⌜ end ≤ length (now table) ⌝ }
     ensures { λ r. ⌜ r ≡ readOf (now (table .entry)) (now (text .entry)) levels marked at end ⌝ }
 {
-    match crate::layout::head_at(table, at, end) {
+    match crate::heads::head_at(table, at, end) {
         Head::Refused(number) => Read::Refused(number, at),
         Head::Whole(kind, count, first, after) => {
-            if levels == 0 {
-                return Read::Refused(RECORD_NESTING, at);
+            let number = fault(table, text, at, kind, levels, marked);
+            if number != NO_FAULT {
+                return Read::Refused(number, at);
             }
-            if !crate::fields::fields_fit(table, text, at, kind) {
-                return Read::Refused(WRONG_FIELD, at);
-            }
-            if misplaced(kind, marked) {
-                return Read::Refused(MISPLACED_MARK, at);
+            if count == 0 {
+                return Read::Ends(after);
             }
             operands_at(
                 table,
@@ -115,11 +132,10 @@ fn operands_at(
     let mut at = first;
     let mut left = count;
     while 0 < left {
-        let operand = record_at(table, text, at, end, levels, may_mark(marks, left));
-        let Read::Ends(after) = operand else {
-            return operand;
-        };
-        at = after;
+        match record_at(table, text, at, end, levels, may_mark(marks, left)) {
+            Read::Refused(number, fault) => return Read::Refused(number, fault),
+            Read::Ends(after) => at = after,
+        }
         left -= 1;
     }
     if at == end {

@@ -1,4 +1,6 @@
-// Why a table is refused, in the order in which a record is tested; and the limits that the first and the fourth speak of.
+// Why a table is refused, in the order in which a record is tested; the number of none; and the limits that the first and the fourth speak of.
+
+pub const NO_FAULT: u8 = 0;
 
 pub const TABLE_LENGTH: u8 = 1;
 

@@ -4,4 +4,5 @@ pub mod BytesLaws
 pub mod BytesSteps
 pub mod Table
 pub mod Utf8Laws
+pub mod SequenceLaws
 pub mod Utf8Steps

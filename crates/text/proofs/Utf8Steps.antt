@@ -1,48 +1,61 @@
--- The loops over a text: what holds at a place that they reach, and a law for each way on from there.
+-- The loops over a text: what holds at a place that they reach, and a law for each way on from there. Assumes nothing.
 use mathlib.Core.Path.{_≡_, refl, sym, _∙_}
-use mathlib.Core.Bool.{true, false, false≢true}
-use mathlib.Core.List.{List, [], _∷_}
-use mathlib.Core.Option.{Option, none, some}
-use Prim.Native.Nat.{ℕ, zero, suc, _+_, _-_, _≤_, _<_}
-use native.Mathlib.Numerals.{add-one, sub-one}
+use mathlib.Core.Bool.{true, false}
+use mathlib.Core.List.{List}
+use Prim.Native.Nat.{ℕ, zero, suc, _+_, _≤_, _<_}
+use native.Mathlib.Numerals.{add-one}
 use native.Mathlib.Omega.{arith}
-use lib.ListN.{length, getD, drop, replicate, drop-of-length-le}
-use lib.Seq.{drop-cons}
-use Rattle.text.specs.Utf8.{Range, _to_, table, inside, after, complete, wellFormedFrom, wellFormed, codePoints}
-use Rattle.text.proofs.Table.{begins}
-use Rattle.text.proofs.Utf8Laws.{never-well-formed}
+use lib.Bits.{bitOr, bitAnd, or-add-and, and-le-l, and-le-r}
+use lib.ListN.{length, getD, drop, drop-of-length-le, length-drop}
+use lib.Seq.{drop-cons, drop-drop}
+use Rattle.text.specs.Utf8.{_to_, inside, wellFormed, codePoints}
+use Rattle.text.specs.declared.utf8.Reach.{Reach}
+use Rattle.text.specs.declared.utf8.Reach.the-variants.{To, Never}
+use Rattle.text.specs.Sequence.{sequenceOf, joined, Passes, Reaches}
+use Rattle.text.proofs.Utf8Laws.{ascii-well-formed, empty-well-formed}
+use Rattle.text.proofs.SequenceLaws.{sequence-none, sequence-some}
 
 -- ---- well-formedness
--- where nothing is due, a byte below 0x80 changes nothing
-ascii-keeps : (due : Option (List Range)) (byte : ℕ) → complete due ≡ true → byte < 0x80 → due ≡ after due byte
-unfolding table
-ascii-keeps none byte e h = absurd (false≢true e)
-ascii-keeps (some []) byte e h = sym (begins 0 byte refl (omega arith) (omega arith))
-ascii-keeps (some (range ∷ ranges)) byte e h = absurd (false≢true e)
+pub passes-start : {bytes : List ℕ} {i : ℕ} → i ≤ length bytes → Passes bytes i i
+passes-start h = record { forward = omega arith; within = h; formed = refl }
 
--- after what is due at the place, what is left of the text is well formed as the text is
-pub record DueAt (bytes : List ℕ) (due : Option (List Range)) (i : ℕ) : Type 0 where
-  pub within : i ≤ length bytes
-  pub formed : wellFormedFrom due (drop i bytes) ≡ wellFormed bytes
+pub passes-on : {bytes : List ℕ} {i j k : ℕ} → Passes bytes i j → Passes bytes j k → Passes bytes i k
+passes-on a b = record { forward = omega (arith, a .forward, b .forward); within = b .within; formed = b .formed ∙ a .formed }
 
-pub due-start : (bytes : List ℕ) → DueAt bytes (some []) 0
-unfolding wellFormed
-due-start bytes = record { within = omega arith; formed = refl }
+-- of bytes that are joined below 0x80, each is
+or-under : (a b : ℕ) → bitOr a b < 0x80 → (a < 0x80) × (b < 0x80)
+or-under a b h = let e = or-add-and a b in let f = and-le-l a b in let g = and-le-r a b in (omega (arith, e, g, h), omega (arith, e, f, h))
 
-module _ {bytes : List ℕ} {due : Option (List Range)} {i : ℕ} (a : DueAt bytes due i) where
-  pub due-ended : length bytes ≤ i → complete due ≡ wellFormed bytes
-  unfolding wellFormedFrom
-  due-ended h = rw (drop-of-length-le bytes h) at (a .formed)
+ascii-passes : (bytes : List ℕ) (i n : ℕ) → i + n ≤ length bytes → joined bytes i n < 0x80 → wellFormed (drop (i + n) bytes) ≡ wellFormed (drop i bytes)
+ascii-passes bytes i zero h e = let p : i + 0 ≡ i = omega arith in rw p
+ascii-passes bytes i (suc n) h e =
+    let a = or-under (joined bytes i n) (getD bytes (i + n) 0) e in
+    let p : i + suc n ≡ suc (i + n) = omega arith in
+    rw p
+    (sym (ascii-well-formed (getD bytes (i + n) 0) (drop (suc (i + n)) bytes) (a .1)) ∙
+    (rw (← drop-cons bytes (i + n) 0 (omega arith)) (ascii-passes bytes i n (omega arith) (a .0))))
 
-  pub due-here : {next : Option (List Range)} → i < length bytes → next ≡ after due (getD bytes i 0) → DueAt bytes next (i + 1)
-  unfolding wellFormedFrom
-  due-here h e = record { within = omega arith; formed = rw (add-one, e) (rw (drop-cons bytes i 0) at (a .formed)) }
+module _ {bytes : List ℕ} {s i : ℕ} (a : Passes bytes s i) where
+  pub passes-block : (n : ℕ) → i + n ≤ length bytes → joined bytes i n < 0x80 → Passes bytes s (i + n)
+  passes-block n h e = passes-on a (record { forward = omega arith; within = h; formed = ascii-passes bytes i n h e })
 
-  pub ascii-here : i < length bytes → complete due ≡ true → getD bytes i 0 < 0x80 → DueAt bytes due (i + 1)
-  ascii-here h e k = due-here h (ascii-keeps due (getD bytes i 0) e k)
+  pub passes-sequence : {n : ℕ} → i < length bytes → n ≡ sequenceOf (drop i bytes) → (n ≡ 0 → ⊥) → Passes bytes s (i + n)
+  passes-sequence {n} h e z =
+      let f = sequence-some (drop i bytes) n (sym e) z in
+      let l = length-drop i bytes in
+      passes-on a (record { forward = omega arith; within = omega (arith, f .0, l); formed = rw (← drop-drop n i bytes) (f .1) })
 
-  pub never-here : i < length bytes → none ≡ after due (getD bytes i 0) → false ≡ wellFormed bytes
-  never-here h e = sym (never-well-formed (drop (i + 1) bytes)) ∙ due-here h e .formed
+  pub passes-nowhere : i < length bytes → 0 ≡ sequenceOf (drop i bytes) → wellFormed (drop s bytes) ≡ false
+  passes-nowhere h e = sym (a .formed) ∙ sequence-none (drop i bytes) (let l = length-drop i bytes in omega (arith, l)) (sym e)
+
+pub passes-never : {bytes : List ℕ} {i : ℕ} (end : ℕ) {r : Reach} → Passes bytes 0 i → Reaches bytes i end r → r ≡ Never → false ≡ wellFormed bytes
+passes-never end a b e = sym (rw e at b) ∙ a .formed
+
+pub passes-to : {bytes : List ℕ} {i : ℕ} (end : ℕ) {r : Reach} {j : ℕ} → Passes bytes 0 i → Reaches bytes i end r → r ≡ To j → Passes bytes 0 j × (end ≤ j)
+passes-to end a b e = let d = rw e at b in (passes-on a (d .0), d .1)
+
+pub passed-all : {bytes : List ℕ} {i : ℕ} → Passes bytes 0 i → length bytes ≤ i → true ≡ wellFormed bytes
+passed-all {bytes} a h = sym empty-well-formed ∙ (rw (drop-of-length-le bytes h) at (a .formed))
 
 -- ---- the count
 -- the count so far and that of what is left make that of the text
@@ -74,9 +87,3 @@ module _ {bytes : List ℕ} {count i : ℕ} (a : CountAt bytes count i) where
     few = omega arith;
     all = rw (add-one i) (rw (drop-cons bytes i 0, e) at (a .all));
   }
-
--- ---- what is due
--- one range of several alike, and the others
-pub one-of : (range : Range) (many : ℕ) → (many ≡ 0 → ⊥) → range ∷ replicate (many - 1) range ≡ replicate many range
-one-of range zero h = absurd (h refl)
-one-of range (suc many) h = rw (sub-one (suc many))

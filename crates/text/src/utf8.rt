@@ -1,107 +1,88 @@
-// UTF-8 read a byte at a time. What is due is carried from byte to byte, so no byte is looked at twice and a text that
-// breaks off inside a sequence is seen at its end.
+// UTF-8: whether a text is well formed, and how many code points it holds. Text that is ASCII is passed over in blocks, the rest a sequence at a
+// time.
 ghost use mathlib.Core.Path.{_≡_};
-ghost use Rattle.text.specs.Utf8.{_to_, table, inside, opened, after, complete, wellFormed, codePoints};
-ghost use Rattle.text.specs.Due.{dueOf};
+ghost use Prim.Native.Nat.{_+_, _<_, _≤_};
+ghost use lib.Dec.{ltb};
+ghost use lib.ListN.{length};
+ghost use Rattle.text.specs.Utf8.{wellFormed, codePoints};
+ghost use Rattle.text.specs.Sequence.{joined, Passes, Reaches};
+use crate::bytes::shorter;
+use crate::sequence::continues;
+use crate::sequence::sequence;
 
-// What the bytes so far ask of those that follow.
-enum Due {
-    // Nothing: a sequence may begin here, and the text may end here.
-    Nothing,
-    // A byte from the first number to the second, and then as many continuation bytes as the third says.
-    Byte(u8, u8, u8),
-    // What nothing can meet.
+// Blocks that are tried one after the other; where one is not ASCII, the longer is tried again behind it.
+const LONG_BLOCK: usize = 64;
+
+const SHORT_BLOCK: usize = 8;
+
+// Whether so many bytes from a place on are ASCII. None decides before the last, so the compiler reads many at once.
+fn ascii(part: &[u8], at: usize, count: usize) -> bool
+    requires { ⌜ at + count ≤ length (now part) ⌝ }
+    ensures { λ r. ⌜ r ≡ ltb (joined (now (part .entry)) at count) 0x80 ⌝ }
+{
+    let mut seen = 0;
+    let mut done = 0;
+    while done < count {
+        seen = seen | part[at + done];
+        done += 1;
+    }
+    seen < 0x80
+}
+
+// The place behind the blocks of ASCII from a place on.
+fn after_blocks(part: &[u8], first: usize, block: usize) -> usize
+    requires { ⌜ (first ≤ length (now part)) × (0 < block) ⌝ }
+    ensures { λ r. ⌜ Passes (now (part .entry)) first r ⌝ }
+{
+    let mut at = first;
+    while block <= part.len() - at {
+        if !ascii(part, at, block) {
+            return at;
+        }
+        at += block;
+    }
+    at
+}
+
+// How far sequences go.
+pub enum Reach {
+    // To a place.
+    To(usize),
+    // To one where none stands.
     Never,
 }
 
-// What is due after the first byte of a sequence, in the order of the table's rows and of the gaps between them.
-fn begin(byte: u8) -> Due
-    ensures { λ r. ⌜ dueOf r ≡ opened table byte ⌝ }
+// Sequences from a place on, until another is reached.
+fn sequences(part: &[u8], first: usize, end: usize) -> Reach
+    requires { ⌜ (first ≤ length (now part)) × (end ≤ length (now part)) ⌝ }
+    ensures { λ r. ⌜ Reaches (now (part .entry)) first end r ⌝ }
 {
-    if byte < 0x80 {
-        Due::Nothing
-    } else if byte < 0xC2 {
-        Due::Never
-    } else if byte < 0xE0 {
-        Due::Byte(0x80, 0xBF, 0)
-    } else if byte == 0xE0 {
-        Due::Byte(0xA0, 0xBF, 1)
-    } else if byte < 0xED {
-        Due::Byte(0x80, 0xBF, 1)
-    } else if byte == 0xED {
-        Due::Byte(0x80, 0x9F, 1)
-    } else if byte < 0xF0 {
-        Due::Byte(0x80, 0xBF, 1)
-    } else if byte == 0xF0 {
-        Due::Byte(0x90, 0xBF, 2)
-    } else if byte < 0xF4 {
-        Due::Byte(0x80, 0xBF, 2)
-    } else if byte == 0xF4 {
-        Due::Byte(0x80, 0x8F, 2)
-    } else {
-        Due::Never
-    }
-}
-
-// What is due after one more byte.
-fn next(due: Due, byte: u8) -> Due
-    ensures { λ r. ⌜ dueOf r ≡ after (dueOf due) byte ⌝ }
-{
-    match due {
-        Due::Nothing => begin(byte),
-        Due::Byte(low, high, more) => {
-            if byte < low {
-                Due::Never
-            } else if high < byte {
-                Due::Never
-            } else if more == 0 {
-                Due::Nothing
-            } else {
-                Due::Byte(0x80, 0xBF, more - 1)
-            }
+    let mut at = first;
+    while at < end {
+        let size = sequence(part, at);
+        if size == 0 {
+            return Reach::Never;
         }
-        Due::Never => Due::Never,
+        at += size;
     }
-}
-
-// Whether a text may end where this is due.
-fn may_end(due: Due) -> bool
-    ensures { λ r. ⌜ r ≡ complete (dueOf due) ⌝ }
-{
-    match due {
-        Due::Nothing => true,
-        Due::Byte(_, _, _) => false,
-        Due::Never => false,
-    }
+    Reach::To(at)
 }
 
 // Whether a text is one sequence of the table after another.
 pub fn well_formed(part: &[u8]) -> bool
     ensures { λ r. ⌜ r ≡ wellFormed (now (part .entry)) ⌝ }
 {
-    let mut due = Due::Nothing;
     let mut at = 0;
     while at < part.len() {
-        let byte = part[at];
-        // Most text is ASCII, which leaves nothing due.
-        if may_end(due) && byte < 0x80 {
-            at += 1;
-            continue;
+        let behind_long = after_blocks(part, at, LONG_BLOCK);
+        let behind = after_blocks(part, behind_long, SHORT_BLOCK);
+        let end = shorter(behind + LONG_BLOCK, part.len());
+        match sequences(part, behind, end) {
+            Reach::Never => return false,
+            Reach::To(next) => at = next,
         }
-        due = next(due, byte);
-        if let Due::Never = due {
-            return false;
-        }
-        at += 1;
     }
-    may_end(due)
-}
-
-// Whether a byte continues a code point that an earlier byte begins.
-fn continues(byte: u8) -> bool
-    ensures { λ r. ⌜ r ≡ inside (0x80 to 0xBF) byte ⌝ }
-{
-    0x80 <= byte && byte <= 0xBF
+    true
 }
 
 // Of a code point's bytes the first alone continues nothing, so those are counted.

@@ -10,8 +10,8 @@ use Rattle.bindings.proofs.judging.repeated.Tie as tie
 use Rattle.bindings.proofs.judging.repeated.Reads as reads
 use Rattle.bindings.proofs.judging.repeated.Lts as lts
 use Rattle.bindings.proofs.literals.literal_at.Reads as literal-at-reads
-use Rattle.rooms.proofs.equality.plain_equal.Reads as plain-equal-reads
-use Rattle.table.proofs.readers.end_at.Reads as end-at-reads
+use Rattle.comparing.proofs.plain.plain_equal.Reads as plain-equal-reads
+use Rattle.layout.proofs.readers.end_at.Reads as end-at-reads
 
 
 abbrev Inv-loop : tie.InvT-loop

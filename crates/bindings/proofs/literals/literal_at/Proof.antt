@@ -7,8 +7,8 @@ use lib.ListN.{getD}
 use mir.Syntax.{w64}
 use mir.ValLaws.{toZ-ofZ}
 use borrow.Author.Needs.{sfits-of}
-use Rattle.table.proofs.KindLaws.{head-table}
-use Rattle.table.specs.Shapes.{wordAt}
+use Rattle.layout.proofs.KindLaws.{head-table}
+use Rattle.layout.specs.Layout.{wordAt}
 use Rattle.bindings.proofs.LiteralLaws.{no-literal}
 use borrow.Author.Needs.{needs}
 use Rattle.bindings.proofs.literals.literal_at.Statement.{statement}
@@ -16,11 +16,11 @@ use Rattle.bindings.proofs.literals.literal_at.Tie as tie
 use Rattle.bindings.proofs.literals.literal_at.Reads as reads
 use Rattle.bindings.proofs.literals.literal_at.Lts as lts
 use Rattle.rooms.proofs.value.double_value.Reads as double-value-reads
-use Rattle.table.proofs.readers.bits_at.Reads as bits-at-reads
-use Rattle.table.proofs.readers.int_at.Reads as int-at-reads
-use Rattle.table.proofs.readers.kind_at.Reads as kind-at-reads
-use Rattle.table.proofs.readers.number_at.Reads as number-at-reads
-use Rattle.table.proofs.readers.span_at.Reads as span-at-reads
+use Rattle.layout.proofs.readers.bits_at.Reads as bits-at-reads
+use Rattle.layout.proofs.readers.int_at.Reads as int-at-reads
+use Rattle.layout.proofs.readers.kind_at.Reads as kind-at-reads
+use Rattle.layout.proofs.readers.number_at.Reads as number-at-reads
+use Rattle.layout.proofs.readers.span_at.Reads as span-at-reads
 
 
 -- src/literals.rt:32:11

@@ -9,7 +9,7 @@ use Rattle.soundness.proofs.keys.repeated.Tie as tie
 use Rattle.soundness.proofs.keys.repeated.Reads as reads
 use Rattle.soundness.proofs.keys.repeated.Lts as lts
 use Rattle.rooms.proofs.cells.read_cell.Reads as read-cell-reads
-use Rattle.rooms.proofs.equality.plain_equal.Reads as plain-equal-reads
+use Rattle.comparing.proofs.plain.plain_equal.Reads as plain-equal-reads
 
 abbrev Inv-loop : tie.InvT-loop
 Inv-loop cells text key first count at₀ left₀ t9 t10 at left = (at + 2 * left < 262144) × (repeatedIn cells text key at left ≡ repeatedIn cells text key first count)

@@ -2,7 +2,8 @@
 use mathlib.Core.Path.{_∙_}
 use native.Mathlib.Omega.{arith}
 use borrow.Author.Tests.{lt-ltb, le-ltb}
-use Rattle.table.proofs.KindLaws.{head-is, no-fields}
+use Rattle.layout.proofs.KindLaws.{head-is}
+use Rattle.table.proofs.KindLaws.{no-fields}
 use Rattle.table.proofs.FieldLaws.{bool-fits, string-fits, bytes-fits, name-fits, unary-fits, binary-fits, select-is, names-first, names-second, function-fits}
 use borrow.Author.Needs.{needs}
 use Rattle.table.proofs.fields.fields_fit.Statement.{statement}

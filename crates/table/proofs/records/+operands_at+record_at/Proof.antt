@@ -6,16 +6,15 @@ use Rattle.table.proofs.records.operands_at.Reads as operands-at
 use Rattle.table.proofs.records.+operands_at+record_at.Lts-operands_at as operands-at-lts
 use Rattle.table.proofs.records.record_at.Reads as record-at
 use Rattle.table.proofs.records.+operands_at+record_at.Lts-record_at as record-at-lts
-use Rattle.table.proofs.fields.fields_fit.Reads as fields-fit-reads
-use Rattle.table.proofs.layout.head_at.Reads as head-at-reads
+use Rattle.table.proofs.heads.head_at.Reads as head-at-reads
+use Rattle.table.proofs.records.fault.Reads as fault-reads
 use Rattle.table.proofs.records.marks_of.Reads as marks-of-reads
 use Rattle.table.proofs.records.may_mark.Reads as may-mark-reads
-use Rattle.table.proofs.records.misplaced.Reads as misplaced-reads
 use Rattle.table.proofs.records.+operands_at+record_at.{statement}
 use Rattle.table.proofs.records.+operands_at+record_at.Tie.{close}
 use Rattle.table.proofs.records.+operands_at+record_at.Proof.Kit.{μ-operands-at, μ-record-at, operands-at-at, operands-at-below, record-at-at, record-at-below}
-use Rattle.table.proofs.records.+operands_at+record_at.Proof.OperandsAt.{operands-at-Inv-loop, operands-at-μ-loop, operands-at-loop-holds, operands-at-may-mark-requires, operands-at-record-at-requires, operands-at-enum-known-operand, operands-at-enum-told, operands-at-returns, operands-at-sub-left, operands-at-loop-less, operands-at-loop-again, operands-at-returns-2, operands-at-returns-3}
-use Rattle.table.proofs.records.+operands_at+record_at.Proof.RecordAt.{record-at-head-at-requires, record-at-enum-known-number, record-at-enum-known-kind, record-at-returns, record-at-fields-fit-requires, record-at-returns-2, record-at-misplaced-requires, record-at-returns-3, record-at-marks-of-requires, record-at-sub-operands-at, record-at-operands-at-requires, record-at-returns-4, record-at-returns-5}
+use Rattle.table.proofs.records.+operands_at+record_at.Proof.OperandsAt.{operands-at-Inv-loop, operands-at-μ-loop, operands-at-loop-holds, operands-at-may-mark-requires, operands-at-record-at-requires, operands-at-enum-known-number, operands-at-returns, operands-at-enum-known-after, operands-at-sub-left, operands-at-loop-less, operands-at-loop-again, operands-at-returns-2, operands-at-returns-3}
+use Rattle.table.proofs.records.+operands_at+record_at.Proof.RecordAt.{record-at-head-at-requires, record-at-enum-known-number, record-at-enum-known-kind, record-at-fault-requires, record-at-returns, record-at-returns-2, record-at-marks-of-requires, record-at-sub-operands-at, record-at-operands-at-requires, record-at-returns-3, record-at-returns-4}
 
 pub +operands-at+record-at-spec : {M : Type 1} → statement M
 +operands-at+record-at-spec = close μ-operands-at μ-record-at (λ t. operands-at-lts.spec (
@@ -31,9 +30,9 @@ pub +operands-at+record-at-spec : {M : Type 1} → statement M
     (operands-at-loop-holds t)
     (operands-at-may-mark-requires t)
     (operands-at-record-at-requires t)
-    (operands-at-enum-known-operand t)
-    (operands-at-enum-told t)
+    (operands-at-enum-known-number t)
     (operands-at-returns t)
+    (operands-at-enum-known-after t)
     (operands-at-sub-left t)
     (operands-at-loop-less t)
     (operands-at-loop-again t)
@@ -42,10 +41,8 @@ pub +operands-at+record-at-spec : {M : Type 1} → statement M
     λ t. record-at-lts.spec (
       head-at-reads.Asked,
       head-at-reads.Learnt,
-      fields-fit-reads.Asked,
-      fields-fit-reads.Learnt,
-      misplaced-reads.Asked,
-      misplaced-reads.Learnt,
+      fault-reads.Asked,
+      fault-reads.Learnt,
       marks-of-reads.Asked,
       marks-of-reads.Learnt,
       operands-at-below t,
@@ -56,13 +53,11 @@ pub +operands-at+record-at-spec : {M : Type 1} → statement M
     (record-at-head-at-requires t)
     (record-at-enum-known-number t)
     (record-at-enum-known-kind t)
+    (record-at-fault-requires t)
     (record-at-returns t)
-    (record-at-fields-fit-requires t)
     (record-at-returns-2 t)
-    (record-at-misplaced-requires t)
-    (record-at-returns-3 t)
     (record-at-marks-of-requires t)
     (record-at-sub-operands-at t)
     (record-at-operands-at-requires t)
+    (record-at-returns-3 t)
     (record-at-returns-4 t)
-    (record-at-returns-5 t)

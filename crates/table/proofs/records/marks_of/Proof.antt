@@ -1,6 +1,7 @@
 -- `records::marks_of` meets its contract. Assumes nothing.
 use Rattle.meaning.specs.Kinds.{kinds}
-use Rattle.table.specs.Shapes.{rowOf, marksOf}
+use Rattle.layout.specs.Layout.{rowOf}
+use Rattle.table.specs.Shapes.{marksOf}
 use Rattle.table.proofs.KindLaws.{no-marks}
 use Rattle.table.proofs.records.marks_of.Statement.{statement}
 use Rattle.table.proofs.records.marks_of.Tie as tie

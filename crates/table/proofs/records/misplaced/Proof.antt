@@ -1,6 +1,6 @@
 -- `records::misplaced` meets its contract. Assumes nothing.
 use Rattle.meaning.specs.Kinds.{kinds}
-use Rattle.table.specs.Shapes.{rowOf}
+use Rattle.layout.specs.Layout.{rowOf}
 use Rattle.table.proofs.KindLaws.{no-mark}
 use Rattle.table.proofs.records.misplaced.Statement.{statement}
 use Rattle.table.proofs.records.misplaced.Tie as tie

@@ -1,71 +1,58 @@
--- `utf8::well_formed` meets its contract: what is left of the text, after what is due, is well formed as the text is.
-use mathlib.Core.Path.{sym, ap, _∙_}
+-- `utf8::well_formed` meets its contract: what is left is well formed as the text is. Assumes nothing.
 use Prim.Native.Nat.{_-_}
 use native.Mathlib.Omega.{arith}
 use lib.ListN.{length}
 use borrow.Author.Needs.{needs}
-use borrow.Author.Tests.{ltb-true}
-use Rattle.text.specs.Due.{dueOf}
-use Rattle.text.proofs.Utf8Steps.{DueAt, due-start, due-ended, due-here, ascii-here, never-here}
+use Rattle.text.specs.Sequence.{Passes}
+use Rattle.text.proofs.Utf8Steps.{passes-start, passes-on, passes-never, passes-to, passed-all}
 use Rattle.text.proofs.utf8.well_formed.Statement.{statement}
 use Rattle.text.proofs.utf8.well_formed.Tie as tie
 
 abbrev Inv-loop : tie.InvT-loop
-Inv-loop part due₀ at₀ due at = DueAt part (dueOf due) at
+Inv-loop part at₀ at = Passes part 0 at
 
 abbrev μ-loop : tie.MeasureT-loop
-μ-loop part due₀ at₀ due at = length part - at
+μ-loop part at₀ at = length part - at
 
 loop-holds : tie.Need-loop-holds Inv-loop μ-loop
-loop-holds c = due-start _
+loop-holds c = passes-start (omega arith)
 
-shared-slice-read-byte : tie.Need-shared-slice-read-byte Inv-loop μ-loop
-shared-slice-read-byte c = search needs
+after-blocks-requires : tie.Need-after-blocks-requires Inv-loop μ-loop
+after-blocks-requires c κs = (c .before .loop .inv .within, omega arith)
 
-may-end-requires : tie.Need-may-end-requires Inv-loop μ-loop
-may-end-requires c κs = search needs
+after-blocks-requires-2 : tie.Need-after-blocks-requires-2 Inv-loop μ-loop
+after-blocks-requires-2 c κs = (c .after-blocks .ensures .within, omega arith)
 
-add-at : tie.Need-add-at Inv-loop μ-loop
-add-at c = search needs
+add-shorter : tie.Need-add-shorter Inv-loop μ-loop
+add-shorter c = omega (arith, c .after-blocks2 .ensures .within)
 
-loop-less : tie.Need-loop-less Inv-loop μ-loop
-loop-less c = search needs
+shorter-requires : tie.Need-shorter-requires Inv-loop μ-loop
+shorter-requires c κs = search needs
 
-loop-again : tie.Need-loop-again Inv-loop μ-loop
-loop-again c =
-    ascii-here
-    (c .before .before .before .before .before .loop .inv)
-    (omega arith)
-    (sym (c .before .before .may-end .ensures) ∙ c .before .if1 .taken)
-    (ltb-true _ _ (c .if2 .taken))
-
-next-requires : tie.Need-next-requires Inv-loop μ-loop
-next-requires c κs = search needs
+sequences-requires : tie.Need-sequences-requires Inv-loop μ-loop
+sequences-requires c κs = (c .before .after-blocks2 .ensures .within, omega (arith, c .shorter .ensures))
 
 enum-told : tie.Need-enum-told Inv-loop μ-loop
 enum-told c = search needs
 
 returns : tie.Need-returns Inv-loop μ-loop
 returns c =
-    never-here
-    (c .before .before .before .before .before .before .before .loop .inv)
-    (omega arith)
-    (ap dueOf (sym (c .enum-told .given .1)) ∙ c .before .before .next .ensures)
+    passes-never _ (passes-on (c .before .before .before .before .before .before .before .loop .inv) (passes-on (c .before .before .before .before .before .after-blocks .ensures) (c .before .before .before .before .after-blocks2 .ensures))) (c .before .before .sequences .ensures) (c .enum-told .given .1)
 
-add-at-2 : tie.Need-add-at-2 Inv-loop μ-loop
-add-at-2 c = search needs
+enum-known-next : tie.Need-enum-known-next Inv-loop μ-loop
+enum-known-next c = search needs
 
-loop-less-2 : tie.Need-loop-less-2 Inv-loop μ-loop
-loop-less-2 c = search needs
+loop-less : tie.Need-loop-less Inv-loop μ-loop
+loop-less c =
+    let w = passes-to _ (passes-on (c .before .before .before .before .before .before .before .before .loop .inv) (passes-on (c .before .before .before .before .before .before .after-blocks .ensures) (c .before .before .before .before .before .after-blocks2 .ensures))) (c .before .before .before .sequences .ensures) (c .before .next .given .1) in
+    omega (arith, w .1, c .before .before .before .before .shorter .ensures)
 
-loop-again-2 : tie.Need-loop-again-2 Inv-loop μ-loop
-loop-again-2 c = due-here (c .before .before .before .before .before .before .loop .inv) (omega arith) (c .before .next .ensures)
-
-may-end-requires-2 : tie.Need-may-end-requires-2 Inv-loop μ-loop
-may-end-requires-2 c κs = search needs
+loop-again : tie.Need-loop-again Inv-loop μ-loop
+loop-again c =
+    passes-to _ (passes-on (c .before .before .before .before .before .before .before .before .loop .inv) (passes-on (c .before .before .before .before .before .before .after-blocks .ensures) (c .before .before .before .before .before .after-blocks2 .ensures))) (c .before .before .before .sequences .ensures) (c .before .next .given .1) .0
 
 returns-2 : tie.Need-returns-2 Inv-loop μ-loop
-returns-2 c = c .may-end2 .ensures ∙ due-ended (c .before .before .loop .inv) (omega arith)
+returns-2 c = passed-all (c .before .loop .inv) (omega arith)
 
 pub well-formed-spec : {M : Type 1} → statement M
 well-formed-spec =
@@ -74,16 +61,14 @@ well-formed-spec =
     Inv-loop
     μ-loop
     loop-holds
-    shared-slice-read-byte
-    may-end-requires
-    add-at
-    loop-less
-    loop-again
-    next-requires
+    after-blocks-requires
+    after-blocks-requires-2
+    add-shorter
+    shorter-requires
+    sequences-requires
     enum-told
     returns
-    add-at-2
-    loop-less-2
-    loop-again-2
-    may-end-requires-2
+    enum-known-next
+    loop-less
+    loop-again
     returns-2)

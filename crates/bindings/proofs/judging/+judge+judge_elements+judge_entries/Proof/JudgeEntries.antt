@@ -2,7 +2,7 @@ use borrow.Author.Needs.{needs}
 use mathlib.Core.Path.{_≡_, refl, sym, _∙_}
 use Prim.Native.Nat.{_+_, _*_, _-_, _≤_}
 use native.Mathlib.Omega.{arith}
-use Rattle.table.specs.Shapes.{wordAt}
+use Rattle.layout.specs.Layout.{wordAt}
 use Rattle.bindings.specs.Literals.{rowBytes, entryBytes}
 use Rattle.bindings.proofs.Rows.{Place, sound-place, part-place}
 use Rattle.bindings.proofs.PartLaws.{bare-part}
@@ -27,10 +27,10 @@ use Rattle.bindings.proofs.judging.nothing_judged.Reads as nothing-judg
 use Rattle.bindings.proofs.judging.with_key.Reads as with-key-reads
 use Rattle.bindings.proofs.judging.without_parts.Reads as without-parts-reads
 use Rattle.bindings.proofs.literals.literal_at.Reads as literal-at-reads
-use Rattle.table.proofs.readers.count_at.Reads as count-at-reads
-use Rattle.table.proofs.readers.end_at.Reads as end-at-reads
-use Rattle.table.proofs.readers.first_operand.Reads as first-operand-reads
-use Rattle.table.proofs.readers.kind_at.Reads as kind-at-reads
+use Rattle.layout.proofs.readers.count_at.Reads as count-at-reads
+use Rattle.layout.proofs.readers.end_at.Reads as end-at-reads
+use Rattle.layout.proofs.readers.first_operand.Reads as first-operand-reads
+use Rattle.layout.proofs.readers.kind_at.Reads as kind-at-reads
 use Rattle.bindings.proofs.judging.+judge+judge_elements+judge_entries.Proof.Kit.{μ-judge, μ-judge-elements, μ-judge-entries, judge-at, judge-below, judge-elements-at, judge-elements-below, judge-entries-at, judge-entries-below}
 
 abbrev pub judge-entries-Inv-loop : judge-entries-lts.InvT-loop

@@ -1,7 +1,7 @@
 use mathlib.Core.Path.{_≡_, refl, sym, _∙_}
 use Prim.Native.Nat.{_+_, _*_, _-_, _≤_}
 use native.Mathlib.Omega.{arith}
-use Rattle.table.specs.Shapes.{wordAt}
+use Rattle.layout.specs.Layout.{wordAt}
 use Rattle.bindings.specs.Literals.{rowBytes, entryBytes}
 use Rattle.bindings.proofs.Rows.{Place, sound-place, part-place}
 use Rattle.bindings.proofs.PartLaws.{bare-part}
@@ -26,10 +26,10 @@ use Rattle.bindings.proofs.judging.nothing_judged.Reads as nothing-judg
 use Rattle.bindings.proofs.judging.with_key.Reads as with-key-reads
 use Rattle.bindings.proofs.judging.without_parts.Reads as without-parts-reads
 use Rattle.bindings.proofs.literals.literal_at.Reads as literal-at-reads
-use Rattle.table.proofs.readers.count_at.Reads as count-at-reads
-use Rattle.table.proofs.readers.end_at.Reads as end-at-reads
-use Rattle.table.proofs.readers.first_operand.Reads as first-operand-reads
-use Rattle.table.proofs.readers.kind_at.Reads as kind-at-reads
+use Rattle.layout.proofs.readers.count_at.Reads as count-at-reads
+use Rattle.layout.proofs.readers.end_at.Reads as end-at-reads
+use Rattle.layout.proofs.readers.first_operand.Reads as first-operand-reads
+use Rattle.layout.proofs.readers.kind_at.Reads as kind-at-reads
 
 abbrev pub μ-judge : Measures 2 judge-kinds.ps ℕ
 μ-judge κs a = 2 * wordAt (a .0 .now) (a .1 .1 .0 + 1)

@@ -1,7 +1,7 @@
 use mathlib.Core.Path.{_≡_, refl, sym, _∙_}
 use Prim.Native.Nat.{_+_, _*_, _-_, _≤_}
 use native.Mathlib.Omega.{arith}
-use Rattle.table.specs.Shapes.{wordAt}
+use Rattle.layout.specs.Layout.{wordAt}
 use Rattle.bindings.specs.Literals.{rowBytes}
 use Rattle.bindings.proofs.Rows.{Place, part-place}
 use Rattle.bindings.proofs.JudgeSteps.{list-body, map-body}
@@ -21,10 +21,10 @@ use Rattle.bindings.proofs.literals.literal_at.Reads as literal-at-read
 use Rattle.rooms.proofs.cells.write_cell.Reads as write-cell-reads
 use Rattle.rooms.proofs.value.nesting_of.Reads as nesting-of-reads
 use Rattle.soundness.proofs.values.deeper.Reads as deeper-reads
-use Rattle.table.proofs.readers.count_at.Reads as count-at-reads
-use Rattle.table.proofs.readers.end_at.Reads as end-at-reads
-use Rattle.table.proofs.readers.first_operand.Reads as first-operand-reads
-use Rattle.table.proofs.readers.kind_at.Reads as kind-at-reads
+use Rattle.layout.proofs.readers.count_at.Reads as count-at-reads
+use Rattle.layout.proofs.readers.end_at.Reads as end-at-reads
+use Rattle.layout.proofs.readers.first_operand.Reads as first-operand-reads
+use Rattle.layout.proofs.readers.kind_at.Reads as kind-at-reads
 
 abbrev pub μ-lay : Measures 4 lay-kinds.ps ℕ
 μ-lay κs a = 2 * wordAt (a .0 .now) (a .1 .1 .1 .1 .0 + 1)

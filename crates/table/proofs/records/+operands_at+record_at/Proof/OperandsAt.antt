@@ -1,11 +1,10 @@
 -- `records::operands_at`: what is left of the row says what the whole row says. Assumes nothing.
 use borrow.Author.Needs.{needs}
 use mathlib.Core.Path.{_≡_, refl, _∙_}
-use Prim.Native.Nat.{_-_}
+use Prim.Native.Nat.{ℕ, _-_}
 use native.Mathlib.Omega.{arith}
 use Rattle.table.specs.Reading.{readOf, operandsOf}
 use Rattle.table.proofs.RecordLaws.{operands-stop, operands-again, operands-met, operands-unmet}
-use Prim.Native.Nat.{ℕ}
 use Rattle.table.proofs.records.operands_at.Reads as operands-at
 use Rattle.table.proofs.records.+operands_at+record_at.Lts-operands_at as operands-at-lts
 use Rattle.table.proofs.records.record_at.Reads as record-at
@@ -43,21 +42,13 @@ pub operands-at-record-at-requires : (t : ℕ) → operands-at-lts.Need-record-a
 ) (operands-at-at t) operands-at.Post operands-at-Inv-loop operands-at-μ-loop
 operands-at-record-at-requires t c κs = (omega arith, c .before .before .before .before .before .pre .1)
 
-pub operands-at-enum-known-operand : (t : ℕ) → operands-at-lts.Need-enum-known-operand (
+pub operands-at-enum-known-number : (t : ℕ) → operands-at-lts.Need-enum-known-number (
   may-mark-reads.Asked,
   may-mark-reads.Learnt,
   record-at-below t,
   record-at.Post,
 ) (operands-at-at t) operands-at.Post operands-at-Inv-loop operands-at-μ-loop
-operands-at-enum-known-operand t c = search needs
-
-pub operands-at-enum-told : (t : ℕ) → operands-at-lts.Need-enum-told (
-  may-mark-reads.Asked,
-  may-mark-reads.Learnt,
-  record-at-below t,
-  record-at.Post,
-) (operands-at-at t) operands-at.Post operands-at-Inv-loop operands-at-μ-loop
-operands-at-enum-told t c = search needs
+operands-at-enum-known-number t c = search needs
 
 pub operands-at-returns : (t : ℕ) → operands-at-lts.Need-returns (
   may-mark-reads.Asked,
@@ -66,11 +57,18 @@ pub operands-at-returns : (t : ℕ) → operands-at-lts.Need-returns (
   record-at.Post,
 ) (operands-at-at t) operands-at.Post operands-at-Inv-loop operands-at-μ-loop
 operands-at-returns t c =
-    let a = c .before .before .before .before .before .before .before .before .args in
-    let l = c .before .before .before .before .before .loop in
-    operands-stop (readOf (a .table .now) (a .text .now) (a .levels)) (a .place) (a .marks) (a .end) (l .left) (l .at)
-    (c .before .before .before .before .loop-test .taken) (c .before .before .record-at .ensures) (c .before .before .before .may-mark .ensures)
-    (c .enum-told .given .1) ∙ l .inv
+    let a = c .before .before .before .before .before .before .before .before .before .args in
+    let l = c .before .before .before .before .before .before .loop in
+    operands-stop (readOf (a .table .now) (a .text .now) (a .levels)) (a .place) (a .marks) (a .end) (l .left) (l .at) (c .before .before .before .before .before .loop-test .taken)
+    (c .before .before .before .record-at .ensures) (c .before .before .before .before .may-mark .ensures) (c .before .number .given .1) ∙ l .inv
+
+pub operands-at-enum-known-after : (t : ℕ) → operands-at-lts.Need-enum-known-after (
+  may-mark-reads.Asked,
+  may-mark-reads.Learnt,
+  record-at-below t,
+  record-at.Post,
+) (operands-at-at t) operands-at.Post operands-at-Inv-loop operands-at-μ-loop
+operands-at-enum-known-after t c = search needs
 
 pub operands-at-sub-left : (t : ℕ) → operands-at-lts.Need-sub-left (
   may-mark-reads.Asked,
@@ -97,9 +95,8 @@ pub operands-at-loop-again : (t : ℕ) → operands-at-lts.Need-loop-again (
 operands-at-loop-again t c =
     let a = c .before .before .before .before .before .before .before .before .before .args in
     let l = c .before .before .before .before .before .before .loop in
-    operands-again (readOf (a .table .now) (a .text .now) (a .levels)) (a .place) (a .marks) (a .end) (l .left) (l .at)
-    (c .before .before .before .before .before .loop-test .taken) (c .before .before .before .record-at .ensures)
-    (c .before .before .before .before .may-mark .ensures) (c .before .operand .given .1) ∙ l .inv
+    operands-again (readOf (a .table .now) (a .text .now) (a .levels)) (a .place) (a .marks) (a .end) (l .left) (l .at) (c .before .before .before .before .before .loop-test .taken)
+    (c .before .before .before .record-at .ensures) (c .before .before .before .before .may-mark .ensures) (c .before .after .given .1) ∙ l .inv
 
 pub operands-at-returns-2 : (t : ℕ) → operands-at-lts.Need-returns-2 (
   may-mark-reads.Asked,
