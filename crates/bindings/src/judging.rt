@@ -11,15 +11,15 @@ ghost use Rattle.bindings.specs.Judging.{firstOf, joinedOf, withKey, dee
 use crate::literals::literal_at;
 use crate::literals::text_length;
 use comparing::plain::plain_equal;
-use rooms::value::Value;
-use soundness::keys::is_key;
-use soundness::values::is_absent;
 use layout::kinds::LIST;
 use layout::kinds::MAP;
 use layout::readers::count_at;
 use layout::readers::end_at;
 use layout::readers::first_operand;
 use layout::readers::kind_at;
+use rooms::value::Value;
+use soundness::keys::is_key;
+use soundness::values::is_absent;
 
 // The place of a record at fault, or that there is none.
 pub enum Fault {

@@ -15,6 +15,12 @@ use crate::literals::literal_at;
 use crate::literals::moved_to;
 use crate::literals::text_first;
 use crate::literals::text_length;
+use layout::kinds::LIST;
+use layout::kinds::MAP;
+use layout::readers::count_at;
+use layout::readers::end_at;
+use layout::readers::first_operand;
+use layout::readers::kind_at;
 use rooms::building::copy_text;
 use rooms::cells::write_cell;
 use rooms::value::CellSpace;
@@ -22,12 +28,6 @@ use rooms::value::TextSpace;
 use rooms::value::Value;
 use rooms::value::nesting_of;
 use soundness::values::deeper;
-use layout::kinds::LIST;
-use layout::kinds::MAP;
-use layout::readers::count_at;
-use layout::readers::end_at;
-use layout::readers::first_operand;
-use layout::readers::kind_at;
 
 // What was laid down, and how much is used afterwards.
 pub struct Laid {

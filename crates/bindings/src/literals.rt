@@ -4,9 +4,6 @@ ghost use Prim.Native.Nat.{_+_, _<_, _≤_};
 ghost use lib.ListN.{length, getD};
 ghost use Rattle.layout.specs.Layout.{kindNumbers, headBytes};
 ghost use Rattle.bindings.specs.Literals.{literalValue, textLength, textFirst, movedTo};
-use rooms::value::TextSpace;
-use rooms::value::Value;
-use rooms::value::double_value;
 use layout::kinds::BOOL;
 use layout::kinds::BYTES;
 use layout::kinds::STRING;
@@ -15,6 +12,9 @@ use layout::readers::int_at;
 use layout::readers::kind_at;
 use layout::readers::number_at;
 use layout::readers::span_at;
+use rooms::value::TextSpace;
+use rooms::value::Value;
+use rooms::value::double_value;
 
 const NULL: u8 = 0;
 

@@ -3,3 +3,4 @@
 pub mod Keys
 pub mod Fits
 pub mod Sound
+pub mod Held

@@ -10,7 +10,6 @@ use Rattle.bindings.proofs.judge_all.Reads as judge-all-reads
 use Rattle.bindings.proofs.laying.lay.Reads as lay-reads
 use Rattle.rooms.proofs.scope.Scope.with.Reads as with-reads
 
-
 -- src/lib.rt:133:9
 judge-all-requires : tie.Need-judge-all-requires
 judge-all-requires c κs = search needs

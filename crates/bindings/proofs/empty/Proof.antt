@@ -5,7 +5,6 @@ use Rattle.bindings.proofs.empty.Reads as reads
 use Rattle.bindings.proofs.empty.Lts as lts
 use Rattle.rooms.proofs.scope.Scope.empty.Reads as empty-reads
 
-
 -- src/lib.rt:167:16
 empty-requires : tie.Need-empty-requires
 empty-requires c κs = search needs

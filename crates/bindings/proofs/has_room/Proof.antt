@@ -8,7 +8,6 @@ use Rattle.bindings.proofs.has_room.Tie as tie
 use Rattle.bindings.proofs.has_room.Reads as reads
 use Rattle.bindings.proofs.has_room.Lts as lts
 
-
 -- src/lib.rt:49:9
 returns : tie.Need-returns
 returns c = sym (lt-leb (c .before .args .used + c .before .args .need) (c .before .args .room) (omega arith))

@@ -15,7 +15,6 @@ use Rattle.soundness.proofs.sound.Reads as sound-reads
 use Rattle.soundness.proofs.values.is_absent.Reads as is-absent-reads
 use Rattle.table.proofs.check.Reads as check-reads
 
-
 -- src/lib.rt:98:9
 sound-requires : tie.Need-sound-requires
 sound-requires c κs = search needs

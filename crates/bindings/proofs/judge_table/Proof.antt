@@ -11,7 +11,6 @@ use Rattle.bindings.proofs.judge_table.Lts as lts
 use Rattle.bindings.proofs.has_room.Reads as has-room-reads
 use Rattle.bindings.proofs.judging.judge.Reads as judge-reads
 
-
 -- src/lib.rt:66:9
 judge-requires : tie.Need-judge-requires
 judge-requires c κs = (bare-part (c .before .before .args .table .now) (c .before .before .args .literal .now) 0 (c .before .before .pre .0) .0, c .before .before .pre .1)

@@ -4,7 +4,6 @@ use Rattle.bindings.proofs.judging.first_of.Tie as tie
 use Rattle.bindings.proofs.judging.first_of.Reads as reads
 use Rattle.bindings.proofs.judging.first_of.Lts as lts
 
-
 -- src/judging.rt:44:19
 enum-known-a : tie.Need-enum-known-a
 enum-known-a c = search needs

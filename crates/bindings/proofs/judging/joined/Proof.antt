@@ -6,7 +6,6 @@ use Rattle.bindings.proofs.judging.joined.Lts as lts
 use Rattle.bindings.proofs.judging.first_of.Reads as first-of-reads
 use Rattle.bindings.proofs.judging.greater.Reads as greater-reads
 
-
 -- src/judging.rt:65:16
 first-of-requires : tie.Need-first-of-requires
 first-of-requires c κs = search needs

@@ -12,7 +12,6 @@ use Rattle.bindings.proofs.judging.repeated.Reads as repeated-reads
 use Rattle.bindings.proofs.literals.literal_at.Reads as literal-at-reads
 use Rattle.soundness.proofs.keys.is_key.Reads as is-key-reads
 
-
 -- src/judging.rt:161:9
 literal-at-requires : tie.Need-literal-at-requires
 literal-at-requires c κs = let p = sound-place (c .before .before .args .table .now) (c .before .before .args .literal .now) (c .before .before .args .at) (c .before .before .pre .1) in (p .known, p .head)

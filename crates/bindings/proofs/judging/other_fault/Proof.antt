@@ -5,7 +5,6 @@ use Rattle.bindings.proofs.judging.other_fault.Reads as reads
 use Rattle.bindings.proofs.judging.other_fault.Lts as lts
 use Rattle.soundness.proofs.values.is_absent.Reads as is-absent-reads
 
-
 -- src/judging.rt:118:8
 is-absent-requires : tie.Need-is-absent-requires
 is-absent-requires c κs = search needs

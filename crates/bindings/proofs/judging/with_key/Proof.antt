@@ -5,7 +5,6 @@ use Rattle.bindings.proofs.judging.with_key.Reads as reads
 use Rattle.bindings.proofs.judging.with_key.Lts as lts
 use Rattle.bindings.proofs.judging.first_of.Reads as first-of-reads
 
-
 -- src/judging.rt:80:14
 first-of-requires : tie.Need-first-of-requires
 first-of-requires c κs = search needs

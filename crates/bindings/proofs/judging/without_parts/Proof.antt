@@ -6,7 +6,6 @@ use Rattle.bindings.proofs.judging.without_parts.Lts as lts
 use Rattle.bindings.proofs.judging.other_fault.Reads as other-fault-reads
 use Rattle.bindings.proofs.literals.text_length.Reads as text-length-reads
 
-
 -- src/judging.rt:128:9
 other-fault-requires : tie.Need-other-fault-requires
 other-fault-requires c κs = search needs

@@ -9,7 +9,6 @@ use Rattle.bindings.proofs.literals.text_first.Reads as text-first-read
 use Rattle.bindings.proofs.literals.text_length.Reads as text-length-reads
 use Rattle.rooms.proofs.building.copy_text.Reads as copy-text-reads
 
-
 -- src/laying.rt:51:9
 text-length-requires : tie.Need-text-length-requires
 text-length-requires c κs = search needs

@@ -22,7 +22,6 @@ use Rattle.layout.proofs.readers.kind_at.Reads as kind-at-reads
 use Rattle.layout.proofs.readers.number_at.Reads as number-at-reads
 use Rattle.layout.proofs.readers.span_at.Reads as span-at-reads
 
-
 -- src/literals.rt:32:11
 kind-at-requires : tie.Need-kind-at-requires
 kind-at-requires c κs = let h = head-table (getD (c .before .args .table .now) (c .before .args .at) 0) (c .before .pre .0) in omega (arith, h .0, h .1)

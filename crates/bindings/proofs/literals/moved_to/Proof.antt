@@ -7,7 +7,6 @@ use Rattle.bindings.proofs.literals.moved_to.Tie as tie
 use Rattle.bindings.proofs.literals.moved_to.Reads as reads
 use Rattle.bindings.proofs.literals.moved_to.Lts as lts
 
-
 -- src/literals.rt:97:24
 enum-told : tie.Need-enum-told
 enum-told c = search needs

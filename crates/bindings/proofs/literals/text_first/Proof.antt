@@ -4,7 +4,6 @@ use Rattle.bindings.proofs.literals.text_first.Tie as tie
 use Rattle.bindings.proofs.literals.text_first.Reads as reads
 use Rattle.bindings.proofs.literals.text_first.Lts as lts
 
-
 -- src/literals.rt:76:24
 enum-told : tie.Need-enum-told
 enum-told c = search needs

@@ -6,7 +6,6 @@ use Rattle.bindings.proofs.literals.text_length.Tie as tie
 use Rattle.bindings.proofs.literals.text_length.Reads as reads
 use Rattle.bindings.proofs.literals.text_length.Lts as lts
 
-
 -- src/literals.rt:55:24
 enum-told : tie.Need-enum-told
 enum-told c = search needs
