@@ -1,0 +1,17 @@
+use borrow.Author.Needs.{needs}
+use Rattle.bindings.proofs.empty.Statement.{statement}
+use Rattle.bindings.proofs.empty.Tie as tie
+use Rattle.bindings.proofs.empty.Reads as reads
+use Rattle.bindings.proofs.empty.Lts as lts
+use Rattle.rooms.proofs.scope.Scope.empty.Reads as empty-reads
+
+-- src/lib.rt:167:16
+empty-requires : tie.Need-empty-requires
+empty-requires c κs = search needs
+
+-- src/lib.rt:163:1
+returns : tie.Need-returns
+returns c = simp (← c .empty .ensures)
+
+pub empty-spec : {M : Type 1} → statement M
+empty-spec = tie.close (tie.spec empty-requires returns)

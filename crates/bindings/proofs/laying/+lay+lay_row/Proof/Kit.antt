@@ -1,0 +1,45 @@
+use mathlib.Core.Path.{_≡_, refl, sym, _∙_}
+use Prim.Native.Nat.{_+_, _*_, _-_, _≤_}
+use native.Mathlib.Omega.{arith}
+use Rattle.layout.specs.Layout.{wordAt}
+use Rattle.bindings.specs.Literals.{rowBytes}
+use Rattle.bindings.proofs.Rows.{Place, part-place}
+use Rattle.bindings.proofs.JudgeSteps.{list-body, map-body}
+use Rattle.bindings.proofs.LayLaws.{count-cells}
+use Rattle.bindings.proofs.LaySteps.{leaf-bytes, leaf-laid, list-fits, list-falls, list-laid, map-fits, map-falls, map-laid, RowLeft, row-start, row-done, row-here, row-falls, row-fits, row-again}
+use Prim.Native.Nat.{ℕ, _<_}
+use borrow.Fn.Kinds.{In}
+use borrow.Fn.PlainCycle.{Measures, is, falls, and}
+use Rattle.bindings.proofs.laying.lay.Reads as lay
+use Rattle.bindings.proofs.laying.lay.Kinds as lay-kinds
+use Rattle.bindings.proofs.laying.+lay+lay_row.Lts-lay as lay-lts
+use Rattle.bindings.proofs.laying.lay_row.Reads as lay-row
+use Rattle.bindings.proofs.laying.lay_row.Kinds as lay-row-kinds
+use Rattle.bindings.proofs.laying.+lay+lay_row.Lts-lay_row as lay-row-lts
+use Rattle.bindings.proofs.laying.lay_literal.Reads as lay-literal-reads
+use Rattle.bindings.proofs.literals.literal_at.Reads as literal-at-reads
+use Rattle.rooms.proofs.cells.write_cell.Reads as write-cell-reads
+use Rattle.rooms.proofs.value.nesting_of.Reads as nesting-of-reads
+use Rattle.soundness.proofs.values.deeper.Reads as deeper-reads
+use Rattle.layout.proofs.readers.count_at.Reads as count-at-reads
+use Rattle.layout.proofs.readers.end_at.Reads as end-at-reads
+use Rattle.layout.proofs.readers.first_operand.Reads as first-operand-reads
+use Rattle.layout.proofs.readers.kind_at.Reads as kind-at-reads
+
+abbrev pub μ-lay : Measures 4 lay-kinds.ps ℕ
+μ-lay κs a = 2 * wordAt (a .0 .now) (a .1 .1 .1 .1 .0 + 1)
+
+abbrev pub μ-lay-row : Measures 4 lay-row-kinds.ps ℕ
+μ-lay-row κs a = 2 * rowBytes (a .0 .now) (a .1 .1 .1 .1 .1 .0) (a .1 .1 .1 .1 .0) + 1
+
+abbrev pub lay-at : ℕ → In 4 lay-kinds.ps
+lay-at t = and 4 lay-kinds.ps (is 4 lay-kinds.ps μ-lay t) lay.Pre
+
+abbrev pub lay-below : ℕ → In 4 lay-kinds.ps
+lay-below t = and 4 lay-kinds.ps (falls 4 lay-kinds.ps _<_ μ-lay t) lay.Pre
+
+abbrev pub lay-row-at : ℕ → In 4 lay-row-kinds.ps
+lay-row-at t = and 4 lay-row-kinds.ps (is 4 lay-row-kinds.ps μ-lay-row t) lay-row.Pre
+
+abbrev pub lay-row-below : ℕ → In 4 lay-row-kinds.ps
+lay-row-below t = and 4 lay-row-kinds.ps (falls 4 lay-row-kinds.ps _<_ μ-lay-row t) lay-row.Pre
