@@ -235,7 +235,7 @@ fn list_parts(
     first: u16,
     count: u16,
 ) -> Outcome
-    requires { ⌜ Sound (now table) (now literal) at × (getD (now table) at 0 ≡ 12) × (count ≡ wordAt (now table) (at + 3)) × (first + count < 65536) ⌝ }
+    requires { ⌜ Sound (now table) (now literal) at × (getD (now table) at 0 ≡ 12) × (count ≡ wordAt (now table) (at + 3)) ⌝ }
     ensures { λ r. ⌜ Gives r (now (literal .entry)) (now («binding_cells» .entry)) (now («binding_text» .entry)) (now (cells .exit)) (now (text .exit)) (elements (now (table .entry)) limit (elementsOf (now (table .entry)) (now (literal .entry)) count (at + 5)) scope first 0 0 used (rooms (now (literal .entry)) (now («binding_cells» .entry)) (now («binding_text» .entry)) (now (cells .entry)) (now (text .entry)))) ⌝ }
 {
     let mut place = first_operand(table, at);
@@ -289,7 +289,7 @@ fn map_parts(
     first: u16,
     count: u16,
 ) -> Outcome
-    requires { ⌜ Sound (now table) (now literal) at × (getD (now table) at 0 ≡ 13) × (count ≡ wordAt (now table) (at + 3)) × (first + count < 65536) ⌝ }
+    requires { ⌜ Sound (now table) (now literal) at × (getD (now table) at 0 ≡ 13) × (count ≡ wordAt (now table) (at + 3)) ⌝ }
     ensures { λ r. ⌜ Gives r (now (literal .entry)) (now («binding_cells» .entry)) (now («binding_text» .entry)) (now (cells .exit)) (now (text .exit)) (entries (now (table .entry)) limit at (pairsOf (now (table .entry)) (now (literal .entry)) count (at + 5)) scope first 0 0 used (rooms (now (literal .entry)) (now («binding_cells» .entry)) (now («binding_text» .entry)) (now (cells .entry)) (now (text .entry)))) ⌝ }
 {
     let mut place = first_operand(table, at);
@@ -674,7 +674,7 @@ fn appends(
     count: u16,
     each: u16,
 ) -> Outcome
-    requires { ⌜ Sound (now table) (now literal) (places .condition) × (getD (now table) (places .condition) 0 < leafKinds) × Sound (now table) (now literal) guard × Sound (now table) (now literal) list × (places .item < 128) ⌝ }
+    requires { ⌜ Sound (now table) (now literal) (places .condition) × (getD (now table) (places .condition) 0 < leafKinds) × Sound (now table) (now literal) guard × Sound (now table) (now literal) list × (wordAt (now table) (guard + 1) < wordAt (now table) (at + 1)) × (wordAt (now table) (list + 1) < wordAt (now table) (at + 1)) × (places .item < 128) ⌝ }
     ensures { λ r. ⌜ Gives r (now (literal .entry)) (now («binding_cells» .entry)) (now («binding_text» .entry)) (now (cells .exit)) (now (text .exit)) (appendTurns (loopAt (now (table .entry)) (now (literal .entry)) limit at places) (appendAt (now (table .entry)) (now (literal .entry)) limit guarded guard list) space each count first nothingGathered scope used (rooms (now (literal .entry)) (now («binding_cells» .entry)) (now («binding_text» .entry)) (now (cells .entry)) (now (text .entry)))) ⌝ }
 {
     let item = places.item;
