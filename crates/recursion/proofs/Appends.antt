@@ -164,6 +164,8 @@ pub record AppendsLoop (t x b y cells₀ text₀ : List ℕ) (limit p : ℕ) (is
     (s₀ : Scope) (u₀ : Used) (cells text firsts counts : List ℕ) (s : Scope) (g : Collected) (u : Used) (cell left : ℕ) : Type 0 where
   pub kept : length cells ≡ length cells₀
   pub keptx : length text ≡ length text₀
+  pub firsts-long : length firsts ≡ 2048
+  pub counts-long : length counts ≡ 2048
   -- places and counts are numbers of the code
   pub below : cell + left * 65536 ≤ 65536 * 65536
   pub runs : g .runs + left ≤ 65535
