@@ -4,14 +4,17 @@ use mathlib.Core.Path.{_≡_, refl, sym, _∙_, ap}
 use mathlib.Core.Bool.{Bool}
 use mathlib.Core.List.{List}
 use mathlib.Core.Option.{Option, none, some}
+use native.Mathlib.Omega.{arith}
 use lib.Dec.{eqb}
 use lib.ListN.{length, getD}
 use Rattle.meaning.specs.Expr.{Elements}
 use Rattle.rooms.specs.declared.value.Value.{Value}
 use Rattle.rooms.specs.declared.scope.Scope.{Scope}
 use Rattle.rooms.specs.Rooms.{Rooms, rooms}
-use Rattle.layout.specs.Layout.{after}
-use Rattle.table.specs.Records.{SoundPart, exprOf, elementsOf}
+use Rattle.meaning.specs.Kinds.{listKind}
+use Rattle.layout.specs.Layout.{headBytes, wordAt, after}
+use Rattle.table.specs.Records.{Sound, SoundPart, exprOf, elementsOf}
+use Rattle.table.proofs.Opened.{opened}
 use Rattle.machine.specs.declared.outcome.Used.{Used}
 use Rattle.machine.specs.declared.outcome.Outcome.{Outcome}
 use Rattle.machine.specs.declared.outcome.Outcome.the-variants as Outcome
@@ -23,7 +26,7 @@ use Rattle.machine.specs.Machine.{elements, machine}
 use Rattle.gathering.specs.declared.containers.Ready.{Ready}
 use Rattle.gathering.specs.Filling.{addedOf, AddedIn}
 use Rattle.records.specs.Records.{unmarkedAt}
-use Rattle.records.proofs.Rows.{ElementsLeft, elements-next, element-does}
+use Rattle.records.proofs.Rows.{ElementsLeft, elements-next, element-does, list-at}
 use Rattle.recursion.proofs.Stops.{Is, Stops, stops-there, goes-on}
 
 -- the parts that are stored, after one more
@@ -32,6 +35,10 @@ pub added : (p : Option Value) (base : ℕ) (g : Ready) (z : Rooms) (w : Used) (
     next (h .count) (h .deep) w (withWords z cells) ≡ addElement base (g .count) (g .deep) p w z next
 added none base g z w next e = ap (λ (y : Ready × List ℕ). next (y .0 .count) (y .0 .deep) w (withWords z (y .1))) e
 added (some v) base g z w next e = ap (λ (y : Ready × List ℕ). next (y .0 .count) (y .0 .deep) w (withWords z (y .1))) e
+
+pub added-count : (p : Option Value) (base : ℕ) (g : Ready) (w : List ℕ) {h : Ready} {cells : List ℕ} → AddedIn h cells (addedOf base g p w) → h .count ≤ g .count + 1
+added-count none base g w e = omega (arith, ap (λ (y : Ready × List ℕ). y .0 .count) e)
+added-count (some v) base g w e = omega (arith, ap (λ (y : Ready × List ℕ). y .0 .count) e)
 
 module _ (t x : List ℕ) (limit base : ℕ) (c : Scope) where
   -- n elements are left, the next of them at q
@@ -73,3 +80,9 @@ pub record ListLoop (t x b y cells₀ text₀ : List ℕ) (limit p base count : 
   pub room : g .count + left ≤ count
   pub same : fromElement t x limit base c left place g u (rooms x b y cells text) ≡
       fromElement t x limit base c count (p + 5) (record { count = 0; deep = 0 }) u₀ (rooms x b y cells₀ text₀)
+
+pub list-begins : (t x b y cells text : List ℕ) (limit p base count : ℕ) (c : Scope) (u : Used) → Sound t x p → getD t p 0 ≡ 12 → count ≡ wordAt t (p + 3) →
+    {q : ℕ} → q ≡ p + headBytes (getD t p 0) → ListLoop t x b y cells text limit p base count c u cells text q count u (record { count = 0; deep = 0 })
+list-begins t x b y cells text limit p base count c u s k n e =
+    let first = e ∙ opened t x p listKind k s .first in
+    rw first (record { row = rw n (list-at t x p s k .left); kept = refl; keptx = refl; room = omega arith; same = refl })

@@ -1,9 +1,10 @@
 -- The entries of a Map record, one at a time: what follows a key and a value, over what the calls for them ensure. Assumes nothing.
 use Prim.Native.Nat.{ℕ, _+_, _-_, _*_, _<_, _≤_}
-use mathlib.Core.Path.{_≡_, refl, sym, _∙_, ap}
+use mathlib.Core.Path.{_≡_, refl, sym, _∙_, ap, subst}
 use mathlib.Core.Bool.{Bool, true, false}
 use mathlib.Core.List.{List}
 use mathlib.Core.Option.{Option, none, some}
+use native.Mathlib.Omega.{arith}
 use lib.Dec.{eqb}
 use lib.ListN.{length, getD}
 use Rattle.rooms.specs.declared.value.Value.{Value}
@@ -13,8 +14,10 @@ use Rattle.rooms.specs.Rooms.{Rooms, rooms}
 use Rattle.comparing.specs.declared.lookup.Found.{Found}
 use Rattle.comparing.specs.declared.lookup.Found.the-variants as Found
 use Rattle.comparing.specs.Equality.{findIn}
-use Rattle.layout.specs.Layout.{after}
-use Rattle.table.specs.Records.{SoundPart, exprOf, pairsOf}
+use Rattle.meaning.specs.Kinds.{mapKind}
+use Rattle.layout.specs.Layout.{headBytes, wordAt, after}
+use Rattle.table.specs.Records.{Sound, SoundPart, exprOf, pairsOf}
+use Rattle.table.proofs.Opened.{opened}
 use Rattle.machine.specs.declared.outcome.Used.{Used}
 use Rattle.machine.specs.declared.outcome.Outcome.{Outcome}
 use Rattle.machine.specs.declared.outcome.Outcome.the-variants as Outcome
@@ -30,7 +33,7 @@ use Rattle.gathering.specs.declared.containers.Entry.{Entry}
 use Rattle.gathering.specs.declared.containers.Entry.the-variants as Entry
 use Rattle.gathering.specs.Filling.{grown, keyedIf, keyedOf, insertedIf, enteredOf, EntryIn}
 use Rattle.records.specs.Records.{unmarkedAt}
-use Rattle.records.proofs.Rows.{EntriesLeft, pairs-next, entry-does}
+use Rattle.records.proofs.Rows.{EntriesLeft, pairs-next, entry-does, map-at}
 use Rattle.recursion.proofs.Stops.{Is, Stops, after-operand, stops-there, goes-on}
 
 -- ---- a key
@@ -69,6 +72,26 @@ pub entered : (part : Option Value) (limit p base : ℕ) (g : Ready) (key : Valu
     onEntry (y .0) (y .1) r next ≡ addEntry limit p base (g .count) (g .deep) key part u r next
 entered none limit p base g key u r next = refl
 entered (some v) limit p base g key u r next = new-by (findIn limit r key Cells.Evaluation base (g .count) (u .steps)) p base g key v u r next
+
+-- how many parts an entry leaves, if it is made
+abbrev AtMost : ℕ → Entry → Type 0
+AtMost n (Entry.Made g u) = g .count ≤ n
+AtMost n (Entry.Ends o) = Unit {0}
+
+new-count : (f : Found) (p base : ℕ) (g : Ready) (key v : Value) (u : Used) (w : List ℕ) → AtMost (g .count + 1) (insertedIf f p base g key v u w .0)
+new-count (Found.At c k) p base g key v u w = tt
+new-count (Found.Missing k) p base g key v u w = omega arith
+new-count (Found.Out k) p base g key v u w = tt
+
+entry-count : (part : Option Value) (limit p base : ℕ) (g : Ready) (key : Value) (u : Used) (r : Rooms) → AtMost (g .count + 1) (enteredOf limit p base g key part u r .0)
+entry-count none limit p base g key u r = omega arith
+entry-count (some v) limit p base g key u r = new-count (findIn limit r key Cells.Evaluation base (g .count) (u .steps)) p base g key v u (r .cells)
+
+pub entered-count : (part : Option Value) (limit p base : ℕ) (g : Ready) (key : Value) (u : Used) (r : Rooms) {y : Entry} {cells : List ℕ} →
+    EntryIn y cells (enteredOf limit p base g key part u r) → {h : Ready} {w : Used} → y ≡ Entry.Made h w → h .count ≤ g .count + 1
+entered-count part limit p base g key u r e is =
+    let f = sym is ∙ ap (λ (y : Entry × List ℕ). y .0) e in
+    subst (λ y. AtMost (g .count + 1) y) (sym f) (entry-count part limit p base g key u r)
 
 module _ (t x : List ℕ) (limit p base : ℕ) (c : Scope) where
   -- n entries are left, the next of them at q
@@ -133,3 +156,9 @@ pub record MapLoop (t x b y cells₀ text₀ : List ℕ) (limit p base count : �
   pub room : g .count + left ≤ count
   pub same : fromEntry t x limit p base c left place g u (rooms x b y cells text) ≡
       fromEntry t x limit p base c count (p + 5) (record { count = 0; deep = 0 }) u₀ (rooms x b y cells₀ text₀)
+
+pub map-begins : (t x b y cells text : List ℕ) (limit p base count : ℕ) (c : Scope) (u : Used) → Sound t x p → getD t p 0 ≡ 13 → count ≡ wordAt t (p + 3) →
+    {q : ℕ} → q ≡ p + headBytes (getD t p 0) → MapLoop t x b y cells text limit p base count c u cells text q count u (record { count = 0; deep = 0 })
+map-begins t x b y cells text limit p base count c u s k n e =
+    let first = e ∙ opened t x p mapKind k s .first in
+    rw first (record { row = rw n (map-at t x p s k .left); kept = refl; keptx = refl; room = omega arith; same = refl })

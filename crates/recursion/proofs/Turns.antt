@@ -148,6 +148,7 @@ pub record TurnsLoop (t x b y cells₀ text₀ : List ℕ) (limit p : ℕ) (spac
     (cells text : List ℕ) (s : Scope) (held : Pending) (u : Used) (cell left : ℕ) : Type 0 where
   pub kept : length cells ≡ length cells₀
   pub keptx : length text ≡ length text₀
+  pub long : length (s .slots) ≡ 128
   -- the place of an item is a number of the code
   pub below : cell + left * 65536 ≤ 65536 * 65536
   pub same : fromTurn (loopAt t x limit p places) space stride left cell held s u (rooms x b y cells text) ≡

@@ -12,7 +12,6 @@ ghost use Rattle.machine.specs.Comprehension.{turns, appendTurns, nothingGather
 ghost use Rattle.machine.specs.Machine.{body, elements, entries, machine};
 ghost use Rattle.outcomes.specs.Gives.{Gives};
 ghost use Rattle.gathering.specs.Loops.{pendingSeen};
-ghost use Rattle.records.specs.Records.{leafKinds};
 ghost use Rattle.records.specs.Paths.{loopAt, appendAt, finishWith};
 use gathering::containers::Begun;
 use gathering::containers::Entry;
@@ -674,7 +673,7 @@ fn appends(
     count: u16,
     each: u16,
 ) -> Outcome
-    requires { ⌜ Sound (now table) (now literal) (places .condition) × (getD (now table) (places .condition) 0 < leafKinds) × Sound (now table) (now literal) guard × Sound (now table) (now literal) list × (wordAt (now table) (guard + 1) < wordAt (now table) (at + 1)) × (wordAt (now table) (list + 1) < wordAt (now table) (at + 1)) × (places .item < 128) ⌝ }
+    requires { ⌜ Sound (now table) (now literal) (places .condition) × (getD (now table) (places .condition) 0 < 7) × Sound (now table) (now literal) guard × Sound (now table) (now literal) list × (wordAt (now table) (guard + 1) < wordAt (now table) (at + 1)) × (wordAt (now table) (list + 1) < wordAt (now table) (at + 1)) × (places .item < 128) ⌝ }
     ensures { λ r. ⌜ Gives r (now (literal .entry)) (now («binding_cells» .entry)) (now («binding_text» .entry)) (now (cells .exit)) (now (text .exit)) (appendTurns (loopAt (now (table .entry)) (now (literal .entry)) limit at places) (appendAt (now (table .entry)) (now (literal .entry)) limit guarded guard list) space each count first nothingGathered scope used (rooms (now (literal .entry)) (now («binding_cells» .entry)) (now («binding_text» .entry)) (now (cells .entry)) (now (text .entry)))) ⌝ }
 {
     let item = places.item;
