@@ -7,7 +7,11 @@ use mathlib.Core.List.{List}
 use mathlib.Core.Option.{Option, none, some}
 use native.Mathlib.Numerals.{sub-one}
 use native.Mathlib.Omega.{arith}
-use lib.ListN.{length}
+use lib.ListN.{length, getD}
+use Rattle.layout.specs.Layout.{wordAt}
+use Rattle.layout.proofs.KindLaws.{head-table}
+use Rattle.table.specs.Records.{Sound}
+use Rattle.table.proofs.SoundLaws.{sound-here}
 use Rattle.meaning.specs.Expr.{LogicalFold}
 use Rattle.meaning.specs.Logic.{absorbs}
 use Rattle.rooms.specs.declared.value.Value.{Value}
@@ -17,6 +21,7 @@ use Rattle.rooms.specs.Rooms.{Rooms, rooms, wordsOf, cellAt}
 use Rattle.rooms.specs.Cells.{cellIn}
 use Rattle.rooms.specs.Scope.{stored}
 use Rattle.machine.specs.declared.outcome.Used.{Used}
+use Rattle.machine.specs.declared.outcome.Error.{Error}
 use Rattle.machine.specs.declared.outcome.Outcome.{Outcome}
 use Rattle.machine.specs.declared.outcome.Outcome.the-variants as Outcome
 use Rattle.machine.specs.Outcomes.{Res, Does, withValue}
@@ -44,7 +49,7 @@ asked-by none p u z holds fails = refl
 asked-by (some true) p u z holds fails = refl
 asked-by (some false) p u z holds fails = refl
 
-asked-of : (o : Outcome) (p : ℕ) (z : Rooms) (holds fails : Used → Rooms → Res) →
+pub asked-of : (o : Outcome) (p : ℕ) (z : Rooms) (holds fails : Used → Rooms → Res) →
     withValue o z (λ v u r. branch p u r (boolIn v) holds fails) ≡ onAsked (askedOf p o) z holds fails
 asked-of (Outcome.Value v u) p z holds fails = asked-by (boolIn v) p u z holds fails
 asked-of (Outcome.Error e q u) p z holds fails = refl
@@ -76,6 +81,15 @@ stepped-by (some f) held (Outcome.Exhausted x u) z binds holds = refl
 finished-by : (c : Loop) (held : Machine.Pending) (s : Scope) (u : Used) (r : Rooms) → finishWith (c .result) held s u r ≡ finish c held s u r
 finished-by c none s u r = refl
 finished-by c (some e) s u r = refl
+
+-- a pending error, or what the result came to
+pub held-is : (m : Does) {held : Pending} {e : Error} {p : ℕ} → held ≡ Pending.Held e p → (s : Scope) (u : Used) (r : Rooms) →
+    Is (Outcome.Error e p u) r (finishWith m (pendingSeen held) s u r)
+held-is m is s u r = rw is refl
+
+pub result-is : (m : Does) {held : Pending} → held ≡ Pending.Nothing → (s : Scope) (u : Used) (r : Rooms) {o : Outcome} {z : Rooms} → Is o z (m s u r) →
+    Is o z (finishWith m (pendingSeen held) s u r)
+result-is m is s u r f = rw is f
 
 module _ (c : Loop) (space : CellSpace) (stride : ℕ) where
   -- n items are left, the next of them in cell `at`
@@ -153,3 +167,23 @@ pub record TurnsLoop (t x b y cells₀ text₀ : List ℕ) (limit p : ℕ) (spac
   pub below : cell + left * 65536 ≤ 65536 * 65536
   pub same : fromTurn (loopAt t x limit p places) space stride left cell held s u (rooms x b y cells text) ≡
       fromTurn (loopAt t x limit p places) space stride count first Pending.Nothing s₀ u₀ (rooms x b y cells₀ text₀)
+
+-- a record has an extent
+pub extent-least : (t x : List ℕ) (q : ℕ) → Sound t x q → 3 ≤ wordAt t (q + 1)
+extent-least t x q s = let h = sound-here t x q s in let f = head-table (getD t q 0) (h .known) in omega (arith, f .0, f .1, h .least)
+
+module _ (t x b y cells₀ text₀ : List ℕ) (limit p : ℕ) (space : CellSpace) (first count stride : ℕ) (places : Places) (s₀ : Scope) (u₀ : Used) where
+  pub turns-begin : length (s₀ .slots) ≡ 128 → first < 65536 → count < 65536 →
+      TurnsLoop t x b y cells₀ text₀ limit p space first count stride places s₀ u₀ cells₀ text₀ s₀ Pending.Nothing u₀ first count
+  turns-begin e f g = record { kept = refl; keptx = refl; long = e; below = omega (arith, f, g); same = refl }
+
+  -- after a turn that goes on
+  pub turns-again : {cells text : List ℕ} {s : Scope} {held : Pending} {u : Used} {cell left : ℕ} →
+      TurnsLoop t x b y cells₀ text₀ limit p space first count stride places s₀ u₀ cells text s held u cell left → 0 < left → stride < 65536 →
+      {cells₁ text₁ : List ℕ} {s₁ : Scope} {held₁ : Pending} {u₁ : Used} → length cells₁ ≡ length cells → length text₁ ≡ length text →
+      length (s₁ .slots) ≡ length (s .slots) →
+      fromTurn (loopAt t x limit p places) space stride (left - 1) (cell + stride) held₁ s₁ u₁ (rooms x b y cells₁ text₁) ≡
+      fromTurn (loopAt t x limit p places) space stride left cell held s u (rooms x b y cells text) →
+      TurnsLoop t x b y cells₀ text₀ limit p space first count stride places s₀ u₀ cells₁ text₁ s₁ held₁ u₁ (cell + stride) (left - 1)
+  turns-again v h w i j k e =
+      record { kept = i ∙ v .kept; keptx = j ∙ v .keptx; long = k ∙ v .long; below = omega (arith, v .below, h, w); same = e ∙ v .same }
