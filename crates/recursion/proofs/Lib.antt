@@ -7,3 +7,4 @@ pub mod Turns
 pub mod Appends
 pub mod Fixed
 pub mod Evals
+pub mod Comprehends
