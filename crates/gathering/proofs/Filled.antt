@@ -3,17 +3,14 @@
 use Prim.Native.Nat.{ℕ, _+_, _*_, _≤_, max}
 use mathlib.Core.Path.{_≡_, refl, sym, ap, _∙_}
 use mathlib.Core.Bool.{Bool, true, false}
-use mathlib.Core.List.{List, [], _∷_}
+use mathlib.Core.List.{List}
 use mathlib.Core.Option.{Option, none, some}
 use native.Mathlib.Omega.{arith}
-use types.Run.{OneOf}
-use denote.Enum.Declared.{tagOf}
 use Rattle.rooms.specs.declared.value.Value.{Value}
 use Rattle.rooms.specs.declared.building.Taken.{Taken}
 use Rattle.rooms.specs.declared.building.Taken.the-variants as Taken
 use Rattle.comparing.specs.declared.lookup.Found.{Found}
 use Rattle.comparing.specs.declared.lookup.Found.the-variants as Found
-use Rattle.rooms.specs.declared.scope.Scope.{Scope}
 use Rattle.rooms.specs.Rooms.{Rooms, rooms}
 use Rattle.rooms.specs.Value.{nestingOf}
 use Rattle.rooms.specs.Building.{cellRoom, takenOf, cellsTaken}
@@ -23,11 +20,9 @@ use Rattle.machine.specs.declared.outcome.Used.{Used}
 use Rattle.machine.specs.declared.outcome.Limit.the-variants as Limit
 use Rattle.machine.specs.declared.outcome.Outcome.{Outcome}
 use Rattle.machine.specs.declared.outcome.Outcome.the-variants as Outcome
-use Rattle.machine.proofs.outcome.Outcome.{the-type}
-use Rattle.machine.specs.Outcomes.{Res, Does, withCells, written, withValue, onTaken, taking}
-use Rattle.machine.specs.Views.{isKey, partIn}
-use Rattle.machine.specs.Containers.{Filling, addElement, element, ifKey, ifNew, addEntry, entry}
-use Rattle.outcomes.proofs.Stops.{goes-out, goes-on}
+use Rattle.machine.specs.Outcomes.{Res, withCells, written, withValue, onTaken, taking}
+use Rattle.machine.specs.Views.{isKey}
+use Rattle.machine.specs.Containers.{Filling, addElement, ifKey, ifNew, addEntry}
 use Rattle.outcomes.proofs.Taking.{cells-within}
 use Rattle.gathering.specs.declared.containers.Begun.{Begun}
 use Rattle.gathering.specs.declared.containers.Begun.the-variants as Begun
@@ -78,20 +73,6 @@ added base u l b t w x next g o e =
     let f : Ready × List ℕ → Res = λ y. next (y .0 .count) (y .0 .deep) u (rooms l b t (y .1) x) in
     by-part base u l b t w x next g o ∙ ap f (sym e)
 
--- an element that gave a value, and one that gave none
-pub element-added : (marked : Bool) (does : Does) (s : Scope) (base : ℕ) (u : Used) (r : Rooms) (next : Filling) (v : Value) (y : Used) (l b t w x : List ℕ) (g : Ready)
-    {h : Ready} {z : List ℕ} → does s u r ≡ (Outcome.Value v y, rooms l b t w x) → AddedIn h z (addedOf base g (partIn (rooms l b t w x) marked v) w) →
-    element marked does s base (g .count) (g .deep) u r next ≡ next (h .count) (h .deep) y (rooms l b t z x)
-element-added marked does s base u r next v y l b t w x g d e =
-    let f : Res → Res = λ a. withValue (a .0) (a .1) (λ c p q. addElement base (g .count) (g .deep) (partIn q marked c) p q next) in
-    ap f d ∙ added base y l b t w x next g (partIn (rooms l b t w x) marked v) e
-
-pub element-out : (marked : Bool) (does : Does) (s : Scope) (base m d : ℕ) (u : Used) (r : Rooms) (next : Filling) (a : Res) → does s u r ≡ a →
-    OneOf (1 ∷ 2 ∷ []) (tagOf the-type (a .0)) → element marked does s base m d u r next ≡ a
-element-out marked does s base m d u r next a e h =
-    let k : Value → Used → Rooms → Res = λ c p q. addElement base m d (partIn q marked c) p q next in
-    ap (λ y. withValue (y .0) (y .1) k) e ∙ goes-out (a .0) (a .1) k h
-
 -- ---- an entry
 
 module _ (p : ℕ) (k : Value → Used → Rooms → Res) where
@@ -126,34 +107,3 @@ module _ (limit p base : ℕ) (key : Value) (u : Used) (l b t w x : List ℕ) (n
   entered o h =
       let f : Entry × List ℕ → Res = λ y. onEntry (y .0) (rooms l b t (y .1) x) next in
       by-value o ∙ ap f (sym h)
-
--- the whole of it: the key goes out; the value goes out; or the entry is made, or not
-module _ (limit p : ℕ) (marked : Bool) (keyDoes valueDoes : Does) (s : Scope) (base : ℕ) (u : Used) (r : Rooms) (next : Filling) (g : Ready) where
-  abbrev withKey : Value → Used → Rooms → Res
-  withKey key w q =
-      let y : Res = valueDoes s w q in
-      withValue (y .0) (y .1) (λ v z o. addEntry limit p base (g .count) (g .deep) key (partIn o marked v) z o next)
-
-  by-key : (a : Res) (c : Key) → keyDoes s u r ≡ a → c ≡ keyedOf p (a .0) →
-      entry limit p marked keyDoes valueDoes s base (g .count) (g .deep) u r next ≡ onKey c (a .1) withKey
-  by-key a c d e =
-      let f : Res → Res = λ y. withValue (y .0) (y .1) (λ v w q. ifKey (isKey v) p w q (λ z o. withKey v z o)) in
-      ap f d ∙ keyed p withKey (a .0) (a .1) c e
-
-  pub entry-key-out : (a : Res) (o : Outcome) → keyDoes s u r ≡ a → Key.Ends o ≡ keyedOf p (a .0) →
-      entry limit p marked keyDoes valueDoes s base (g .count) (g .deep) u r next ≡ (o, a .1)
-  entry-key-out a o d e = by-key a (Key.Ends o) d e
-
-  pub entry-value-out : (a c : Res) (key : Value) (w : Used) → keyDoes s u r ≡ a → Key.Is key w ≡ keyedOf p (a .0) → valueDoes s w (a .1) ≡ c →
-      OneOf (1 ∷ 2 ∷ []) (tagOf the-type (c .0)) → entry limit p marked keyDoes valueDoes s base (g .count) (g .deep) u r next ≡ c
-  entry-value-out a c key w d e f h =
-      let k : Value → Used → Rooms → Res = λ v z o. addEntry limit p base (g .count) (g .deep) key (partIn o marked v) z o next in
-      by-key a (Key.Is key w) d e ∙ ap (λ y. withValue (y .0) (y .1) k) f ∙ goes-out (c .0) (c .1) k h
-
-  pub entry-entered : (a : Res) (key : Value) (w : Used) (v : Value) (y : Used) (l b t m x : List ℕ) {n : Entry} {z : List ℕ} →
-      keyDoes s u r ≡ a → Key.Is key w ≡ keyedOf p (a .0) → valueDoes s w (a .1) ≡ (Outcome.Value v y, rooms l b t m x) →
-      EntryIn n z (enteredOf limit p base g key (partIn (rooms l b t m x) marked v) y (rooms l b t m x)) →
-      entry limit p marked keyDoes valueDoes s base (g .count) (g .deep) u r next ≡ onEntry n (rooms l b t z x) next
-  entry-entered a key w v y l b t m x d e f h =
-      let k : Res → Res = λ c. withValue (c .0) (c .1) (λ v z o. addEntry limit p base (g .count) (g .deep) key (partIn o marked v) z o next) in
-      by-key a (Key.Is key w) d e ∙ ap k f ∙ entered limit p base key y l b t m x next g (partIn (rooms l b t m x) marked v) h

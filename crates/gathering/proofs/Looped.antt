@@ -1,5 +1,5 @@
 -- A comprehension's turns: what the code decides between the operands is what the machine does. Assumes nothing.
-use Prim.Native.Nat.{ℕ, suc, _+_}
+use Prim.Native.Nat.{ℕ}
 use mathlib.Core.Path.{_≡_, refl, sym, ap, _∙_}
 use mathlib.Core.Bool.{Bool, true, false}
 use mathlib.Core.List.{List}
@@ -12,23 +12,18 @@ use Rattle.rooms.specs.declared.value.Parts.{Parts}
 use Rattle.rooms.specs.declared.value.Parts.the-variants as Parts
 use Rattle.rooms.specs.declared.building.Taken.{Taken}
 use Rattle.rooms.specs.declared.building.Taken.the-variants as Taken
-use Rattle.rooms.specs.declared.scope.Scope.{Scope}
-use Rattle.rooms.specs.Rooms.{Rooms, rooms, cellAt}
+use Rattle.rooms.specs.Rooms.{Rooms, rooms}
 use Rattle.rooms.specs.Value.{partsOf, nestingOf}
-use Rattle.rooms.specs.Scope.{stored}
 use Rattle.rooms.specs.Building.{cellRoom, takenOf, cellsTaken, copied}
 use lib.Dec.{eqb}
 use Rattle.machine.specs.declared.outcome.Used.{Used}
 use Rattle.machine.specs.declared.outcome.Limit.the-variants as Limit
 use Rattle.machine.specs.declared.outcome.Outcome.{Outcome}
 use Rattle.machine.specs.declared.outcome.Outcome.the-variants as Outcome
-use Rattle.machine.specs.Outcomes.{Res, Does, withCells, withWords, withValue, onTaken}
+use Rattle.machine.specs.Outcomes.{Res, withCells, withValue, onTaken}
 use Rattle.machine.specs.Views.{boolIn}
 use Rattle.machine.specs.Comprehension as Machine
-use Rattle.machine.specs.Comprehension.{Loop, AppendStep, Binds, Holds, Gathered, Gathering, afterStep, finish, turn, turns, addRun, gathered, guarded, appendItems, appendTurns}
-use Rattle.outcomes.specs.declared.logic.Asked.{Asked}
-use Rattle.outcomes.specs.Decisions.{askedOf, onAsked}
-use Rattle.outcomes.proofs.Asking.{asked-as}
+use Rattle.machine.specs.Comprehension.{Binds, Holds, Gathered, Gathering, afterStep, addRun}
 use Rattle.gathering.specs.declared.loops.Pending.{Pending}
 use Rattle.gathering.specs.declared.loops.Pending.the-variants as Pending
 use Rattle.gathering.specs.declared.loops.Step.{Step}
@@ -55,27 +50,6 @@ module _ (r : Rooms) (binds : Binds) (holds : Holds) where
   pub step-as : (fold : Option LogicalFold) (held : Pending) (o : Outcome) (a : Step) → a ≡ stepOf fold held o →
       afterStep fold (pendingSeen held) o r binds holds ≡ onStep a r binds holds
   step-as fold held o a e = by-step fold held o ∙ ap (λ y. onStep y r binds holds) (sym e)
-
-pub turn-as : (c : Loop) (v : Value) (held : Pending) (rest : Machine.Pending → Does) (s : Scope) (u : Used) (r : Rooms) (x : Res) (a : Step) →
-    c .step (stored s (c .item) v) u r ≡ x → a ≡ stepOf (c .fold) held (x .0) →
-    turn c v (pendingSeen held) rest s u r ≡
-    onStep a (x .1) (λ w z q. rest none (stored (stored s (c .item) v) (c .accumulator) w) z q) (λ e z q. rest e (stored s (c .item) v) z q)
-turn-as c v held rest s u r x a d e =
-    let binds : Binds = λ w z q. rest none (stored (stored s (c .item) v) (c .accumulator) w) z q in
-    let holds : Holds = λ h z q. rest h (stored s (c .item) v) z q in
-    ap (λ y. afterStep (c .fold) (pendingSeen held) (y .0) (y .1) binds holds) d ∙ step-as (x .1) binds holds (c .fold) held (x .0) a e
-
--- ---- the turns
-
-pub turns-as : (c : Loop) (space : CellSpace) (stride n at : ℕ) (held : Machine.Pending) (s : Scope) (u : Used) (r : Rooms) (x : Res) (a : Asked) →
-    c .condition s u r ≡ x → a ≡ askedOf (c .place) (x .0) →
-    turns c space stride (suc n) at held s u r ≡
-    onAsked a (x .1) (λ w q. turn c (cellAt q space at) held (λ e t z o. turns c space stride n (at + stride) e t z o) s w q) (λ w q. finish c held s w q)
-unfolding turns
-turns-as c space stride n at held s u r x a d e =
-    let holds : Used → Rooms → Res = λ w q. turn c (cellAt q space at) held (λ h t z o. turns c space stride n (at + stride) h t z o) s w q in
-    let fails : Used → Rooms → Res = λ w q. finish c held s w q in
-    ap (λ y. Machine.asks (c .place) y holds fails) d ∙ asked-as (c .place) holds fails x a e
 
 -- ---- the append path
 
@@ -104,35 +78,9 @@ module _ (g : Gathered) (l b t w x : List ℕ) (rest : Gathering) where
   by-items (Outcome.Error e p u) = refl
   by-items (Outcome.Exhausted y u) = refl
 
--- what the items list gave is gathered
-pub items-as : (path : AppendStep) (g : Gathered) (s : Scope) (u : Used) (r : Rooms) (rest : Gathering) (o : Outcome) (l b t w x : List ℕ) {a : Gather} {z : List ℕ} →
-    path .items s u r ≡ (o, rooms l b t w x) → GatherIn a z (gatherOf b w o) → appendItems path g s u r rest ≡ onGather a g (rooms l b t z x) rest
-items-as path g s u r rest o l b t w x d e =
-    let f : Res → Res = λ y. withValue (y .0) (y .1) (λ v p q. Machine.gatherParts v g (partsOf v) p q rest) in
-    let h : Gather × List ℕ → Res = λ y. onGather (y .0) g (rooms l b t (y .1) x) rest in
-    ap f d ∙ by-items g l b t w x rest o ∙ ap h (sym e)
-
--- one turn, its condition; its guard
-pub appends-as : (c : Loop) (path : AppendStep) (space : CellSpace) (stride n at : ℕ) (g : Gathered) (s : Scope) (u : Used) (r : Rooms) (x : Res) (a : Asked) →
-    c .condition s u r ≡ x → a ≡ askedOf (c .place) (x .0) →
-    appendTurns c path space stride (suc n) at g s u r ≡
-    onAsked a (x .1)
-    (λ w q. guarded (c .place) (path .guard) (stored s (c .item) (cellAt q space at)) w q
-    (λ z o. appendItems path g (stored s (c .item) (cellAt q space at)) z o
-    (λ h y d. appendTurns c path space stride n (at + stride) h (stored s (c .item) (cellAt q space at)) y d))
-    (λ z o. appendTurns c path space stride n (at + stride) g (stored s (c .item) (cellAt q space at)) z o))
-    (λ w q. gathered g w q)
-unfolding appendTurns
-appends-as c path space stride n at g s u r x a d e =
-    let holds : Used → Rooms → Res =
-    λ w q. guarded (c .place) (path .guard) (stored s (c .item) (cellAt q space at)) w q
-    (λ z o. appendItems path g (stored s (c .item) (cellAt q space at)) z o
-    (λ h y p. appendTurns c path space stride n (at + stride) h (stored s (c .item) (cellAt q space at)) y p))
-    (λ z o. appendTurns c path space stride n (at + stride) g (stored s (c .item) (cellAt q space at)) z o)
-    in
-    let fails : Used → Rooms → Res = λ w q. gathered g w q in
-    ap (λ y. Machine.asks (c .place) y holds fails) d ∙ asked-as (c .place) holds fails x a e
-
-pub guard-as : (p : ℕ) (guard : Does) (s : Scope) (u : Used) (r : Rooms) (holds fails : Used → Rooms → Res) (x : Res) (a : Asked) →
-    guard s u r ≡ x → a ≡ askedOf p (x .0) → guarded p (some guard) s u r holds fails ≡ onAsked a (x .1) holds fails
-guard-as p guard s u r holds fails x a d e = ap (λ y. Machine.asks p y holds fails) d ∙ asked-as p holds fails x a e
+  -- what an items list gave, gathered
+  pub items-as : (o : Outcome) {a : Gather} {z : List ℕ} → GatherIn a z (gatherOf b w o) →
+      withValue o (rooms l b t w x) (λ v u q. Machine.gatherParts v g (partsOf v) u q rest) ≡ onGather a g (rooms l b t z x) rest
+  items-as o e =
+      let h : Gather × List ℕ → Res = λ y. onGather (y .0) g (rooms l b t (y .1) x) rest in
+      by-items o ∙ ap h (sym e)

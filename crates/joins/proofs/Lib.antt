@@ -1,3 +1,2 @@
--- Laws for the functions' proofs, and for those who call them: what follows each operand is what the machine does (`Following`). Assume nothing.
+-- Laws for the functions' proofs. Assume nothing.
 pub mod Cuts
-pub mod Following

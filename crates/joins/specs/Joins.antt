@@ -4,12 +4,11 @@ use mathlib.Core.Bool.{true, false}
 use mathlib.Core.Option.{Option, none, some}
 use Rattle.meaning.specs.Expr as Expr
 use Rattle.rooms.specs.declared.value.Value.{Value}
-use Rattle.rooms.specs.declared.scope.Scope.{Scope}
 use Rattle.rooms.specs.Rooms.{Rooms}
 use Rattle.machine.specs.declared.outcome.Used.{Used}
 use Rattle.machine.specs.declared.outcome.Outcome.{Outcome}
 use Rattle.machine.specs.declared.outcome.Outcome.the-variants as Outcome
-use Rattle.machine.specs.Outcomes.{Res, Does, withValue}
+use Rattle.machine.specs.Outcomes.{Res, withValue}
 use Rattle.machine.specs.Views.{optionalIn}
 use Rattle.rooms.specs.Value.{partsOf}
 use Rattle.machine.specs.Numbers.{arithmetic}
@@ -70,9 +69,3 @@ joinOf limit p Fixed.OrValue x y r = withValue y r (λ v u q. (withDefault p x v
 abbrev pub onNext : Next → Rooms → (ℕ → Used → Rooms → Res) → Res
 onNext (Next.At q u) r k = k q u r
 onNext (Next.Stop o) r k = (o, r)
-
--- the record at q is begun, and joined with what the first operand came to
-abbrev pub joining : ℕ → ℕ → (at : ℕ → Does) → Fixed → Outcome → Scope → ℕ → Used → Rooms → Res
-joining limit p at f x s q u r =
-    let y : Res = at q s u r in
-    joinOf limit p f x (y .0) (y .1)
