@@ -1,4 +1,4 @@
-// After the other operand.
+// After the other operand: what both came to, joined. Logic decides from two outcomes, any other operator from two values.
 ghost use mathlib.Core.Path.{_≡_};
 ghost use mathlib.Core.List.{List};
 ghost use Prim.Native.Nat.{ℕ};

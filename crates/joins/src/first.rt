@@ -44,8 +44,6 @@ pub enum Fixed {
     OrValue,
 }
 
-// ---- after the operand that is begun first
-
 fn not_outcome(operand: Outcome, at: usize) -> Outcome
     ensures { λ r. ⌜ r ≡ unaryOut at Meaning.notOp operand ⌝ }
 {

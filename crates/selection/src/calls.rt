@@ -1,4 +1,4 @@
-// The functions: size, optional.of, hasValue, value and orValue.
+// The functions: size, hasValue, value and orValue. optional.of is `present` of lookup.
 ghost use mathlib.Core.Path.{_≡_};
 ghost use mathlib.Core.List.{List};
 ghost use Prim.Native.Nat.{ℕ};
