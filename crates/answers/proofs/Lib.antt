@@ -1,0 +1,2 @@
+-- The theorems about answers.
+pub mod Answering

@@ -1,0 +1,4 @@
+-- What the contracts cite: what an evaluation does on words (`Evaluated`); what the definition says of it, and what an answer says
+-- (`Meant`).
+pub mod Evaluated
+pub mod Meant

@@ -1,0 +1,31 @@
+// What comes back from an evaluation, and how a run ends: what was charged is cleared, unless there is a value.
+ghost use mathlib.Core.Path.{_≡_};
+ghost use Prim.Native.Nat.{min};
+ghost use Rattle.meaning.specs.Limits.{mostSteps};
+use machine::outcome::Error;
+use machine::outcome::Limit;
+use machine::outcome::Used;
+use rooms::value::Value;
+
+const MOST_STEPS: usize = 1000000;
+
+pub enum Answer {
+    // A refusal's number, and the place at fault.
+    Refused(u8, usize),
+    Value(Value, Used),
+    // An error, and the place of the record whose rule gave it.
+    Error(Error, usize, Used),
+    // The limit that the next charge would pass.
+    Exhausted(Limit, Used),
+}
+
+// A higher step limit counts as the highest.
+pub fn step_limit(steps: usize) -> usize
+    ensures { λ r. ⌜ r ≡ min steps mostSteps ⌝ }
+{
+    if MOST_STEPS < steps {
+        MOST_STEPS
+    } else {
+        steps
+    }
+}

@@ -1,0 +1,2 @@
+// What a caller reads off an answer.
+pub mod reasons;
