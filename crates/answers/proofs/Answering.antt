@@ -76,6 +76,7 @@ answers-say lent left o t end a =
     record {
       tells = reads-tell left o end (a .answer);
       cells = a .cells;
+      cellsCounted = a .counted;
       bytes = a .bytes;
       cellsAbove = a .cellsAbove;
       bytesAbove = a .bytesAbove;
@@ -129,6 +130,7 @@ module _ (table : List ℕ) (bindings : Bindings) (steps : ℕ) (lent : Rooms) w
         record {
           tells = refl;
           cells = tt;
+          cellsCounted = refl;
           bytes = refl;
           cellsAbove = refl;
           bytesAbove = refl;

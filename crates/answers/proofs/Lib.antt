@@ -1,2 +1,3 @@
--- The theorems about answers.
+-- The theorems about answers: that they are the definition's (`Answering`), and what follows from that (`Promises`).
 pub mod Answering
+pub mod Promises

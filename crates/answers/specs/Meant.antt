@@ -62,6 +62,7 @@ pub record Says (m : Answered) (lent : Rooms) (answer : Answer) (left : Rooms) :
   pub tells : told left answer ≡ toldBy (m .answer)
   -- below the counts: what was built, or zeros
   pub cells : CellsHave left 0 (m .rooms .cells)
+  pub cellsCounted : length (m .rooms .cells) ≡ counted (m .answer) .cells
   pub bytes : take (counted (m .answer) .bytes) (left .text) ≡ m .rooms .bytes
   -- above them: as lent
   pub cellsAbove : drop (counted (m .answer) .cells * 2) (left .cells) ≡ drop (counted (m .answer) .cells * 2) (lent .cells)
