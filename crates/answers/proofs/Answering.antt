@@ -147,3 +147,7 @@ module _ (table : List ℕ) (bindings : Bindings) (steps : ℕ) (lent : Rooms) w
     pub evaluation-answers : Evaluates table bindings steps lent (evaluated table bindings steps lent .0) (evaluated table bindings steps lent .1)
     unfolding evaluated meant
     evaluation-answers = record { exactly = refl; says = got-says (accepted table bindings steps lent) refl }
+
+    -- so whatever equals it is
+    pub evaluates : (answer : Answer) (left : Rooms) → _≡_ {A = Answer × Rooms} (answer, left) (evaluated table bindings steps lent) → Evaluates table bindings steps lent answer left
+    evaluates answer left h = subst (λ (x : Answer × Rooms). Evaluates table bindings steps lent (x .0) (x .1)) (sym h) evaluation-answers

@@ -11,6 +11,9 @@ use rooms::building::clear_cells;
 use rooms::building::clear_text;
 use rooms::value::Value;
 
+// The refusal of a binding room.
+pub const UNSOUND_BINDING: u8 = 8;
+
 const MOST_STEPS: usize = 1000000;
 
 pub enum Answer {
