@@ -2,3 +2,4 @@
 -- readers show of a value (`Shown`).
 pub mod Numbers
 pub mod Values
+pub mod Shown
