@@ -36,7 +36,7 @@ use Rattle.machine.specs.Refines.{usedOf, errorOf, limitOf, countsOf, Below}
 use Rattle.machine.specs.Answer.{Reads, Answers, answered}
 use Rattle.machine.proofs.AnyCells.{words-fit}
 use Rattle.machine.proofs.Answering.{table-answers}
-use Rattle.reading.specs.Numbers.{errorMeant, limitMeant}
+use Rattle.reasons.specs.Numbers.{errorMeant, limitMeant}
 use Rattle.answers.specs.declared.Answer.{Answer}
 use Rattle.answers.specs.declared.Answer.the-variants as Answer
 use Rattle.answers.specs.Evaluated.{ifSound, asAnswer, ended, accepted, after, evaluated}

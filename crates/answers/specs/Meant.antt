@@ -21,7 +21,7 @@ use Rattle.soundness.specs.Held.{roomOf}
 use Rattle.machine.specs.declared.outcome.Used.{Used}
 use Rattle.machine.specs.Refines.{countsOf}
 use Rattle.machine.specs.Answer.{CellsHave}
-use Rattle.reading.specs.Numbers.{errorMeant, limitMeant}
+use Rattle.reasons.specs.Numbers.{errorMeant, limitMeant}
 use Rattle.answers.specs.declared.Answer.{Answer}
 use Rattle.answers.specs.declared.Answer.the-variants as Answer
 use Rattle.answers.specs.Evaluated.{accepted, evaluated}

@@ -1,5 +1,3 @@
--- What the contracts cite: what is read off a value (`Values`), and the numbers that errors and limits are known by (`Numbers`). What the
--- readers show of a value (`Shown`).
-pub mod Numbers
+-- What the contracts cite: what is read off a value (`Values`). What the readers show of a value (`Shown`).
 pub mod Values
 pub mod Shown

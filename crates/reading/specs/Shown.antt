@@ -11,9 +11,9 @@ use Rattle.rooms.specs.Rooms as Rooms
 use Rattle.rooms.specs.Rooms.{Rooms}
 use Rattle.rooms.specs.Value.{plainOf, partsOf}
 use Rattle.rooms.specs.Reading.{readTo}
-use Rattle.reading.specs.declared.values.Truth.the-variants as Truth
-use Rattle.reading.specs.declared.values.Numeric.the-variants as Numeric
-use Rattle.reading.specs.declared.values.Span.the-variants as Span
+use Rattle.reading.specs.declared.Truth.the-variants as Truth
+use Rattle.reading.specs.declared.Numeric.the-variants as Numeric
+use Rattle.reading.specs.declared.Span.the-variants as Span
 use Rattle.reading.specs.Values.{kindOf, truthIn, numberIn, spanIn, countIn, elementIn, keyIn, valueIn, presentIn}
 
 -- its span is a text

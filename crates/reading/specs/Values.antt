@@ -13,12 +13,12 @@ use Rattle.rooms.specs.declared.value.Parts.{Parts}
 use Rattle.rooms.specs.declared.value.Parts.the-variants as Parts
 use Rattle.rooms.specs.Cells.{cellIn}
 use Rattle.rooms.specs.Rooms.{wordsOf}
-use Rattle.reading.specs.declared.values.Truth.{Truth}
-use Rattle.reading.specs.declared.values.Truth.the-variants as Truth
-use Rattle.reading.specs.declared.values.Numeric.{Numeric}
-use Rattle.reading.specs.declared.values.Numeric.the-variants as Numeric
-use Rattle.reading.specs.declared.values.Span.{Span}
-use Rattle.reading.specs.declared.values.Span.the-variants as Span
+use Rattle.reading.specs.declared.Truth.{Truth}
+use Rattle.reading.specs.declared.Truth.the-variants as Truth
+use Rattle.reading.specs.declared.Numeric.{Numeric}
+use Rattle.reading.specs.declared.Numeric.the-variants as Numeric
+use Rattle.reading.specs.declared.Span.{Span}
+use Rattle.reading.specs.declared.Span.the-variants as Span
 
 -- the numbers that the kinds have in a cell
 abbrev pub kindOf : Value → ℕ

@@ -1,9 +1,9 @@
 use Rattle.reading.proofs.Indexed.{inside, outside}
 use borrow.Author.Needs.{needs}
-use Rattle.reading.proofs.values.entry_from.Statement.{statement}
-use Rattle.reading.proofs.values.entry_from.Tie as tie
-use Rattle.reading.proofs.values.entry_from.Reads as reads
-use Rattle.reading.proofs.values.entry_from.Lts as lts
+use Rattle.reading.proofs.entry_from.Statement.{statement}
+use Rattle.reading.proofs.entry_from.Tie as tie
+use Rattle.reading.proofs.entry_from.Reads as reads
+use Rattle.reading.proofs.entry_from.Lts as lts
 use Rattle.rooms.proofs.cells.cell_at.Reads as cell-at-reads
 
 -- src/values.rt:159:54

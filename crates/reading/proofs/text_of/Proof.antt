@@ -1,8 +1,8 @@
 use borrow.Author.Needs.{needs}
-use Rattle.reading.proofs.values.text_of.Statement.{statement}
-use Rattle.reading.proofs.values.text_of.Tie as tie
-use Rattle.reading.proofs.values.text_of.Reads as reads
-use Rattle.reading.proofs.values.text_of.Lts as lts
+use Rattle.reading.proofs.text_of.Statement.{statement}
+use Rattle.reading.proofs.text_of.Tie as tie
+use Rattle.reading.proofs.text_of.Reads as reads
+use Rattle.reading.proofs.text_of.Lts as lts
 use Rattle.rooms.proofs.value.plain_of.Reads as plain-of-reads
 
 -- src/values.rt:103:9

@@ -1,7 +1,7 @@
 // Why there is no value: the numbers that errors and limits are known by.
 ghost use mathlib.Core.Path.{_≡_};
 ghost use Rattle.meaning.specs.Errors.{errorNumber};
-ghost use Rattle.reading.specs.Numbers.{errorMeant, limitMeant, limitNumber};
+ghost use Rattle.reasons.specs.Numbers.{errorMeant, limitMeant, limitNumber};
 use machine::outcome::Error;
 use machine::outcome::Limit;
 

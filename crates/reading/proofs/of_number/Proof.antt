@@ -1,10 +1,10 @@
 use mir.Syntax.{w64}
 use mir.ValLaws.{toZ-ofZ}
 use borrow.Author.Needs.{needs, sfits-of}
-use Rattle.reading.proofs.values.of_number.Statement.{statement}
-use Rattle.reading.proofs.values.of_number.Tie as tie
-use Rattle.reading.proofs.values.of_number.Reads as reads
-use Rattle.reading.proofs.values.of_number.Lts as lts
+use Rattle.reading.proofs.of_number.Statement.{statement}
+use Rattle.reading.proofs.of_number.Tie as tie
+use Rattle.reading.proofs.of_number.Reads as reads
+use Rattle.reading.proofs.of_number.Lts as lts
 use Rattle.numbers.proofs.double.to_bits.Reads as to-bits-reads
 
 -- src/values.rt:78:21
