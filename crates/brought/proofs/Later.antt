@@ -103,12 +103,12 @@ later-then a b c p q s m n g h =
 
 -- ---- text
 
-typed-long : (t : List ℕ) (to : ℕ) (s : List ℕ) → length (typed t to s) ≡ length t
+pub typed-long : (t : List ℕ) (to : ℕ) (s : List ℕ) → length (typed t to s) ≡ length t
 unfolding typed
 typed-long t to [] = refl
 typed-long t to (b ∷ s) = typed-long (set t to b) (suc to) s ∙ length-set t to b
 
-typed-away : (t : List ℕ) (to : ℕ) (s : List ℕ) (k : ℕ) → (k < to) ⊎ (to + length s ≤ k) → getD (typed t to s) k 0 ≡ getD t k 0
+pub typed-away : (t : List ℕ) (to : ℕ) (s : List ℕ) (k : ℕ) → (k < to) ⊎ (to + length s ≤ k) → getD (typed t to s) k 0 ≡ getD t k 0
 unfolding typed
 typed-away t to [] k away = refl
 typed-away t to (b ∷ s) k away = typed-away (set t to b) (suc to) s k (rest away) ∙ getD-set-other t to k b 0 (other away)
