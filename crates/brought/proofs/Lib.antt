@@ -2,3 +2,4 @@
 pub mod Later
 pub mod Older
 pub mod LaidScalars
+pub mod LaidValues
