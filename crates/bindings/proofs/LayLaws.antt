@@ -39,11 +39,11 @@ mutual
   laid-cells (listAt p ls) r = omega (arith, row-cells ls (r .cells) (taking r (countLiterals ls)))
   laid-cells (mapAt p ls) r = omega (arith, pairs-cells ls (r .cells) (taking r (2 * countPairs ls)))
 
-  pub row-cells : (ls : Literals) (to : ℕ) (r : Room) → laidRow ls to r .cells + countLiterals ls ≡ r .cells + cellsAmong ls
+  row-cells : (ls : Literals) (to : ℕ) (r : Room) → laidRow ls to r .cells + countLiterals ls ≡ r .cells + cellsAmong ls
   row-cells noLiterals to r = refl
   row-cells (literals l ls) to r = omega (arith, row-cells ls (suc to) (put (laid l r) to), laid-cells l r)
 
-  pub pairs-cells : (ls : LiteralPairs) (to : ℕ) (r : Room) → laidPairs ls to r .cells + 2 * countPairs ls ≡ r .cells + cellsOver ls
+  pairs-cells : (ls : LiteralPairs) (to : ℕ) (r : Room) → laidPairs ls to r .cells + 2 * countPairs ls ≡ r .cells + cellsOver ls
   pairs-cells noLiteralPairs to r = refl
   pairs-cells (literalPairs l m ls) to r =
       omega (arith, pairs-cells ls (suc (suc to)) (put (laid m (put (laid l r) to)) (suc to)), laid-cells m (put (laid l r) to), laid-cells l r)
@@ -56,11 +56,11 @@ mutual
   laid-bytes (listAt p ls) r = row-bytes ls (r .cells) (taking r (countLiterals ls))
   laid-bytes (mapAt p ls) r = pairs-bytes ls (r .cells) (taking r (2 * countPairs ls))
 
-  pub row-bytes : (ls : Literals) (to : ℕ) (r : Room) → laidRow ls to r .bytes ≡ r .bytes + bytesAmong ls
+  row-bytes : (ls : Literals) (to : ℕ) (r : Room) → laidRow ls to r .bytes ≡ r .bytes + bytesAmong ls
   row-bytes noLiterals to r = omega arith
   row-bytes (literals l ls) to r = omega (arith, row-bytes ls (suc to) (put (laid l r) to), laid-bytes l r)
 
-  pub pairs-bytes : (ls : LiteralPairs) (to : ℕ) (r : Room) → laidPairs ls to r .bytes ≡ r .bytes + bytesOver ls
+  pairs-bytes : (ls : LiteralPairs) (to : ℕ) (r : Room) → laidPairs ls to r .bytes ≡ r .bytes + bytesOver ls
   pairs-bytes noLiteralPairs to r = omega arith
   pairs-bytes (literalPairs l m ls) to r =
       omega (arith, pairs-bytes ls (suc (suc to)) (put (laid m (put (laid l r) to)) (suc to)), laid-bytes m (put (laid l r) to), laid-bytes l r)

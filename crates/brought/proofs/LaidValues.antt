@@ -42,7 +42,7 @@ from-first i a h = go (eqb i a) refl
     go true e = inl (eqb-true i a e)
     go false e = inr (omega (arith, eqb-false i a e))
 
-either-side : (i a : ℕ) → (i < a) ⊎ (a ≤ i)
+pub either-side : (i a : ℕ) → (i < a) ⊎ (a ≤ i)
 either-side i a = go (ltb i a) refl
   where
     go : (b : Bool) → ltb i a ≡ b → (i < a) ⊎ (a ≤ i)
@@ -115,8 +115,8 @@ module _ (w t : List ℕ) (used bytes : ℕ) (lent : used ≤ length w / 2) (few
         textLong = sym (g .textLong) ∙ h .textLong;
         same = λ i u v. h .same i (omega (arith, u)) (omega (arith, v, g .cells)) ∙ later-cell g i (inr (omega (arith, u))) v;
         texts =
-          sym (take-take (p .bytes) (q .bytes) t (g .bytes))
-          ∙ (ap (take (p .bytes)) (h .texts) ∙ (take-take (p .bytes) (q .bytes) (q .text) (g .bytes) ∙ later-text g));
+            sym (take-take (p .bytes) (q .bytes) t (g .bytes))
+            ∙ (ap (take (p .bytes)) (h .texts) ∙ (take-take (p .bytes) (q .bytes) (q .text) (g .bytes) ∙ later-text g));
       }
 
   -- before a part was put into its cell
@@ -135,7 +135,7 @@ module _ (w t : List ℕ) (used bytes : ℕ) (lent : used ≤ length w / 2) (few
   FitsAt i = valueFits w t used bytes (suc i) (cellIn w i) ≡ true
 
   -- a value that may refer to cells from one on may refer to those from an earlier one on
-  lower : (v : Value) (least more : ℕ) → least ≤ more → valueFits w t used bytes more v ≡ true → valueFits w t used bytes least v ≡ true
+  pub lower : (v : Value) (least more : ℕ) → least ≤ more → valueFits w t used bytes more v ≡ true → valueFits w t used bytes least v ≡ true
   lower Value.Null least more h e = refl
   lower (Value.Bool b) least more h e = refl
   lower (Value.Int z) least more h e = refl
@@ -199,9 +199,9 @@ module _ (w t : List ℕ) (used bytes : ℕ) (lent : used ≤ length w / 2) (few
       let a = lays r o in
       let j = laid-later l r in
       let e : cellIn w to ≡ laid l r .0 =
-        s ∙ (later-cell g to (inl (omega arith)) (omega (arith, j .cells))
-        ∙ (written-words (laid l r .1 .words) to (laid l r .0) (omega (arith, h, j .cells, o .cells, o .wordsLong))
-        ∙ (small-back (laid l r .0) (a .good .small) ∙ a .good .same))) in
+      s ∙ (later-cell g to (inl (omega arith)) (omega (arith, j .cells))
+      ∙ (written-words (laid l r .1 .words) to (laid l r .0) (omega (arith, h, j .cells, o .cells, o .wordsLong))
+      ∙ (small-back (laid l r .0) (a .good .small) ∙ a .good .same))) in
       record {
         is = e;
         fits = rw e (lower (laid l r .0) (suc to) (r .cells) h (a .good .fits));
@@ -245,12 +245,12 @@ module _ (w t : List ℕ) (used bytes : ℕ) (lent : used ≤ length w / 2) (few
         let m = row-later ls (r .cells) (taking r (countLiterals ls)) (omega arith) .cells in
         record {
           good =
-            record {
-              fits = row-fits w used (r .cells) (suc (literalsNesting ls)) (r .cells) (countLiterals ls) (omega arith) (omega (arith, m, g .cells)) n (ap suc (sym (q .deepest)));
-              stands = λ l e x. (Cells.Binding, r .cells, list-is (r .cells) (ap suc (all-nesting s)) (all-count s), q .stands l e x);
-              small = (omega (arith, n), omega (arith, m, g .cells), omega (arith, m, g .cells));
-              same = refl;
-            };
+              record {
+                fits = row-fits w used (r .cells) (suc (literalsNesting ls)) (r .cells) (countLiterals ls) (omega arith) (omega (arith, m, g .cells)) n (ap suc (sym (q .deepest)));
+                stands = λ l e x. (Cells.Binding, r .cells, list-is (r .cells) (ap suc (all-nesting s)) (all-count s), q .stands l e x);
+                small = (omega (arith, n), omega (arith, m, g .cells), omega (arith, m, g .cells));
+                same = refl;
+              };
           inner = λ i a b. by-side (either-side i (r .cells + countLiterals ls)) (λ u. q .cells i a u) (λ u. q .inner i u b);
         }
     literal-laid (spellsMap p {ls} {es} s) f n r g =
@@ -259,12 +259,12 @@ module _ (w t : List ℕ) (used bytes : ℕ) (lent : used ≤ length w / 2) (few
         let k : keysFit w t (r .cells) (countPairs ls) ≡ true = rw (pairs-count s) (keys-laid w t used bytes (aliveBelow used) es (r .cells) (q .stands [] [] []) f) in
         record {
           good =
-            record {
-              fits = map-fits w t used (r .cells) (suc (literalPairsNesting ls)) (r .cells) (countPairs ls) (omega arith) (omega (arith, m, g .cells)) n (ap suc (sym (q .deepest))) k;
-              stands = λ l e x. (Cells.Binding, r .cells, map-is (r .cells) (ap suc (pairs-nesting s)) (pairs-count s), q .stands l e x);
-              small = (omega (arith, n), omega (arith, m, g .cells), omega (arith, m, g .cells));
-              same = refl;
-            };
+              record {
+                fits = map-fits w t used (r .cells) (suc (literalPairsNesting ls)) (r .cells) (countPairs ls) (omega arith) (omega (arith, m, g .cells)) n (ap suc (sym (q .deepest))) k;
+                stands = λ l e x. (Cells.Binding, r .cells, map-is (r .cells) (ap suc (pairs-nesting s)) (pairs-count s), q .stands l e x);
+                small = (omega (arith, n), omega (arith, m, g .cells), omega (arith, m, g .cells));
+                same = refl;
+              };
           inner = λ i a b. by-side (either-side i (r .cells + 2 * countPairs ls)) (λ u. q .cells i a u) (λ u. q .inner i u b);
         }
 

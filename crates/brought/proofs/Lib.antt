@@ -3,3 +3,4 @@ pub mod Later
 pub mod Older
 pub mod LaidScalars
 pub mod LaidValues
+pub mod Brought
