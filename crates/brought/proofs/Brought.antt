@@ -34,7 +34,7 @@ use Rattle.rooms.specs.Value.{nestingOf}
 use Rattle.rooms.specs.Cells.{cellIn}
 use Rattle.rooms.specs.Rooms.{rooms}
 use Rattle.rooms.specs.Reading.{readTo, reading}
-use Rattle.rooms.specs.Building.{cellRoom, textRoom}
+use Rattle.building.specs.Building.{cellRoom, textRoom}
 use Rattle.rooms.specs.Scope.{emptySlots, slotOf, stored}
 use Rattle.rooms.proofs.ReadBack.{reads}
 use Rattle.rooms.proofs.Scopes.{scope-empty, no-slot, stored-same, stored-other}

@@ -33,7 +33,7 @@ use Rattle.rooms.specs.Rooms.{Rooms, rooms, cellAt, part}
 use Rattle.rooms.specs.Stands.{Alive, TextAt, StandsScalar, Stands, StandsEntries}
 use Rattle.rooms.proofs.CellLaws.{Small}
 use Rattle.rooms.proofs.Frame.{part-same}
-use Rattle.comparing.specs.Equality.{seenScalar, sameSeen, seenIn}
+use Rattle.comparing.specs.Seen.{seenScalar, sameSeen, seenIn}
 use Rattle.comparing.proofs.SeenMeaning.{scalar-seen}
 use Rattle.soundness.specs.Keys as Keys
 use Rattle.soundness.specs.Keys.{isKey, repeatedIn, keysFit}

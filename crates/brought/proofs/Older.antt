@@ -23,7 +23,7 @@ use Rattle.rooms.specs.Cells.{cellIn}
 use Rattle.rooms.specs.Rooms.{Rooms, cellAt, part, textOf}
 use Rattle.rooms.specs.Reading.{Reader, elementsIn, entriesIn, readBy, readTo}
 use Rattle.rooms.proofs.Frame.{part-same}
-use Rattle.comparing.specs.Equality.{Seen, seenScalar, seenOf, sameSeen}
+use Rattle.comparing.specs.Seen.{Seen, seenScalar, seenOf, sameSeen}
 use Rattle.soundness.specs.Keys as Keys
 use Rattle.soundness.specs.Keys.{isKey, repeatedIn, keysFit}
 use Rattle.soundness.specs.Fits.{ofBindings, textOfBindings, deepestIn, spanFits, stringFits, rowFits, mapFits, valueFits, isAbsent, slotFits}

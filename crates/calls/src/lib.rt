@@ -3,10 +3,9 @@ ghost use mathlib.Core.Path.{_≡_};
 ghost use mathlib.Core.List.{List};
 ghost use Prim.Native.Nat.{ℕ};
 ghost use Rattle.rooms.specs.Rooms.{rooms};
-ghost use Rattle.comparing.specs.Sizes.{sizeOf};
+ghost use Rattle.sizes.specs.Sizes.{sizeOf};
 ghost use Rattle.machine.specs.Views.{optionalIn};
 ghost use Rattle.machine.specs.Calls.{sizeOut, hasValueOut, valueOut, orValueOut};
-use comparing::texts::part_points;
 use machine::outcome::Error;
 use machine::outcome::Outcome;
 use machine::outcome::Used;
@@ -16,6 +15,7 @@ use outcomes::outcomes::optional_of;
 use outcomes::outcomes::truth_out;
 use rooms::cells::cell_at;
 use rooms::value::Value;
+use spans::part_points;
 
 pub fn size(
     literal: &[u8],

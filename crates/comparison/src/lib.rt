@@ -10,13 +10,13 @@ ghost use Rattle.machine.specs.Outcomes.{truthOut};
 ghost use Rattle.machine.specs.Comparison.{onPairs, onFound, equalOut, orderedOut, compareOut};
 ghost use Rattle.machine.specs.Selection.{inParts};
 ghost use Rattle.outcomes.specs.Seen.{comparisonSeen};
-use comparing::equality::Pairs;
 use comparing::lookup::Found;
-use comparing::order::Compared;
+use equality::Pairs;
 use machine::outcome::Error;
 use machine::outcome::Outcome;
 use machine::outcome::Used;
 use numbers::order::Order;
+use ordering::Compared;
 use outcomes::operators::Comparison;
 use outcomes::outcomes::is_key;
 use outcomes::outcomes::no_overload;
@@ -51,7 +51,7 @@ pub fn equals(
 ) -> Outcome
     ensures { λ r. ⌜ r ≡ equalOut limit same left right used (rooms (now (literal .entry)) (now («binding_cells» .entry)) (now («binding_text» .entry)) (now (cells .entry)) (now (text .entry))) ⌝ }
 {
-    let pairs = comparing::equality::equal(
+    let pairs = equality::equal(
         literal,
         binding_cells,
         binding_text,
@@ -102,7 +102,7 @@ pub fn is_in(
 {
     match rooms::value::parts_of(container) {
         Parts::Elements(space, first, length) => {
-            let pairs = comparing::equality::among(
+            let pairs = equality::among(
                 literal,
                 binding_cells,
                 binding_text,
@@ -198,7 +198,7 @@ pub fn compare(
 ) -> Outcome
     ensures { λ r. ⌜ ((b c : List ℕ) → r ≡ compareOut (comparisonSeen operator) at left right used (rooms (now (literal .entry)) b (now («binding_text» .entry)) c (now (text .entry)))) ⌝ }
 {
-    match comparing::order::compare(literal, binding_text, text, left, right) {
+    match ordering::compare(literal, binding_text, text, left, right) {
         Compared::Is(order) => ordered(operator, order, at, used),
         Compared::Unlike => no_overload(at, used),
     }

@@ -6,15 +6,15 @@ use mathlib.Core.List.{List}
 use mathlib.Core.Option.{Option, none, some}
 use Rattle.rooms.specs.declared.value.Value.{Value}
 use Rattle.rooms.specs.declared.value.CellSpace.the-variants as Cells
-use Rattle.rooms.specs.declared.building.Taken.{Taken}
-use Rattle.rooms.specs.declared.building.Taken.the-variants as Taken
+use Rattle.building.specs.declared.Taken.{Taken}
+use Rattle.building.specs.declared.Taken.the-variants as Taken
 use Rattle.comparing.specs.declared.lookup.Found.{Found}
 use Rattle.comparing.specs.declared.lookup.Found.the-variants as Found
 use Rattle.rooms.specs.Value.{nestingOf}
 use Rattle.rooms.specs.Cells.{writtenIn}
 use Rattle.rooms.specs.Rooms.{Rooms}
-use Rattle.rooms.specs.Building.{cellRoom, takenOf, cellsTaken}
-use Rattle.comparing.specs.Equality.{findIn}
+use Rattle.building.specs.Building.{cellRoom, takenOf, cellsTaken}
+use Rattle.comparing.specs.LookUp.{findIn}
 use Rattle.machine.specs.declared.outcome.Used.{Used}
 use Rattle.machine.specs.declared.outcome.Error.the-variants as Error
 use Rattle.machine.specs.declared.outcome.Limit.the-variants as Limit

@@ -7,6 +7,7 @@ ghost use Rattle.rooms.specs.Rooms.{rooms};
 ghost use Rattle.machine.specs.Views.{partIn};
 ghost use Rattle.machine.specs.Outcomes.{whole};
 ghost use Rattle.containers.specs.Filling.{partSeen, BegunIn, begunOf, AddedIn, addedOf, keyedOf, EntryIn, insertedOf, enteredOf};
+use building::Taken;
 use comparing::lookup::Found;
 use machine::outcome::Error;
 use machine::outcome::Limit;
@@ -20,7 +21,6 @@ use outcomes::outcomes::optional_of;
 use outcomes::outcomes::out_of_steps;
 use outcomes::outcomes::with_cells;
 use outcomes::outcomes::with_steps;
-use rooms::building::Taken;
 use rooms::cells::cell_at;
 use rooms::cells::write_cell;
 use rooms::value::CellSpace;
@@ -39,7 +39,7 @@ pub fn begin(cells: &mut [u64], parts: usize, count: usize, used: Used) -> Begun
     ensures { λ r. ⌜ BegunIn r (now (cells .exit)) (begunOf parts count used (now (cells .entry))) ⌝ }
 {
     let first = used.cells;
-    let Taken::To(end) = rooms::building::take_cells(cells, first, count) else {
+    let Taken::To(end) = building::take_cells(cells, first, count) else {
         return Begun::Full;
     };
     Begun::At(first as u16, parts as u16, with_cells(used, end))

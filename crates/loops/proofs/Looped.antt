@@ -10,11 +10,11 @@ use Rattle.rooms.specs.declared.value.Value.{Value}
 use Rattle.rooms.specs.declared.value.CellSpace.{CellSpace}
 use Rattle.rooms.specs.declared.value.Parts.{Parts}
 use Rattle.rooms.specs.declared.value.Parts.the-variants as Parts
-use Rattle.rooms.specs.declared.building.Taken.{Taken}
-use Rattle.rooms.specs.declared.building.Taken.the-variants as Taken
+use Rattle.building.specs.declared.Taken.{Taken}
+use Rattle.building.specs.declared.Taken.the-variants as Taken
 use Rattle.rooms.specs.Rooms.{Rooms, rooms}
 use Rattle.rooms.specs.Value.{partsOf, nestingOf}
-use Rattle.rooms.specs.Building.{cellRoom, takenOf, cellsTaken, copied}
+use Rattle.building.specs.Building.{cellRoom, takenOf, cellsTaken, copied}
 use lib.Dec.{eqb}
 use Rattle.machine.specs.declared.outcome.Used.{Used}
 use Rattle.machine.specs.declared.outcome.Limit.the-variants as Limit

@@ -9,7 +9,7 @@ use Rattle.rooms.specs.declared.value.CellSpace.{CellSpace}
 use Rattle.rooms.specs.declared.value.CellSpace.the-variants as Cells
 use Rattle.rooms.specs.Cells.{cellIn, writtenIn}
 use Rattle.rooms.specs.Rooms.{wordsOf}
-use Rattle.rooms.specs.Building.{copied}
+use Rattle.building.specs.Building.{copied}
 use Rattle.rooms.proofs.CellLaws.{written-length}
 use Rattle.machine.specs.Comprehension.{runsCopied}
 

@@ -7,14 +7,6 @@ ghost use Rattle.table.specs.Records.{Sound, SoundPart, exprOf};
 ghost use Rattle.machine.specs.Literals.{nameOut};
 ghost use lib.Dec.{eqb, ltb};
 ghost use Rattle.records.specs.Records.{leafKinds, literalOf, slotIn, leafOut, leafStep, unmarkedAt};
-use machine::outcome::Error;
-use machine::outcome::Outcome;
-use machine::outcome::Used;
-use rooms::scope::Slot;
-use rooms::value::TextSpace;
-use rooms::value::Value;
-use rules::outcomes::out_of_steps;
-use rules::outcomes::stepped;
 use layout::kinds::MARK;
 use layout::kinds::NAME;
 use layout::readers::bits_at;
@@ -23,6 +15,14 @@ use layout::readers::int_at;
 use layout::readers::kind_at;
 use layout::readers::number_at;
 use layout::readers::span_at;
+use machine::outcome::Error;
+use machine::outcome::Outcome;
+use machine::outcome::Used;
+use outcomes::outcomes::out_of_steps;
+use outcomes::outcomes::stepped;
+use rooms::scope::Slot;
+use rooms::value::TextSpace;
+use rooms::value::Value;
 
 // The kinds below this one have no operands.
 pub const LEAF_KINDS: u8 = 8;
@@ -64,19 +64,8 @@ fn named(v: Value, at: usize, used: Used) -> Outcome
     ensures { λ r. ⌜ r ≡ nameOut at v used ⌝ }
 {
     match v {
-        Value::Null => Outcome::Value(Value::Null, used),
-        Value::Bool(b) => Outcome::Value(Value::Bool(b), used),
-        Value::Int(z) => Outcome::Value(Value::Int(z), used),
-        Value::Uint(n) => Outcome::Value(Value::Uint(n), used),
-        Value::Double(x) => Outcome::Value(Value::Double(x), used),
-        Value::Nan(b) => Outcome::Value(Value::Nan(b), used),
-        Value::String(s, a, n) => Outcome::Value(Value::String(s, a, n), used),
-        Value::Bytes(s, a, n) => Outcome::Value(Value::Bytes(s, a, n), used),
-        Value::List(d, s, a, n) => Outcome::Value(Value::List(d, s, a, n), used),
-        Value::Map(d, s, a, n) => Outcome::Value(Value::Map(d, s, a, n), used),
-        Value::OptionalNone => Outcome::Value(Value::OptionalNone, used),
-        Value::OptionalOf(d, s, a) => Outcome::Value(Value::OptionalOf(d, s, a), used),
         Value::Absent => Outcome::Error(Error::UndeclaredReference, at, used),
+        _ => Outcome::Value(v, used),
     }
 }
 

@@ -10,10 +10,42 @@ ghost use Rattle.layout.specs.Layout.{wordAt};
 ghost use Rattle.table.specs.Records.{Sound, exprOf, elementsOf, pairsOf};
 ghost use Rattle.machine.specs.Comprehension.{turns, appendTurns, nothingGathered};
 ghost use Rattle.machine.specs.Machine.{body, elements, entries, machine};
-ghost use Rattle.rules.specs.Gives.{Gives};
-ghost use Rattle.rules.specs.Loops.{pendingSeen};
-ghost use Rattle.records.specs.Records.{leafKinds};
+ghost use Rattle.outcomes.specs.Gives.{Gives};
+ghost use Rattle.loops.specs.Loops.{pendingSeen};
 ghost use Rattle.records.specs.Paths.{loopAt, appendAt, finishWith};
+use containers::Begun;
+use containers::Entry;
+use containers::Key;
+use containers::Ready;
+use containers::add_element;
+use containers::add_entry;
+use containers::begin;
+use containers::key_of;
+use containers::whole_list;
+use containers::whole_map;
+use joins::both::after_both;
+use joins::first::Next;
+use layout::readers::count_at;
+use layout::readers::end_at;
+use layout::readers::first_operand;
+use loops::Collected;
+use loops::Gather;
+use loops::Pending;
+use loops::Range;
+use loops::Step;
+use loops::add_run;
+use loops::collected_list;
+use loops::gather_items;
+use loops::range_of;
+use loops::step_of;
+use machine::outcome::Error;
+use machine::outcome::Outcome;
+use machine::outcome::Used;
+use outcomes::logic::Asked;
+use outcomes::logic::asks;
+use outcomes::outcomes::out_of_cells;
+use outcomes::outcomes::out_of_steps;
+use outcomes::outcomes::stepped;
 use records::literals::is_leaf;
 use records::literals::is_marked;
 use records::literals::leaf;
@@ -29,44 +61,11 @@ use records::records::Shape;
 use records::records::after_first;
 use records::records::begun_first;
 use records::records::shape_at;
-use machine::outcome::Error;
-use machine::outcome::Outcome;
-use machine::outcome::Used;
 use rooms::cells::cell_at;
 use rooms::scope::Scope;
 use rooms::scope::Slot;
 use rooms::value::CellSpace;
 use rooms::value::Value;
-use rules::containers::Begun;
-use rules::containers::Entry;
-use rules::containers::Key;
-use rules::containers::Ready;
-use rules::containers::add_element;
-use rules::containers::add_entry;
-use rules::containers::begin;
-use rules::containers::key_of;
-use rules::containers::whole_list;
-use rules::containers::whole_map;
-use rules::joins::Next;
-use rules::joins::after_both;
-use rules::logic::Asked;
-use rules::logic::asks;
-use rules::loops::Collected;
-use rules::loops::Gather;
-use rules::loops::Pending;
-use rules::loops::Range;
-use rules::loops::Step;
-use rules::loops::add_run;
-use rules::loops::collected_list;
-use rules::loops::gather_items;
-use rules::loops::range_of;
-use rules::loops::step_of;
-use rules::outcomes::out_of_cells;
-use rules::outcomes::out_of_steps;
-use rules::outcomes::stepped;
-use layout::readers::count_at;
-use layout::readers::end_at;
-use layout::readers::first_operand;
 
 // What the record at a place gives: its step, then by its shape.
 pub fn eval(
@@ -235,7 +234,7 @@ fn list_parts(
     first: u16,
     count: u16,
 ) -> Outcome
-    requires { ⌜ Sound (now table) (now literal) at × (getD (now table) at 0 ≡ 12) × (count ≡ wordAt (now table) (at + 3)) × (first + count < 65536) ⌝ }
+    requires { ⌜ Sound (now table) (now literal) at × (getD (now table) at 0 ≡ 12) × (count ≡ wordAt (now table) (at + 3)) ⌝ }
     ensures { λ r. ⌜ Gives r (now (literal .entry)) (now («binding_cells» .entry)) (now («binding_text» .entry)) (now (cells .exit)) (now (text .exit)) (elements (now (table .entry)) limit (elementsOf (now (table .entry)) (now (literal .entry)) count (at + 5)) scope first 0 0 used (rooms (now (literal .entry)) (now («binding_cells» .entry)) (now («binding_text» .entry)) (now (cells .entry)) (now (text .entry)))) ⌝ }
 {
     let mut place = first_operand(table, at);
@@ -289,7 +288,7 @@ fn map_parts(
     first: u16,
     count: u16,
 ) -> Outcome
-    requires { ⌜ Sound (now table) (now literal) at × (getD (now table) at 0 ≡ 13) × (count ≡ wordAt (now table) (at + 3)) × (first + count < 65536) ⌝ }
+    requires { ⌜ Sound (now table) (now literal) at × (getD (now table) at 0 ≡ 13) × (count ≡ wordAt (now table) (at + 3)) ⌝ }
     ensures { λ r. ⌜ Gives r (now (literal .entry)) (now («binding_cells» .entry)) (now («binding_text» .entry)) (now (cells .exit)) (now (text .exit)) (entries (now (table .entry)) limit at (pairsOf (now (table .entry)) (now (literal .entry)) count (at + 5)) scope first 0 0 used (rooms (now (literal .entry)) (now («binding_cells» .entry)) (now («binding_text» .entry)) (now (cells .entry)) (now (text .entry)))) ⌝ }
 {
     let mut place = first_operand(table, at);
@@ -674,7 +673,7 @@ fn appends(
     count: u16,
     each: u16,
 ) -> Outcome
-    requires { ⌜ Sound (now table) (now literal) (places .condition) × (getD (now table) (places .condition) 0 < leafKinds) × Sound (now table) (now literal) guard × Sound (now table) (now literal) list × (places .item < 128) ⌝ }
+    requires { ⌜ Sound (now table) (now literal) (places .condition) × (getD (now table) (places .condition) 0 < 7) × Sound (now table) (now literal) guard × Sound (now table) (now literal) list × (wordAt (now table) (guard + 1) < wordAt (now table) (at + 1)) × (wordAt (now table) (list + 1) < wordAt (now table) (at + 1)) × (places .item < 128) ⌝ }
     ensures { λ r. ⌜ Gives r (now (literal .entry)) (now («binding_cells» .entry)) (now («binding_text» .entry)) (now (cells .exit)) (now (text .exit)) (appendTurns (loopAt (now (table .entry)) (now (literal .entry)) limit at places) (appendAt (now (table .entry)) (now (literal .entry)) limit guarded guard list) space each count first nothingGathered scope used (rooms (now (literal .entry)) (now («binding_cells» .entry)) (now («binding_text» .entry)) (now (cells .entry)) (now (text .entry)))) ⌝ }
 {
     let item = places.item;

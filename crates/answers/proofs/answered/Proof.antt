@@ -4,8 +4,8 @@ use Rattle.answers.proofs.answered.Statement.{statement}
 use Rattle.answers.proofs.answered.Tie as tie
 use Rattle.answers.proofs.answered.Reads as reads
 use Rattle.answers.proofs.answered.Lts as lts
-use Rattle.rooms.proofs.building.clear_cells.Reads as clear-cells-reads
-use Rattle.rooms.proofs.building.clear_text.Reads as clear-text-reads
+use Rattle.building.proofs.clear_cells.Reads as clear-cells-reads
+use Rattle.building.proofs.clear_text.Reads as clear-text-reads
 
 -- src/lib.rt:42:24
 enum-known-outcome : tie.Need-enum-known-outcome

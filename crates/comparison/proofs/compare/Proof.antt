@@ -1,6 +1,6 @@
 -- `compare` meets its contract. Assumes nothing.
 use borrow.Author.Needs.{needs}
-use Rattle.comparing.specs.Equality.{seenIn}
+use Rattle.comparing.specs.Seen.{seenIn}
 use Rattle.comparison.proofs.compare.Statement.{statement}
 use Rattle.comparison.proofs.compare.Tie as tie
 

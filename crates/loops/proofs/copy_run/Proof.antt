@@ -6,9 +6,9 @@ use native.Mathlib.Omega.{arith}
 use lib.ListN as Lists
 use Rattle.rooms.specs.declared.value.CellSpace.the-variants as Cells
 use Rattle.rooms.specs.Cells.{writtenIn}
-use Rattle.rooms.specs.Building.{copied}
+use Rattle.building.specs.Building.{copied}
 use Rattle.rooms.proofs.CellLaws.{written-length}
-use Rattle.rooms.proofs.BuildingSteps.{copy-on, copy-none}
+use Rattle.building.proofs.BuildingSteps.{copy-on, copy-none}
 use Rattle.loops.proofs.copy_run.Statement.{statement}
 use Rattle.loops.proofs.copy_run.Tie as tie
 

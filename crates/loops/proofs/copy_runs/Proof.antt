@@ -5,7 +5,7 @@ use native.Mathlib.Omega.{arith}
 use borrow.Author.Needs.{needs}
 use lib.ListN as Lists
 use Rattle.rooms.specs.declared.value.CellSpace.the-variants as Cells
-use Rattle.rooms.specs.Building.{copied}
+use Rattle.building.specs.Building.{copied}
 use Rattle.machine.specs.Comprehension.{runsCopied}
 use Rattle.loops.proofs.Runs.{runs-on, runs-none, copied-length}
 use Rattle.loops.proofs.copy_runs.Statement.{statement}

@@ -1,7 +1,7 @@
 -- `run_at` meets its contract. Assumes nothing.
 use mathlib.Core.Path.{sym}
 use borrow.Author.Needs.{needs}
-use Rattle.rooms.proofs.BuildingSteps.{beyond}
+use Rattle.building.proofs.BuildingSteps.{beyond}
 use Rattle.loops.proofs.run_at.Statement.{statement}
 use Rattle.loops.proofs.run_at.Tie as tie
 
