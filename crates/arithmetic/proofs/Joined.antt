@@ -4,10 +4,10 @@ use mathlib.Core.Path.{_≡_, refl, _∙_, ap}
 use mathlib.Core.List.{List}
 use Rattle.rooms.specs.declared.value.Value.{Value}
 use Rattle.rooms.specs.declared.value.TextSpace.{TextSpace}
-use Rattle.rooms.specs.declared.building.Taken.{Taken}
-use Rattle.rooms.specs.declared.building.Taken.the-variants as Taken
+use Rattle.building.specs.declared.Taken.{Taken}
+use Rattle.building.specs.declared.Taken.the-variants as Taken
 use Rattle.rooms.specs.Rooms.{rooms}
-use Rattle.rooms.specs.Building.{textRoom, takenOf}
+use Rattle.building.specs.Building.{textRoom, takenOf}
 use Rattle.machine.specs.declared.outcome.Used.{Used}
 use Rattle.machine.specs.declared.outcome.Limit.the-variants as Limit
 use Rattle.machine.specs.declared.outcome.Outcome.{Outcome}

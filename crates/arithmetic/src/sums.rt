@@ -7,6 +7,7 @@ ghost use Rattle.rooms.specs.Rooms.{rooms};
 ghost use Rattle.machine.specs.Numbers.{stringSum, bytesSum, bothLists, listSum};
 ghost use Rattle.outcomes.specs.Gives.{Gives};
 ghost use Rattle.arithmetic.specs.Sums.{JoinedIn, joinedOf, joinedOut, sumParts, sumOf};
+use building::Taken;
 use machine::outcome::Limit;
 use machine::outcome::Outcome;
 use machine::outcome::Used;
@@ -15,7 +16,6 @@ use outcomes::outcomes::no_overload;
 use outcomes::outcomes::out_of_cells;
 use outcomes::outcomes::with_bytes;
 use outcomes::outcomes::with_cells;
-use rooms::building::Taken;
 use rooms::value::CellSpace;
 use rooms::value::Parts;
 use rooms::value::Plain;
@@ -49,12 +49,12 @@ fn join_texts(
 {
     let end = used.bytes;
     let all = (length as usize) + (count as usize);
-    let Taken::To(after) = rooms::building::take_text(text, end, all) else {
+    let Taken::To(after) = building::take_text(text, end, all) else {
         return Joined::Full;
     };
     let to = end as u16;
-    rooms::building::copy_text(literal, binding_text, text, space, first, length, to);
-    rooms::building::copy_text(literal, binding_text, text, other, from, count, to + length);
+    building::copy_text(literal, binding_text, text, space, first, length, to);
+    building::copy_text(literal, binding_text, text, other, from, count, to + length);
     Joined::At(to, all as u16, with_bytes(used, after))
 }
 
@@ -175,12 +175,12 @@ fn join_lists(
 {
     let base = used.cells;
     let all = (length as usize) + (count as usize);
-    let Taken::To(end) = rooms::building::take_cells(cells, base, all) else {
+    let Taken::To(end) = building::take_cells(cells, base, all) else {
         return out_of_cells(used);
     };
     let to = base as u16;
-    rooms::building::copy_cells(binding_cells, cells, space, first, length, to);
-    rooms::building::copy_cells(binding_cells, cells, other, from, count, to + length);
+    building::copy_cells(binding_cells, cells, space, first, length, to);
+    building::copy_cells(binding_cells, cells, other, from, count, to + length);
     Outcome::Value(
         Value::List(deep, CellSpace::Evaluation, to, all as u16),
         with_cells(used, end),

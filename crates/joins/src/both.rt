@@ -1,4 +1,4 @@
-// After the other operand.
+// After the other operand: what both came to, joined. Logic decides from two outcomes, any other operator from two values.
 ghost use mathlib.Core.Path.{_≡_};
 ghost use mathlib.Core.List.{List};
 ghost use Prim.Native.Nat.{ℕ};
@@ -9,19 +9,17 @@ ghost use Rattle.outcomes.specs.Seen.{binarySeen};
 ghost use Rattle.joins.specs.Joins.{withDefault, joinOf, valuesOut};
 use crate::first::Fixed;
 use arithmetic::operations::arithmetic;
+use calls::or_value;
+use comparison::compare;
+use comparison::equals;
+use comparison::is_in;
 use machine::outcome::Outcome;
 use machine::outcome::Used;
 use outcomes::logic::logic_right;
 use outcomes::operators::Binary;
 use rooms::value::Value;
-use selection::calls::or_value;
-use selection::comparison::compare;
-use selection::comparison::equals;
-use selection::comparison::is_in;
 use selection::index::index;
 use selection::index::optional_select;
-
-// ---- after the other one
 
 // Both operands are values, and the operator is none of logic.
 fn values(
@@ -157,9 +155,8 @@ fn after_right(
 ) -> Outcome
     ensures { λ r. ⌜ Gives r (now (literal .entry)) (now («binding_cells» .entry)) (now («binding_text» .entry)) (now (cells .exit)) (now (text .exit)) (rightOf limit at (binarySeen operator) left right used (rooms (now (literal .entry)) (now («binding_cells» .entry)) (now («binding_text» .entry)) (now (cells .entry)) (now (text .entry)))) ⌝ }
 {
-    match operator {
-        Binary::Logic(fold) => logic_right(fold, left, right, at, used),
-        Binary::Equals => both_values(
+    let Binary::Logic(fold) = operator else {
+        return both_values(
             literal,
             binding_cells,
             binding_text,
@@ -171,99 +168,9 @@ fn after_right(
             right,
             at,
             used,
-        ),
-        Binary::NotEquals => both_values(
-            literal,
-            binding_cells,
-            binding_text,
-            cells,
-            text,
-            limit,
-            operator,
-            left,
-            right,
-            at,
-            used,
-        ),
-        Binary::Index => both_values(
-            literal,
-            binding_cells,
-            binding_text,
-            cells,
-            text,
-            limit,
-            operator,
-            left,
-            right,
-            at,
-            used,
-        ),
-        Binary::OptionalIndex => both_values(
-            literal,
-            binding_cells,
-            binding_text,
-            cells,
-            text,
-            limit,
-            operator,
-            left,
-            right,
-            at,
-            used,
-        ),
-        Binary::OptionalSelect => both_values(
-            literal,
-            binding_cells,
-            binding_text,
-            cells,
-            text,
-            limit,
-            operator,
-            left,
-            right,
-            at,
-            used,
-        ),
-        Binary::Arithmetic(_) => both_values(
-            literal,
-            binding_cells,
-            binding_text,
-            cells,
-            text,
-            limit,
-            operator,
-            left,
-            right,
-            at,
-            used,
-        ),
-        Binary::Order(_) => both_values(
-            literal,
-            binding_cells,
-            binding_text,
-            cells,
-            text,
-            limit,
-            operator,
-            left,
-            right,
-            at,
-            used,
-        ),
-        Binary::In => both_values(
-            literal,
-            binding_cells,
-            binding_text,
-            cells,
-            text,
-            limit,
-            operator,
-            left,
-            right,
-            at,
-            used,
-        ),
-    }
+        );
+    };
+    logic_right(fold, left, right, at, used)
 }
 
 fn both_values(

@@ -12,6 +12,9 @@ ghost use Rattle.outcomes.specs.Seen.{unarySeen, binarySeen, functionSeen, goSe
 ghost use Rattle.outcomes.specs.Decisions.{askedOf};
 ghost use Rattle.joins.specs.Joins.{goNext, askNext, valueNext};
 use arithmetic::numeric::negate;
+use calls::has_value;
+use calls::size;
+use calls::value;
 use machine::outcome::Outcome;
 use machine::outcome::Used;
 use outcomes::logic::Asked;
@@ -26,9 +29,6 @@ use outcomes::operators::Unary;
 use outcomes::outcomes::Optional;
 use outcomes::outcomes::optional_of;
 use rooms::value::Value;
-use selection::calls::has_value;
-use selection::calls::size;
-use selection::calls::value;
 use selection::index::index;
 use selection::lookup::present;
 use selection::select::select_field;
@@ -43,8 +43,6 @@ pub enum Fixed {
     Call(Function),
     OrValue,
 }
-
-// ---- after the operand that is begun first
 
 fn not_outcome(operand: Outcome, at: usize) -> Outcome
     ensures { λ r. ⌜ r ≡ unaryOut at Meaning.notOp operand ⌝ }

@@ -7,9 +7,9 @@ use native.Mathlib.Omega.{arith}
 use lib.Dec.{leb}
 use lib.ListN.{length}
 use borrow.Author.Tests.{leb-true}
-use Rattle.rooms.specs.declared.building.Taken.{Taken}
-use Rattle.rooms.specs.declared.building.Taken.the-variants as Taken
-use Rattle.rooms.specs.Building.{cellRoom, textRoom, takenOf}
+use Rattle.building.specs.declared.Taken.{Taken}
+use Rattle.building.specs.declared.Taken.the-variants as Taken
+use Rattle.building.specs.Building.{cellRoom, textRoom, takenOf}
 
 by-test : (b : Bool) (m e : ℕ) → Taken.To e ≡ cond b (Taken.To m) Taken.Full → b ≡ true
 by-test true m e h = refl

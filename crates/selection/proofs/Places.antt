@@ -8,9 +8,9 @@ use lib.IntN.{ℤ, pos, negsuc}
 use borrow.Author.Tests.{ltb-true}
 use Rattle.rooms.specs.declared.value.Value.{Value}
 use Rattle.rooms.specs.declared.value.Value.the-variants as Value
-use Rattle.comparing.specs.declared.sizes.Position.{Position}
-use Rattle.comparing.specs.declared.sizes.Position.the-variants as Position
-use Rattle.comparing.specs.Sizes.{positionOf, inside, insideInt}
+use Rattle.sizes.specs.declared.Position.{Position}
+use Rattle.sizes.specs.declared.Position.the-variants as Position
+use Rattle.sizes.specs.Sizes.{positionOf, inside, insideInt}
 
 by-test : (b : Bool) (i k : ℕ) → Position.At k ≡ cond b (Position.At i) Position.Outside → (b ≡ true) × (k ≡ i)
 by-test true i k h = (refl, cc)

@@ -17,8 +17,6 @@ use rooms::cells::cell_at;
 use rooms::value::Plain;
 use rooms::value::Value;
 
-// ---- index and optional select
-
 fn perhaps(cells: &mut [u64], optional: bool, found: Outcome) -> Outcome
     ensures { λ r. ⌜ ((l b t x : List ℕ) → Gives r l b t (now (cells .exit)) x (perhaps optional found (rooms l b t (now (cells .entry)) x))) ⌝ }
 {

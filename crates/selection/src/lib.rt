@@ -1,6 +1,4 @@
-// Values compared, looked up and asked: equality and order, index and select, the functions.
-pub mod calls;
-pub mod comparison;
+// Look-ups: index, optional index, select, test and optional select.
 pub mod index;
 pub mod lookup;
 pub mod select;

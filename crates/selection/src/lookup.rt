@@ -3,14 +3,14 @@ ghost use mathlib.Core.Path.{_≡_};
 ghost use mathlib.Core.List.{List};
 ghost use Prim.Native.Nat.{ℕ};
 ghost use Rattle.rooms.specs.Rooms.{rooms, cellAt};
-ghost use Rattle.comparing.specs.Sizes.{positionOf};
+ghost use Rattle.sizes.specs.Sizes.{positionOf};
 ghost use Rattle.machine.specs.Outcomes.{present};
 ghost use Rattle.machine.specs.Comparison.{onFound};
 ghost use Rattle.machine.specs.Selection.{elementOut, lookUpIn, lookUp, optionally, tells, index};
 ghost use Rattle.outcomes.specs.Gives.{Gives};
 use crate::index::index;
+use building::Taken;
 use comparing::lookup::Found;
-use comparing::sizes::Position;
 use machine::outcome::Error;
 use machine::outcome::Limit;
 use machine::outcome::Outcome;
@@ -24,19 +24,19 @@ use outcomes::outcomes::out_of_steps;
 use outcomes::outcomes::truth_out;
 use outcomes::outcomes::with_cells;
 use outcomes::outcomes::with_steps;
-use rooms::building::Taken;
 use rooms::cells::cell_at;
 use rooms::value::CellSpace;
 use rooms::value::Parts;
 use rooms::value::Value;
 use rooms::value::parts_of;
+use sizes::Position;
 
 // A present Optional: its cell, then its nesting.
 pub fn present(cells: &mut [u64], v: Value, used: Used) -> Outcome
     ensures { λ r. ⌜ ((l b t x : List ℕ) → Gives r l b t (now (cells .exit)) x (present v used (rooms l b t (now (cells .entry)) x))) ⌝ }
 {
     let cell = used.cells;
-    let Taken::To(end) = rooms::building::take_cells(cells, cell, 1) else {
+    let Taken::To(end) = building::take_cells(cells, cell, 1) else {
         return out_of_cells(used);
     };
     rooms::cells::write_cell(cells, cell, v);
@@ -66,7 +66,7 @@ fn element(
 ) -> Outcome
     ensures { λ r. ⌜ ((l t x : List ℕ) → r ≡ elementOut at (rooms l (now («binding_cells» .entry)) t (now (cells .entry)) x) space first used (positionOf index length)) ⌝ }
 {
-    match comparing::sizes::position_in(index, length) {
+    match sizes::position_in(index, length) {
         Position::At(i) => {
             Outcome::Value(
                 cell_at(binding_cells, cells, space, (first as usize) + i),
@@ -195,6 +195,6 @@ pub(crate) fn tells(found: Outcome) -> Outcome
     match found {
         Outcome::Value(_, used) => truth_out(true, used),
         Outcome::Error(_, _, used) => truth_out(false, used),
-        Outcome::Exhausted(limit, used) => Outcome::Exhausted(limit, used),
+        Outcome::Exhausted(which, used) => Outcome::Exhausted(which, used),
     }
 }

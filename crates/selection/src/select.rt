@@ -25,8 +25,6 @@ use rooms::value::Parts;
 use rooms::value::Value;
 use rooms::value::parts_of;
 
-// ---- select
-
 fn select_in_container(cells: &mut [u64], test: bool, found: Outcome) -> Outcome
     ensures { λ r. ⌜ ((l b t x : List ℕ) → Gives r l b t (now (cells .exit)) x (selectInContainer test found (rooms l b t (now (cells .entry)) x))) ⌝ }
 {

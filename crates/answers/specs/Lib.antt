@@ -1,0 +1,5 @@
+-- What the contracts cite: what an evaluation does on words (`Evaluated`); what the definition says of it, and what an answer says
+-- (`Meant`). What theorems compare two answers by (`Alike`).
+pub mod Evaluated
+pub mod Meant
+pub mod Alike

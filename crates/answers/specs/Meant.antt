@@ -1,0 +1,105 @@
+-- What the definition says of an evaluation, and what an answer and the rooms that it leaves must be for that.
+use Prim.Native.Nat.{ℕ, _*_, _/_, _^_, _<_}
+use mathlib.Core.Path.{_≡_}
+use mathlib.Core.List.{List}
+use mathlib.Core.Option.{Option, some}
+use lib.ListN.{length, getD, take, drop}
+use Rattle.meaning.specs.Limits.{Counts, nothingYet, cut, names}
+use Rattle.meaning.specs.Errors.{Exhausted, errorNumber, refusalNumber}
+use Rattle.meaning.specs.Value as Value
+use Rattle.meaning.specs.Limited as Limited
+use Rattle.meaning.specs.Bindings.{BindingRoom, scopeOf}
+use Rattle.meaning.specs.Answer as Meaning
+use Rattle.meaning.specs.Answer.{Answered, refusal, ran, answerRead}
+use Rattle.meaning.specs.WellFormed.{AllBytes}
+use Rattle.rooms.specs.Cells.{Fits}
+use Rattle.rooms.specs.Rooms.{Rooms}
+use Rattle.rooms.specs.Reading.{reading}
+use Rattle.rooms.specs.Scope.{slotOf}
+use Rattle.soundness.specs.declared.Bindings.{Bindings}
+use Rattle.soundness.specs.Held.{roomOf}
+use Rattle.machine.specs.declared.outcome.Used.{Used}
+use Rattle.machine.specs.Refines.{countsOf}
+use Rattle.machine.specs.Answer.{CellsHave}
+use Rattle.reasons.specs.Numbers.{errorMeant, limitMeant}
+use Rattle.answers.specs.declared.Answer.{Answer}
+use Rattle.answers.specs.declared.Answer.the-variants as Answer
+use Rattle.answers.specs.Evaluated.{accepted, evaluated}
+
+-- ---- what an answer tells
+
+-- errors and refusals by their numbers, a value as it is read out of the rooms
+pub data Told : Type 0 where
+  refused : (number place : ℕ) → Told
+  value : Option Value.Value → Counts → Told
+  error : (number place : ℕ) → Counts → Told
+  exhausted : Exhausted → Counts → Told
+
+abbrev pub countsIn : Used → Counts
+countsIn u = record { steps = u .steps; cells = u .cells; bytes = u .bytes }
+
+abbrev pub told : Rooms → Answer → Told
+told left (Answer.Refused number place) = refused number place
+told left (Answer.Value v u) = value (reading left v) (countsIn u)
+told left (Answer.Error e place u) = error (errorNumber (errorMeant e)) place (countsIn u)
+told left (Answer.Exhausted x u) = exhausted (limitMeant x) (countsIn u)
+
+-- the definition's answer
+abbrev pub toldBy : Meaning.Answer → Told
+toldBy (refusal why place) = refused (refusalNumber why) place
+toldBy (ran (Limited.value v c)) = value (some v) c
+toldBy (ran (Limited.error e c)) = error (errorNumber (e .error)) (e .place) c
+toldBy (ran (Limited.exhausted x c)) = exhausted x c
+
+abbrev pub counted : Meaning.Answer → Counts
+counted (refusal why place) = nothingYet
+counted (ran o) = countsOf o
+
+-- ---- what an answer and the rooms that it leaves say
+
+pub record Says (m : Answered) (lent : Rooms) (answer : Answer) (left : Rooms) : Type 0 where
+  -- refused, value, error or exhausted; number, place, value and counts
+  pub tells : told left answer ≡ toldBy (m .answer)
+  -- below the counts: what was built, or zeros
+  pub cells : CellsHave left 0 (m .rooms .cells)
+  pub cellsCounted : length (m .rooms .cells) ≡ counted (m .answer) .cells
+  pub bytes : take (counted (m .answer) .bytes) (left .text) ≡ m .rooms .bytes
+  -- above them: as lent
+  pub cellsAbove : drop (counted (m .answer) .cells * 2) (left .cells) ≡ drop (counted (m .answer) .cells * 2) (lent .cells)
+  pub bytesAbove : drop (counted (m .answer) .bytes) (left .text) ≡ drop (counted (m .answer) .bytes) (lent .text)
+  pub cellsLent : length (left .cells) ≡ length (lent .cells)
+  pub bytesLent : length (left .text) ≡ length (lent .text)
+  -- what is lent for reading only
+  pub literal : left .literal ≡ lent .literal
+  pub bindingCells : left .bindingCells ≡ lent .bindingCells
+  pub bindingText : left .bindingText ≡ lent .bindingText
+
+-- ---- the definition's answer
+
+module _ (table : List ℕ) (bindings : Bindings) (steps : ℕ) (lent : Rooms) where
+  -- a cell is two words
+  abbrev pub limits : Counts
+  limits = cut (record { steps = steps; cells = length (lent .cells) / 2; bytes = length (lent .text) })
+
+  -- the bindings that the lent binding room holds
+  abbrev pub bound : BindingRoom
+  bound = roomOf (lent .bindingCells) (lent .bindingText) bindings
+
+  -- the binding room is judged after the table
+  unfoldable pub meant : Answered
+  meant = answerRead limits (scopeOf bound) (accepted table bindings steps lent)
+
+  -- the contract of an evaluation
+  pub record Evaluates (answer : Answer) (left : Rooms) : Type 0 where
+    pub exactly : _≡_ {A = Answer × Rooms} (answer, left) (evaluated table bindings steps lent)
+    pub says : Says meant lent answer left
+
+-- ---- what can be lent
+
+-- of whatever content: bytes, words of 64 bits, and a slot for each name
+pub record Lent (table : List ℕ) (bindings : Bindings) (lent : Rooms) : Type 0 where
+  pub tableBytes : AllBytes table
+  pub words : (i : ℕ) → getD (lent .cells) i 0 < 2 ^ 64
+  pub bindingWords : (i : ℕ) → getD (lent .bindingCells) i 0 < 2 ^ 64
+  pub slots : length (bindings .scope .slots) ≡ names
+  pub values : (n : ℕ) → Fits (slotOf (bindings .scope) n)
