@@ -12,19 +12,11 @@ use Rattle.rooms.specs.declared.value.Value.{Value}
 use Rattle.rooms.specs.declared.value.CellSpace.{CellSpace}
 use Rattle.rooms.specs.declared.value.Parts.{Parts}
 use Rattle.rooms.specs.declared.value.Parts.the-variants as Parts
-<<<<<<< HEAD
 use Rattle.building.specs.declared.Taken.{Taken}
 use Rattle.building.specs.declared.Taken.the-variants as Taken
 use Rattle.rooms.specs.declared.scope.Scope.{Scope}
 use Rattle.rooms.specs.Value.{partsOf, nestingOf}
 use Rattle.building.specs.Building.{cellRoom, takenOf, cellsTaken, copied}
-=======
-use Rattle.building.specs.declared.Taken.{Taken}
-use Rattle.building.specs.declared.Taken.the-variants as Taken
-use Rattle.rooms.specs.declared.scope.Scope.{Scope}
-use Rattle.rooms.specs.Value.{partsOf, nestingOf}
-use Rattle.building.specs.Building.{cellRoom, takenOf, cellsTaken, copied}
->>>>>>> 9ba6255f5cfbc0ef8667c62e89b603e637f5f477
 use Rattle.rooms.specs.Rooms.{Rooms, rooms, wordsOf, cellAt}
 use Rattle.rooms.specs.Cells.{cellIn}
 use Rattle.rooms.specs.Scope.{stored, slotOf}
@@ -42,17 +34,10 @@ use Rattle.machine.specs.Comprehension.{Loop, AppendStep, Gathered, Gathering, 
 use Rattle.outcomes.specs.declared.logic.Asked.{Asked}
 use Rattle.outcomes.specs.declared.logic.Asked.the-variants as Asked
 use Rattle.outcomes.specs.Decisions.{askedOf, onAsked}
-<<<<<<< HEAD
 use Rattle.loops.specs.declared.Collected.{Collected}
 use Rattle.loops.specs.declared.Gather.{Gather}
 use Rattle.loops.specs.declared.Gather.the-variants as Gather
 use Rattle.loops.specs.Loops.{gatheredIn, gatherTo, gatherWords, gatherElements, gatherParts, gatherOf, GatherIn}
-=======
-use Rattle.loops.specs.declared.Collected.{Collected}
-use Rattle.loops.specs.declared.Gather.{Gather}
-use Rattle.loops.specs.declared.Gather.the-variants as Gather
-use Rattle.loops.specs.Loops.{gatheredIn, gatherTo, gatherWords, gatherElements, gatherParts, gatherOf, GatherIn}
->>>>>>> 9ba6255f5cfbc0ef8667c62e89b603e637f5f477
 use Rattle.records.specs.declared.paths.Places.{Places}
 use Rattle.records.specs.Paths.{loopAt, guardAt, appendAt}
 use Rattle.recursion.proofs.Stops.{Is, after-operand}

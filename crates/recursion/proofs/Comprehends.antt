@@ -24,15 +24,9 @@ use Rattle.machine.specs.declared.outcome.Outcome.the-variants as Outcome
 use Rattle.machine.specs.Outcomes.{Res, Does}
 use Rattle.machine.specs.Comprehension.{Items, Loop, AppendStep, itemsParts, onItems, emptyParts, turns, appendTurns, nothingGathered, loopFrom}
 use Rattle.machine.specs.Machine.{body, machine, appendStep}
-<<<<<<< HEAD
 use Rattle.loops.specs.declared.Range.{Range}
 use Rattle.loops.specs.declared.Range.the-variants as Range
 use Rattle.loops.specs.Loops.{rangeSeen}
-=======
-use Rattle.loops.specs.declared.Range.{Range}
-use Rattle.loops.specs.declared.Range.the-variants as Range
-use Rattle.loops.specs.Loops.{rangeSeen}
->>>>>>> 9ba6255f5cfbc0ef8667c62e89b603e637f5f477
 use Rattle.records.specs.declared.paths.Path.{Path}
 use Rattle.records.specs.declared.paths.Path.the-variants as Path
 use Rattle.records.specs.declared.paths.Places.{Places}

@@ -9,21 +9,12 @@ use borrow.Author.Tests.{le-ltb, lt-ltb}
 use Rattle.meaning.specs.Expr.{Expr, literal, name, unary, binary, conditional, select, listOf, mapOf, comprehension, call, noneCall, orValue}
 use Rattle.meaning.specs.Kinds.{ExprKind, nullKind, boolKind, intKind, uintKind, doubleKind, stringKind, bytesKind, nameKind, unaryKind, binaryKind, conditionalKind, selectKind, listKind, mapKind, comprehensionKind, functionKind, Called, toOne, toNone, toTwo, numbered, functions}
 use Rattle.rooms.specs.declared.value.Value.the-variants as Value
-<<<<<<< HEAD
 use Rattle.building.specs.declared.Taken.{Taken}
 use Rattle.building.specs.declared.Taken.the-variants as Taken
 use Rattle.rooms.specs.declared.scope.Scope.{Scope}
 use Rattle.rooms.specs.Rooms.{Rooms}
 use Rattle.rooms.specs.Scope.{slotOf}
 use Rattle.building.specs.Building.{cellRoom, takenOf, cellsTaken}
-=======
-use Rattle.building.specs.declared.Taken.{Taken}
-use Rattle.building.specs.declared.Taken.the-variants as Taken
-use Rattle.rooms.specs.declared.scope.Scope.{Scope}
-use Rattle.rooms.specs.Rooms.{Rooms}
-use Rattle.rooms.specs.Scope.{slotOf}
-use Rattle.building.specs.Building.{cellRoom, takenOf, cellsTaken}
->>>>>>> 9ba6255f5cfbc0ef8667c62e89b603e637f5f477
 use Rattle.rooms.proofs.Scopes.{read-slot}
 use Rattle.layout.specs.Layout.{wordAt, after}
 use Rattle.table.specs.Records.{exprOf, Sound, kindByte, callOf, node, elementsOf, pairsOf}
@@ -35,15 +26,9 @@ use Rattle.machine.specs.declared.outcome.Outcome.{Outcome}
 use Rattle.machine.specs.declared.outcome.Outcome.the-variants as Outcome
 use Rattle.machine.specs.Outcomes.{Res, stepped, withCells, withWords, onTaken, taking}
 use Rattle.machine.specs.Machine.{body, elements, entries, machine}
-<<<<<<< HEAD
 use Rattle.containers.specs.declared.Begun.{Begun}
 use Rattle.containers.specs.declared.Begun.the-variants as Begun
 use Rattle.containers.specs.Filling.{begunTo, begunOf, BegunIn}
-=======
-use Rattle.containers.specs.declared.Begun.{Begun}
-use Rattle.containers.specs.declared.Begun.the-variants as Begun
-use Rattle.containers.specs.Filling.{begunTo, begunOf, BegunIn}
->>>>>>> 9ba6255f5cfbc0ef8667c62e89b603e637f5f477
 use Rattle.joins.specs.declared.first.Fixed.{Fixed}
 use Rattle.joins.specs.declared.first.Next.{Next}
 use Rattle.joins.specs.declared.first.Next.the-variants as Next

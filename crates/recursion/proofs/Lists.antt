@@ -23,13 +23,8 @@ use Rattle.machine.specs.Views.{partIn}
 use Rattle.machine.specs.Containers as Containers
 use Rattle.machine.specs.Containers.{Filling, addElement, listDone}
 use Rattle.machine.specs.Machine.{elements, machine}
-<<<<<<< HEAD
 use Rattle.containers.specs.declared.Ready.{Ready}
 use Rattle.containers.specs.Filling.{addedOf, AddedIn}
-=======
-use Rattle.containers.specs.declared.Ready.{Ready}
-use Rattle.containers.specs.Filling.{addedOf, AddedIn}
->>>>>>> 9ba6255f5cfbc0ef8667c62e89b603e637f5f477
 use Rattle.records.specs.Records.{unmarkedAt}
 use Rattle.records.proofs.Rows.{ElementsLeft, elements-next, element-does, list-at}
 use Rattle.recursion.proofs.Stops.{Is, Stops, stops-there, goes-on}

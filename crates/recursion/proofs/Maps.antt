@@ -13,11 +13,7 @@ use Rattle.rooms.specs.declared.scope.Scope.{Scope}
 use Rattle.rooms.specs.Rooms.{Rooms, rooms}
 use Rattle.comparing.specs.declared.lookup.Found.{Found}
 use Rattle.comparing.specs.declared.lookup.Found.the-variants as Found
-<<<<<<< HEAD
 use Rattle.comparing.specs.LookUp.{findIn}
-=======
-use Rattle.comparing.specs.LookUp.{findIn}
->>>>>>> 9ba6255f5cfbc0ef8667c62e89b603e637f5f477
 use Rattle.meaning.specs.Kinds.{mapKind}
 use Rattle.layout.specs.Layout.{headBytes, wordAt, after}
 use Rattle.table.specs.Records.{Sound, SoundPart, exprOf, pairsOf}
@@ -30,21 +26,12 @@ use Rattle.machine.specs.Views.{isKey, partIn}
 use Rattle.machine.specs.Containers as Containers
 use Rattle.machine.specs.Containers.{Filling, ifKey, ifNew, addEntry, mapDone}
 use Rattle.machine.specs.Machine.{entries, machine}
-<<<<<<< HEAD
 use Rattle.containers.specs.declared.Ready.{Ready}
 use Rattle.containers.specs.declared.Key.{Key}
 use Rattle.containers.specs.declared.Key.the-variants as Key
 use Rattle.containers.specs.declared.Entry.{Entry}
 use Rattle.containers.specs.declared.Entry.the-variants as Entry
 use Rattle.containers.specs.Filling.{grown, keyedIf, keyedOf, insertedIf, enteredOf, EntryIn}
-=======
-use Rattle.containers.specs.declared.Ready.{Ready}
-use Rattle.containers.specs.declared.Key.{Key}
-use Rattle.containers.specs.declared.Key.the-variants as Key
-use Rattle.containers.specs.declared.Entry.{Entry}
-use Rattle.containers.specs.declared.Entry.the-variants as Entry
-use Rattle.containers.specs.Filling.{grown, keyedIf, keyedOf, insertedIf, enteredOf, EntryIn}
->>>>>>> 9ba6255f5cfbc0ef8667c62e89b603e637f5f477
 use Rattle.records.specs.Records.{unmarkedAt}
 use Rattle.records.proofs.Rows.{EntriesLeft, pairs-next, entry-does, map-at}
 use Rattle.recursion.proofs.Stops.{Is, Stops, after-operand, stops-there, goes-on}

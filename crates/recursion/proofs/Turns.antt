@@ -32,19 +32,11 @@ use Rattle.machine.specs.Comprehension.{Loop, Binds, Holds, asks, finish, after
 use Rattle.outcomes.specs.declared.logic.Asked.{Asked}
 use Rattle.outcomes.specs.declared.logic.Asked.the-variants as Asked
 use Rattle.outcomes.specs.Decisions.{askedBool, askedOf, onAsked}
-<<<<<<< HEAD
 use Rattle.loops.specs.declared.Pending.{Pending}
 use Rattle.loops.specs.declared.Pending.the-variants as Pending
 use Rattle.loops.specs.declared.Step.{Step}
 use Rattle.loops.specs.declared.Step.the-variants as Step
 use Rattle.loops.specs.Loops.{pendingSeen, unlessCleared, stepOf, onStep}
-=======
-use Rattle.loops.specs.declared.Pending.{Pending}
-use Rattle.loops.specs.declared.Pending.the-variants as Pending
-use Rattle.loops.specs.declared.Step.{Step}
-use Rattle.loops.specs.declared.Step.the-variants as Step
-use Rattle.loops.specs.Loops.{pendingSeen, unlessCleared, stepOf, onStep}
->>>>>>> 9ba6255f5cfbc0ef8667c62e89b603e637f5f477
 use Rattle.records.specs.declared.paths.Places.{Places}
 use Rattle.records.specs.Paths.{loopAt, finishWith}
 use Rattle.recursion.proofs.Stops.{Is, after-operand}

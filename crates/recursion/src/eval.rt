@@ -11,7 +11,6 @@ ghost use Rattle.table.specs.Records.{Sound, exprOf, elementsOf, pairsOf};
 ghost use Rattle.machine.specs.Comprehension.{turns, appendTurns, nothingGathered};
 ghost use Rattle.machine.specs.Machine.{body, elements, entries, machine};
 ghost use Rattle.outcomes.specs.Gives.{Gives};
-<<<<<<< HEAD
 ghost use Rattle.loops.specs.Loops.{pendingSeen};
 ghost use Rattle.records.specs.Paths.{loopAt, appendAt, finishWith};
 use containers::Begun;
@@ -24,37 +23,11 @@ use containers::begin;
 use containers::key_of;
 use containers::whole_list;
 use containers::whole_map;
-use loops::Collected;
-use loops::Gather;
-use loops::Pending;
-use loops::Range;
-use loops::Step;
-use loops::add_run;
-use loops::collected_list;
-use loops::gather_items;
-use loops::range_of;
-use loops::step_of;
-=======
-ghost use Rattle.loops.specs.Loops.{pendingSeen};
-ghost use Rattle.records.specs.Paths.{loopAt, appendAt, finishWith};
-use containers::Begun;
-use containers::Entry;
-use containers::Key;
-use containers::Ready;
-use containers::add_element;
-use containers::add_entry;
-use containers::begin;
-use containers::key_of;
-use containers::whole_list;
-use containers::whole_map;
->>>>>>> 9ba6255f5cfbc0ef8667c62e89b603e637f5f477
 use joins::both::after_both;
 use joins::first::Next;
 use layout::readers::count_at;
 use layout::readers::end_at;
 use layout::readers::first_operand;
-<<<<<<< HEAD
-=======
 use loops::Collected;
 use loops::Gather;
 use loops::Pending;
@@ -65,7 +38,6 @@ use loops::collected_list;
 use loops::gather_items;
 use loops::range_of;
 use loops::step_of;
->>>>>>> 9ba6255f5cfbc0ef8667c62e89b603e637f5f477
 use machine::outcome::Error;
 use machine::outcome::Outcome;
 use machine::outcome::Used;

@@ -27,11 +27,7 @@ use Rattle.recursion.proofs.Appends.{AppendsLoop, no-append, append-end
 use Rattle.rooms.specs.Scope.{stored, absent}
 use Rattle.records.specs.Paths.{loopAt, appendAt}
 use Rattle.machine.specs.Machine.{machine}
-<<<<<<< HEAD
 use Rattle.loops.specs.Loops.{gatheredIn}
-=======
-use Rattle.loops.specs.Loops.{gatheredIn}
->>>>>>> 9ba6255f5cfbc0ef8667c62e89b603e637f5f477
 use Prim.Native.Nat.{ℕ, _<_}
 use borrow.Fn.Kinds.{In}
 use borrow.Fn.PlainCycle.{Measures, is, falls, and}
@@ -56,7 +52,6 @@ use Rattle.recursion.proofs.eval.+appends+comprehend+eval+finish+list_p
 use Rattle.recursion.proofs.eval.turns.Reads as turns
 use Rattle.recursion.proofs.eval.turns.Kinds as turns-kinds
 use Rattle.recursion.proofs.eval.+appends+comprehend+eval+finish+list_parts+map_parts+turns.Lts-turns as turns-lts
-<<<<<<< HEAD
 use Rattle.containers.proofs.add_element.Reads as add-element-reads
 use Rattle.containers.proofs.add_entry.Reads as add-entry-reads
 use Rattle.containers.proofs.begin.Reads as begin-reads
@@ -68,19 +63,6 @@ use Rattle.loops.proofs.collected_list.Reads as collected-list-reads
 use Rattle.loops.proofs.gather_items.Reads as gather-items-reads
 use Rattle.loops.proofs.range_of.Reads as range-of-reads
 use Rattle.loops.proofs.step_of.Reads as step-of-reads
-=======
-use Rattle.containers.proofs.add_element.Reads as add-element-reads
-use Rattle.containers.proofs.add_entry.Reads as add-entry-reads
-use Rattle.containers.proofs.begin.Reads as begin-reads
-use Rattle.containers.proofs.key_of.Reads as key-of-reads
-use Rattle.containers.proofs.whole_list.Reads as whole-list-reads
-use Rattle.containers.proofs.whole_map.Reads as whole-map-reads
-use Rattle.loops.proofs.add_run.Reads as add-run-reads
-use Rattle.loops.proofs.collected_list.Reads as collected-list-reads
-use Rattle.loops.proofs.gather_items.Reads as gather-items-reads
-use Rattle.loops.proofs.range_of.Reads as range-of-reads
-use Rattle.loops.proofs.step_of.Reads as step-of-reads
->>>>>>> 9ba6255f5cfbc0ef8667c62e89b603e637f5f477
 use Rattle.joins.proofs.both.after_both.Reads as after-both-reads
 use Rattle.layout.proofs.readers.count_at.Reads as count-at-reads
 use Rattle.layout.proofs.readers.end_at.Reads as end-at-reads
