@@ -10,8 +10,8 @@ use native.Mathlib.Omega.{arith}
 use lib.Dec.{ltb, eqb}
 use lib.ListN.{length, getD, take, drop, replicate, take-append-drop}
 use borrow.Author.Tests.{ltb-true, ltb-false, eqb-true, eqb-false}
-use Rattle.meaning.specs.Limits.{Counts, cut}
-use Rattle.meaning.specs.Errors.{Refusal, UnsoundBinding, Exhausted, refusalNumber}
+use Rattle.meaning.specs.Limits.{Counts}
+use Rattle.meaning.specs.Errors.{Refusal, UnsoundBinding, Exhausted}
 use Rattle.meaning.specs.Expr.{Expr}
 use Rattle.meaning.specs.Limited as Limited
 use Rattle.meaning.specs.Limited.{zeroCell, limited, cleared, roomsAfter}
@@ -47,7 +47,7 @@ use Rattle.reading.specs.Shown.{Shows}
 use Rattle.reading.proofs.Showing.{shows}
 use Rattle.answers.specs.declared.Answer.{Answer}
 use Rattle.answers.specs.declared.Answer.the-variants as Answer
-use Rattle.answers.specs.Evaluated.{accepted, evaluated}
+use Rattle.answers.specs.Evaluated.{accepted}
 use Rattle.answers.specs.Meant.{Told, told, toldBy, counted, countsIn, Says, limits, bound, meant, Evaluates}
 use Rattle.answers.specs.Alike.{Alike}
 
