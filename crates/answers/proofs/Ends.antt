@@ -4,7 +4,7 @@ use mathlib.Core.Path.{_≡_, refl}
 use mathlib.Core.List.{List}
 use Rattle.rooms.specs.declared.value.Value.{Value}
 use Rattle.rooms.specs.Rooms.{Rooms, rooms}
-use Rattle.rooms.specs.Building.{cellsCleared, bytesCleared}
+use Rattle.building.specs.Building.{cellsCleared, bytesCleared}
 use Rattle.machine.specs.declared.outcome.Used.{Used}
 use Rattle.machine.specs.declared.outcome.Error.{Error}
 use Rattle.machine.specs.declared.outcome.Limit.{Limit}
