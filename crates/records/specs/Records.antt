@@ -22,27 +22,27 @@ use Rattle.machine.specs.Literals.{literalValue, fieldValue, nameOut}
 use Rattle.machine.specs.Selection.{selectField}
 use Rattle.machine.specs.Calls.{called}
 use Rattle.machine.specs.Machine.{unaryOut, leftOf}
-use Rattle.rules.specs.declared.operators.Unary.{Unary}
-use Rattle.rules.specs.declared.operators.Unary.the-variants as Unary
-use Rattle.rules.specs.declared.operators.Fold.{Fold}
-use Rattle.rules.specs.declared.operators.Fold.the-variants as Fold
-use Rattle.rules.specs.declared.operators.Arith.{Arith}
-use Rattle.rules.specs.declared.operators.Arith.the-variants as Arith
-use Rattle.rules.specs.declared.operators.Comparison.{Comparison}
-use Rattle.rules.specs.declared.operators.Comparison.the-variants as Comparison
-use Rattle.rules.specs.declared.operators.Binary.{Binary}
-use Rattle.rules.specs.declared.operators.Binary.the-variants as Binary
-use Rattle.rules.specs.declared.operators.Function.{Function}
-use Rattle.rules.specs.declared.operators.Function.the-variants as Function
-use Rattle.rules.specs.declared.joins.Fixed.{Fixed}
-use Rattle.rules.specs.declared.joins.Fixed.the-variants as Fixed
+use Rattle.outcomes.specs.declared.operators.Unary.{Unary}
+use Rattle.outcomes.specs.declared.operators.Unary.the-variants as Unary
+use Rattle.outcomes.specs.declared.operators.Fold.{Fold}
+use Rattle.outcomes.specs.declared.operators.Fold.the-variants as Fold
+use Rattle.outcomes.specs.declared.operators.Arith.{Arith}
+use Rattle.outcomes.specs.declared.operators.Arith.the-variants as Arith
+use Rattle.outcomes.specs.declared.operators.Comparison.{Comparison}
+use Rattle.outcomes.specs.declared.operators.Comparison.the-variants as Comparison
+use Rattle.outcomes.specs.declared.operators.Binary.{Binary}
+use Rattle.outcomes.specs.declared.operators.Binary.the-variants as Binary
+use Rattle.outcomes.specs.declared.operators.Function.{Function}
+use Rattle.outcomes.specs.declared.operators.Function.the-variants as Function
+use Rattle.joins.specs.declared.first.Fixed.{Fixed}
+use Rattle.joins.specs.declared.first.Fixed.the-variants as Fixed
 use Rattle.records.specs.declared.records.Shape.{Shape}
 use Rattle.records.specs.declared.records.Shape.the-variants as Shape
-use Rattle.rules.specs.declared.joins.Next.{Next}
-use Rattle.rules.specs.declared.joins.Next.the-variants as Next
-use Rattle.rules.specs.Seen.{unarySeen, binarySeen, functionSeen}
-use Rattle.rules.specs.Decisions.{askedOf}
-use Rattle.rules.specs.Joins.{goNext, askNext, valueNext}
+use Rattle.joins.specs.declared.first.Next.{Next}
+use Rattle.joins.specs.declared.first.Next.the-variants as Next
+use Rattle.outcomes.specs.Seen.{unarySeen, binarySeen, functionSeen}
+use Rattle.outcomes.specs.Decisions.{askedOf}
+use Rattle.joins.specs.Joins.{goNext, askNext, valueNext}
 
 -- ---- literals and names
 
