@@ -9,10 +9,8 @@ ghost use Rattle.table.specs.Records.{Sound, exprOf, binaryOf};
 ghost use Rattle.machine.specs.Machine.{appendSum, appendStep};
 ghost use Rattle.gathering.specs.Loops.{foldsSeen};
 ghost use Rattle.records.specs.Paths.{placesAt, foldIn, pathOf, pathSeen, PathIn, itemsSeen, ItemsIn};
-use rooms::value::Value;
 use gathering::loops::Folds;
 use gathering::loops::is_empty_list;
-use outcomes::operators::Fold;
 use layout::kinds::BINARY;
 use layout::kinds::CONDITIONAL;
 use layout::kinds::LIST;
@@ -22,6 +20,8 @@ use layout::readers::first_operand;
 use layout::readers::kind_at;
 use layout::readers::number_at;
 use layout::readers::second_at;
+use outcomes::operators::Fold;
+use rooms::value::Value;
 
 // The names and the operands of a comprehension that its loop needs.
 pub struct Places {

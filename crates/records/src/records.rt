@@ -7,9 +7,6 @@ ghost use Rattle.table.specs.Records.{Sound, exprOf, unaryOf, binaryOf};
 ghost use Rattle.machine.specs.Literals.{fieldValue};
 ghost use Rattle.outcomes.specs.Seen.{unarySeen, binarySeen};
 ghost use Rattle.records.specs.Records.{callShape, shapeOf, firstAt, NextIn, nextOf};
-use machine::outcome::Outcome;
-use rooms::value::TextSpace;
-use rooms::value::Value;
 use joins::first::Fixed;
 use joins::first::Next;
 use joins::first::after_condition;
@@ -18,12 +15,6 @@ use joins::first::after_left;
 use joins::first::call;
 use joins::first::select;
 use joins::first::unary;
-use outcomes::operators::Arith;
-use outcomes::operators::Binary;
-use outcomes::operators::Comparison;
-use outcomes::operators::Fold;
-use outcomes::operators::Function;
-use outcomes::operators::Unary;
 use layout::kinds::BINARY;
 use layout::kinds::COMPREHENSION;
 use layout::kinds::CONDITIONAL;
@@ -37,6 +28,15 @@ use layout::readers::field_at;
 use layout::readers::first_operand;
 use layout::readers::kind_at;
 use layout::readers::number_at;
+use machine::outcome::Outcome;
+use outcomes::operators::Arith;
+use outcomes::operators::Binary;
+use outcomes::operators::Comparison;
+use outcomes::operators::Fold;
+use outcomes::operators::Function;
+use outcomes::operators::Unary;
+use rooms::value::TextSpace;
+use rooms::value::Value;
 
 // No accepted table has other numbers than these; any other reads as `!`, or as `==`.
 pub fn unary_of(number: u8) -> Unary

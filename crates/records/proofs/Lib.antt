@@ -1,0 +1,5 @@
+pub mod Numbered
+pub mod KindLaws
+pub mod Leaves
+pub mod Rows
+pub mod Looks
