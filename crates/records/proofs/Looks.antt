@@ -236,3 +236,19 @@ no-plus =
 pub plus : (a : ℕ) (m : Option ℕ) (items : Option Does) → sumTo a (binaryOf 8) m items ≡ cond (named a m) items none
 unfolding numbered binaries
 plus a m items = refl
+
+-- only `||` and `&&` fold
+abbrev NoFold : ℕ → Option Binary → Type 0
+NoFold n o = (n ≡ 1 → ⊥) → (n ≡ 2 → ⊥) → none ≡ foldIn (orElse equals o)
+
+pub no-fold : (n : ℕ) → NoFold n (numbered binaries n)
+unfolding binaries
+no-fold = by-number NoFold binaries (λ n g h. refl) (λ g h. absurd (g refl), (λ g h. absurd (h refl), (λ g h. refl, (λ g h. refl, (λ g h. refl, (λ g h. refl, (λ g h. refl, (λ g h. refl, (λ g h. refl, (λ g h. refl, (λ g h. refl, (λ g h. refl, (λ g h. refl, (λ g h. refl, (λ g h. refl, (λ g h. refl, (λ g h. refl, tt)))))))))))))))))
+
+pub or-fold : {n : ℕ} → n ≡ 1 → some Expr.Or ≡ foldIn (binaryOf n)
+unfolding numbered binaries
+or-fold e = rw e
+
+pub and-fold : {n : ℕ} → n ≡ 2 → some Expr.And ≡ foldIn (binaryOf n)
+unfolding numbered binaries
+and-fold e = rw e
