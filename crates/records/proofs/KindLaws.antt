@@ -56,14 +56,16 @@ pub record KindOf (e : Expr) (n : ℕ) : Type 0 where
   pub low : n < 7 → kindIn e ≡ 0
   pub high : 7 ≤ n → kindIn e ≡ n
   pub leaf : n < 8 → kindIn e < 8
+  pub below : kindIn e < 8 → n < 8
+  pub known : (m : ℕ) → 7 ≤ m → kindIn e ≡ m → n ≡ m
   pub other : (m : ℕ) → 7 ≤ m → (n ≡ m → ⊥) → kindIn e ≡ m → ⊥
 
 of-literal : (e : Expr) {n : ℕ} → n < 7 → kindIn e ≡ 0 → KindOf e n
-of-literal e h i = record { low = λ l. i; high = λ l. absurd (omega (arith, h, l)); leaf = λ l. omega (arith, i); other = λ m l f g. omega (arith, i, l, g) }
+of-literal e h i = record { low = λ l. i; high = λ l. absurd (omega (arith, h, l)); leaf = λ l. omega (arith, i); below = λ l. omega (arith, h); known = λ m l g. absurd (omega (arith, i, l, g)); other = λ m l f g. omega (arith, i, l, g) }
 
 of-other : (e : Expr) {n k : ℕ} → n ≡ k → 7 ≤ k → kindIn e ≡ k → KindOf e n
 of-other e b h i =
-    record { low = λ l. absurd (omega (arith, b, h, l)); high = λ l. i ∙ sym b; leaf = λ l. omega (arith, b, i, l); other = λ m l f g. f (b ∙ (sym i ∙ g)) }
+    record { low = λ l. absurd (omega (arith, b, h, l)); high = λ l. i ∙ sym b; leaf = λ l. omega (arith, b, i, l); below = λ l. omega (arith, b, i, l); known = λ m l g. b ∙ (sym i ∙ g); other = λ m l f g. f (b ∙ (sym i ∙ g)) }
 
 module _ (t x : List ℕ) (p : ℕ) (s : Sound t x p) where
   pub here-is : (k : ExprKind) → getD t p 0 ≡ kindByte k → exprOf t x p ≡ node t x p k
@@ -101,3 +103,27 @@ module _ (t x : List ℕ) (p : ℕ) (s : Sound t x p) where
 
   pub kind-here : KindOf (exprOf t x p) (getD t p 0)
   kind-here = let k = sound-kind t x p s in by-kind (k .0) (k .1)
+
+  leaf-by : (k : ExprKind) → getD t p 0 ≡ kindByte k → (getD t p 0 ≡ 8 → ⊥) → (getD t p 0 ≡ 9 → ⊥) → (getD t p 0 ≡ 10 → ⊥) → (getD t p 0 ≡ 11 → ⊥) →
+      (getD t p 0 ≡ 12 → ⊥) → (getD t p 0 ≡ 13 → ⊥) → (getD t p 0 ≡ 15 → ⊥) → (getD t p 0 ≡ 16 → ⊥) → getD t p 0 < 8
+  leaf-by nullKind b a1 a2 a3 a4 a5 a6 a7 a8 = omega (arith, b)
+  leaf-by boolKind b a1 a2 a3 a4 a5 a6 a7 a8 = omega (arith, b)
+  leaf-by intKind b a1 a2 a3 a4 a5 a6 a7 a8 = omega (arith, b)
+  leaf-by uintKind b a1 a2 a3 a4 a5 a6 a7 a8 = omega (arith, b)
+  leaf-by doubleKind b a1 a2 a3 a4 a5 a6 a7 a8 = omega (arith, b)
+  leaf-by stringKind b a1 a2 a3 a4 a5 a6 a7 a8 = omega (arith, b)
+  leaf-by bytesKind b a1 a2 a3 a4 a5 a6 a7 a8 = omega (arith, b)
+  leaf-by nameKind b a1 a2 a3 a4 a5 a6 a7 a8 = omega (arith, b)
+  leaf-by unaryKind b a1 a2 a3 a4 a5 a6 a7 a8 = absurd (a1 b)
+  leaf-by binaryKind b a1 a2 a3 a4 a5 a6 a7 a8 = absurd (a2 b)
+  leaf-by conditionalKind b a1 a2 a3 a4 a5 a6 a7 a8 = absurd (a3 b)
+  leaf-by selectKind b a1 a2 a3 a4 a5 a6 a7 a8 = absurd (a4 b)
+  leaf-by listKind b a1 a2 a3 a4 a5 a6 a7 a8 = absurd (a5 b)
+  leaf-by mapKind b a1 a2 a3 a4 a5 a6 a7 a8 = absurd (a6 b)
+  leaf-by comprehensionKind b a1 a2 a3 a4 a5 a6 a7 a8 = absurd (a7 b)
+  leaf-by functionKind b a1 a2 a3 a4 a5 a6 a7 a8 = absurd (a8 b)
+
+  -- of none of the kinds that have operands
+  pub leaf-here : (getD t p 0 ≡ 8 → ⊥) → (getD t p 0 ≡ 9 → ⊥) → (getD t p 0 ≡ 10 → ⊥) → (getD t p 0 ≡ 11 → ⊥) → (getD t p 0 ≡ 12 → ⊥) →
+      (getD t p 0 ≡ 13 → ⊥) → (getD t p 0 ≡ 15 → ⊥) → (getD t p 0 ≡ 16 → ⊥) → getD t p 0 < 8
+  leaf-here = let k = sound-kind t x p s in leaf-by (k .0) (k .1)

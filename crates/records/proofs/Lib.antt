@@ -4,4 +4,6 @@ pub mod Leaves
 pub mod Rows
 pub mod Looks
 pub mod Sights
+pub mod ShapeLaws
+pub mod Operands
 pub mod Comprehensions
