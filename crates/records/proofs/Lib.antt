@@ -6,4 +6,5 @@ pub mod Looks
 pub mod Sights
 pub mod ShapeLaws
 pub mod Operands
+pub mod NextLaws
 pub mod Comprehensions

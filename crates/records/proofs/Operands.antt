@@ -26,7 +26,8 @@ use Rattle.machine.specs.Views.{boolIn, optionalIn}
 use Rattle.machine.specs.Logic.{branch}
 use Rattle.machine.specs.Calls.{orValueOut}
 use Rattle.machine.specs.Machine as Machine
-use Rattle.machine.specs.Machine.{onLeft, machine}
+use Rattle.machine.specs.Machine.{onLeft, leftOf, machine}
+use Rattle.outcomes.specs.Seen.{binarySeen}
 use Rattle.outcomes.specs.declared.operators.Unary.{Unary}
 use Rattle.outcomes.specs.declared.operators.Binary.{Binary}
 use Rattle.outcomes.specs.declared.operators.Function.{Function}
@@ -115,9 +116,9 @@ ask-does (Outcome.Error e n u) p q s r k = refl
 ask-does (Outcome.Exhausted e u) p q s r k = refl
 
 -- the default before the Optional
-value-does : (x : Outcome) (limit p q : ℕ) (r : Rooms) (target : Used → Rooms → Res) →
-    onNext (valueNext x q) r (λ n w d. joinOf limit p Fixed.OrValue x (target w d .0) (target w d .1)) ≡
-    withValue x r (λ default w d. withValue (target w d .0) (target w d .1) (λ v u o. (orValueOut p default u o (optionalIn v), o)))
+value-does : (x : Outcome) (limit p q : ℕ) (r : Rooms) (target : ℕ → Used → Rooms → Res) →
+    onNext (valueNext x q) r (λ n w d. joinOf limit p Fixed.OrValue x (target n w d .0) (target n w d .1)) ≡
+    withValue x r (λ default w d. withValue (target q w d .0) (target q w d .1) (λ v u o. (orValueOut p default u o (optionalIn v), o)))
 value-does (Outcome.Value v u) limit p q r target = refl
 value-does (Outcome.Error e n u) limit p q r target = refl
 value-does (Outcome.Exhausted e u) limit p q r target = refl
@@ -142,6 +143,35 @@ module _ (t x : List ℕ) (p : ℕ) where
       (limit : ℕ) (s : Scope) (u : Used) (r : Rooms) → Machine.body t limit (exprOf t x p) s u r ≡ fixedDoes t x limit p (Fixed.Call f) s u r
   unfolding Machine.body
   call-does g f h i limit s u r = rw (i, sym h, function-back g)
+
+  module _ (limit : ℕ) (s : Scope) where
+    -- what follows the operand at q, whose outcome and rooms are these
+    abbrev then : Fixed → Res → ℕ → Used → Rooms → Res
+    then f a q w d =
+        let b : Res = machine t limit (exprOf t x q) s w d in
+        joinOf limit p f (a .0) (b .0) (b .1)
+
+  binary-does : (m : Expr.Binary) (o : Binary) → binarySeen o ≡ m →
+      exprOf t x p ≡ Expr.binary p m (exprOf t x (p + 4)) (exprOf t x (after t (p + 4))) → (limit : ℕ) (s : Scope) (u : Used) (r : Rooms) →
+      Machine.body t limit (exprOf t x p) s u r ≡ fixedDoes t x limit p (Fixed.Binary o) s u r
+  unfolding Machine.body
+  binary-does m o h i limit s u r =
+      let a : Res = machine t limit (exprOf t x (p + 4)) s u r in
+      rw (i, sym h) (sym (go-does (leftOf (binarySeen o) (a .0)) (after t (p + 4)) (a .0) (a .1) (λ q w d. then limit s (Fixed.Binary o) a q w d)))
+
+  conditional-does : exprOf t x p ≡ Expr.conditional p (exprOf t x (p + 3)) (exprOf t x (after t (p + 3))) (exprOf t x (after t (after t (p + 3)))) →
+      (limit : ℕ) (s : Scope) (u : Used) (r : Rooms) → Machine.body t limit (exprOf t x p) s u r ≡ fixedDoes t x limit p Fixed.Conditional s u r
+  unfolding Machine.body
+  conditional-does i limit s u r =
+      let a : Res = machine t limit (exprOf t x (p + 3)) s u r in
+      rw i (sym (ask-does (a .0) p (after t (p + 3)) (after t (after t (p + 3))) (a .1) (λ q w d. then limit s Fixed.Conditional a q w d)))
+
+  or-value-does : exprOf t x p ≡ Expr.orValue p (exprOf t x (p + 4)) (exprOf t x (after t (p + 4))) →
+      (limit : ℕ) (s : Scope) (u : Used) (r : Rooms) → Machine.body t limit (exprOf t x p) s u r ≡ fixedDoes t x limit p Fixed.OrValue s u r
+  unfolding Machine.body
+  or-value-does i limit s u r =
+      let a : Res = machine t limit (exprOf t x (after t (p + 4))) s u r in
+      rw i (sym (value-does (a .0) limit p (p + 4) (a .1) (λ q w d. machine t limit (exprOf t x q) s w d)))
 
   -- ---- each shape
 
@@ -178,8 +208,8 @@ module _ (t x : List ℕ) (p : ℕ) where
           operand = k .one;
           first = k .one;
           smaller = omega (arith, k .extents);
-          next = λ limit y r q u h. go-at (λ n. Sound t x n × (wordAt t (n + 1) < wordAt t (p + 1))) _ (after t (p + 4)) y (k .two, omega (arith, k .extents)) h;
-          does = λ limit c u r. rw (k .is, sym g, binary-back m) (sym (go-does _ _ _ _ _));
+          next = λ limit y r q u h. go-at (λ n. Sound t x n × (wordAt t (n + 1) < wordAt t (p + 1))) (leftOf (binarySeen o) y) (after t (p + 4)) y (k .two, omega (arith, k .extents)) h;
+          does = binary-does m o (sym (ap binarySeen g) ∙ binary-back m) (k .is);
         }
 
     conditional-fixed : shapeOf (exprOf t x p) ≡ Shape.Operands Fixed.Conditional → FixedAt t x p Fixed.Conditional
@@ -195,7 +225,7 @@ module _ (t x : List ℕ) (p : ℕ) where
           smaller = omega (arith, k .extents);
           next = λ limit y r q u h. ask-at (λ n. Sound t x n × (wordAt t (n + 1) < wordAt t (p + 1))) (askedOf p y) (after t (p + 3)) (after t (after t (p + 3)))
               (k .then, omega (arith, k .extents)) (k .else, omega (arith, k .extents)) h;
-          does = λ limit c u r. rw (k .is) (sym (ask-does _ _ _ _ _ _));
+          does = conditional-does (k .is);
         }
 
     select-fixed : (y : Bool) → shapeOf (exprOf t x p) ≡ Shape.Operands (Fixed.Select y) → FixedAt t x p (Fixed.Select y)
@@ -247,7 +277,7 @@ module _ (t x : List ℕ) (p : ℕ) where
           first = row .1 .0;
           smaller = omega (arith, row .1 .1);
           next = λ limit o r q u h. value-at (λ n. Sound t x n × (wordAt t (n + 1) < wordAt t (p + 1))) o (p + 4) (row .0, omega (arith, row .1 .1)) h;
-          does = λ limit c u r. rw (k .is, d) (sym (value-does _ limit p (p + 4) _ (λ w z. machine t limit (exprOf t x (p + 4)) c w z)));
+          does = or-value-does (k .is ∙ ap (λ (c : Option Called). callOf t x p c) d);
         }
 
     pub fixed-at : (f : Fixed) → shapeOf (exprOf t x p) ≡ Shape.Operands f → FixedAt t x p f

@@ -1,0 +1,21 @@
+use Rattle.meaning.specs.Kinds.{numbered, unaries}
+use Rattle.records.proofs.ShapeLaws.{no-unary}
+use borrow.Author.Needs.{needs}
+use Rattle.records.proofs.records.unary_of.Statement.{statement}
+use Rattle.records.proofs.records.unary_of.Tie as tie
+use Rattle.records.proofs.records.unary_of.Reads as reads
+use Rattle.records.proofs.records.unary_of.Lts as lts
+
+returns : tie.Need-returns
+unfolding numbered unaries
+returns c = rw (c .match .keys1)
+
+returns-2 : tie.Need-returns-2
+unfolding numbered unaries
+returns-2 c = rw (c .match .keys2)
+
+returns-3 : tie.Need-returns-3
+returns-3 c = no-unary (c .before .args .number) (c .match .rest .0 .1) (c .match .rest .1)
+
+pub unary-of-spec : {M : Type 1} → statement M
+unary-of-spec = tie.close (tie.spec returns returns-2 returns-3)
