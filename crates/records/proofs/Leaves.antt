@@ -2,16 +2,20 @@
 use Prim.Native.Nat.{ℕ, zero, suc, _+_, _≤_, _<_}
 use mathlib.Core.Path.{_≡_, refl, sym, _∙_, ap}
 use mathlib.Core.Bool.{Bool, true, false, cond}
-use mathlib.Core.List.{List}
+use mathlib.Core.List.{List, [], _∷_}
 use native.Mathlib.Omega.{arith}
 use lib.Dec.{ltb, eqb}
 use borrow.Author.Tests.{lt-ltb, le-ltb, eqb-true}
 use Rattle.layout.proofs.WordLaws.{word-is}
 use Rattle.layout.proofs.KindLaws.{head-is}
 use lib.ListN.{getD}
+use types.Run.{OneOf, miss}
+use denote.Enum.Declared.{tagOf}
 use Rattle.meaning.specs.Expr.{Expr, literal, name, unary, binary, conditional, select, listOf, mapOf, comprehension, call, noneCall, orValue}
 use Rattle.meaning.specs.Kinds.{nameKind}
 use Rattle.rooms.specs.declared.value.Value.{Value}
+use Rattle.rooms.specs.declared.value.Value.the-variants as Value
+use Rattle.rooms.proofs.value.Value.{the-type}
 use Rattle.rooms.specs.declared.scope.Scope.{Scope}
 use Rattle.rooms.specs.Rooms.{Rooms}
 use Rattle.rooms.specs.Scope.{slotOf}
@@ -139,3 +143,19 @@ only-null (suc (suc (suc (suc zero)))) h a b c d e f = absurd (d refl)
 only-null (suc (suc (suc (suc (suc zero))))) h a b c d e f = absurd (e refl)
 only-null (suc (suc (suc (suc (suc (suc zero)))))) h a b c d e f = absurd (f refl)
 only-null (suc (suc (suc (suc (suc (suc (suc n))))))) h a b c d e f = absurd (omega (arith, h))
+
+-- a slot that is not absent
+pub name-has : (p : ℕ) (v : Value) (u : Used) → OneOf (0 ∷ 1 ∷ 2 ∷ 3 ∷ 4 ∷ 5 ∷ 6 ∷ 7 ∷ 8 ∷ 9 ∷ 10 ∷ 11 ∷ []) (tagOf the-type v) → Outcome.Value v u ≡ nameOut p v u
+name-has p Value.Null u h = refl
+name-has p (Value.Bool b) u h = refl
+name-has p (Value.Int z) u h = refl
+name-has p (Value.Uint n) u h = refl
+name-has p (Value.Double x) u h = refl
+name-has p (Value.Nan b) u h = refl
+name-has p (Value.String s a n) u h = refl
+name-has p (Value.Bytes s a n) u h = refl
+name-has p (Value.List d s a n) u h = refl
+name-has p (Value.Map d s a n) u h = refl
+name-has p Value.OptionalNone u h = refl
+name-has p (Value.OptionalOf d s a) u h = refl
+name-has p Value.Absent u h = absurd (miss (0 ∷ 1 ∷ 2 ∷ 3 ∷ 4 ∷ 5 ∷ 6 ∷ 7 ∷ 8 ∷ 9 ∷ 10 ∷ 11 ∷ []) 12 tt h)

@@ -64,19 +64,8 @@ fn named(v: Value, at: usize, used: Used) -> Outcome
     ensures { λ r. ⌜ r ≡ nameOut at v used ⌝ }
 {
     match v {
-        Value::Null => Outcome::Value(Value::Null, used),
-        Value::Bool(b) => Outcome::Value(Value::Bool(b), used),
-        Value::Int(z) => Outcome::Value(Value::Int(z), used),
-        Value::Uint(n) => Outcome::Value(Value::Uint(n), used),
-        Value::Double(x) => Outcome::Value(Value::Double(x), used),
-        Value::Nan(b) => Outcome::Value(Value::Nan(b), used),
-        Value::String(s, a, n) => Outcome::Value(Value::String(s, a, n), used),
-        Value::Bytes(s, a, n) => Outcome::Value(Value::Bytes(s, a, n), used),
-        Value::List(d, s, a, n) => Outcome::Value(Value::List(d, s, a, n), used),
-        Value::Map(d, s, a, n) => Outcome::Value(Value::Map(d, s, a, n), used),
-        Value::OptionalNone => Outcome::Value(Value::OptionalNone, used),
-        Value::OptionalOf(d, s, a) => Outcome::Value(Value::OptionalOf(d, s, a), used),
         Value::Absent => Outcome::Error(Error::UndeclaredReference, at, used),
+        _ => Outcome::Value(v, used),
     }
 }
 

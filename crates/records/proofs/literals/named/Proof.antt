@@ -1,143 +1,18 @@
-use mir.Syntax.{w64}
-use mir.ValLaws.{toZ-ofZ}
-use borrow.Author.Needs.{sfits-of}
+use Rattle.records.proofs.Leaves.{name-has}
 use borrow.Author.Needs.{needs}
 use Rattle.records.proofs.literals.named.Statement.{statement}
 use Rattle.records.proofs.literals.named.Tie as tie
 use Rattle.records.proofs.literals.named.Reads as reads
 use Rattle.records.proofs.literals.named.Lts as lts
 
--- src/literals.rt:67:39
 enum-told : tie.Need-enum-told
 enum-told c = search needs
 
--- src/literals.rt:68:21
-enum-known-v : tie.Need-enum-known-v
-enum-known-v c = search needs
-
--- src/literals.rt:69:20
-enum-known-v-2 : tie.Need-enum-known-v-2
-enum-known-v-2 c = search needs
-
--- src/literals.rt:70:21
-enum-known-v-3 : tie.Need-enum-known-v-3
-enum-known-v-3 c = search needs
-
--- src/literals.rt:71:23
-enum-known-v-4 : tie.Need-enum-known-v-4
-enum-known-v-4 c = search needs
-
--- src/literals.rt:72:20
-enum-known-v-5 : tie.Need-enum-known-v-5
-enum-known-v-5 c = search needs
-
--- src/literals.rt:73:23
-enum-known-v-6 : tie.Need-enum-known-v-6
-enum-known-v-6 c = search needs
-
--- src/literals.rt:74:22
-enum-known-v-7 : tie.Need-enum-known-v-7
-enum-known-v-7 c = search needs
-
--- src/literals.rt:75:21
-enum-known-v-8 : tie.Need-enum-known-v-8
-enum-known-v-8 c = search needs
-
--- src/literals.rt:76:20
-enum-known-v-9 : tie.Need-enum-known-v-9
-enum-known-v-9 c = search needs
-
--- src/literals.rt:77:47
-enum-told-2 : tie.Need-enum-told-2
-enum-told-2 c = search needs
-
--- src/literals.rt:78:27
-enum-known-v-10 : tie.Need-enum-known-v-10
-enum-known-v-10 c = search needs
-
--- src/literals.rt:79:41
-enum-told-3 : tie.Need-enum-told-3
-enum-told-3 c = search needs
-
--- src/literals.rt:63:1
 returns : tie.Need-returns
 returns c = simp (c .enum-told .given .1)
 
--- src/literals.rt:63:1
 returns-2 : tie.Need-returns-2
-returns-2 c = simp (c .before .v .given .1)
-
--- src/literals.rt:63:1
-returns-3 : tie.Need-returns-3
-returns-3 c = rw (toZ-ofZ w64 (c .before .v2 .given .0 .0) (sfits-of (c .known-told2 .given .0 .1))) (simp (c .before .v2 .given .1))
-
--- src/literals.rt:63:1
-returns-4 : tie.Need-returns-4
-returns-4 c = simp (c .before .v3 .given .1)
-
--- src/literals.rt:63:1
-returns-5 : tie.Need-returns-5
-returns-5 c = simp (c .before .v4 .given .1)
-
--- src/literals.rt:63:1
-returns-6 : tie.Need-returns-6
-returns-6 c = simp (c .before .v5 .given .1)
-
--- src/literals.rt:63:1
-returns-7 : tie.Need-returns-7
-returns-7 c = simp (c .before .v6 .given .1)
-
--- src/literals.rt:63:1
-returns-8 : tie.Need-returns-8
-returns-8 c = simp (c .before .v7 .given .1)
-
--- src/literals.rt:63:1
-returns-9 : tie.Need-returns-9
-returns-9 c = simp (c .before .v8 .given .1)
-
--- src/literals.rt:63:1
-returns-10 : tie.Need-returns-10
-returns-10 c = simp (c .before .v9 .given .1)
-
--- src/literals.rt:63:1
-returns-11 : tie.Need-returns-11
-returns-11 c = simp (c .enum-told2 .given .1)
-
--- src/literals.rt:63:1
-returns-12 : tie.Need-returns-12
-returns-12 c = simp (c .before .v10 .given .1)
-
--- src/literals.rt:63:1
-returns-13 : tie.Need-returns-13
-returns-13 c = simp (c .enum-told3 .given .1)
+returns-2 c = name-has (c .before .args .at) (c .before .args .v) (c .before .args .used) (c .match .keys2)
 
 pub named-spec : {M : Type 1} → statement M
-named-spec =
-    tie.close
-    (tie.spec
-    enum-told
-    enum-known-v
-    enum-known-v-2
-    enum-known-v-3
-    enum-known-v-4
-    enum-known-v-5
-    enum-known-v-6
-    enum-known-v-7
-    enum-known-v-8
-    enum-known-v-9
-    enum-told-2
-    enum-known-v-10
-    enum-told-3
-    returns
-    returns-2
-    returns-3
-    returns-4
-    returns-5
-    returns-6
-    returns-7
-    returns-8
-    returns-9
-    returns-10
-    returns-11
-    returns-12
-    returns-13)
+named-spec = tie.close (tie.spec enum-told returns returns-2)
