@@ -1,7 +1,7 @@
 -- A comprehension: its operands and names, and what the machine does with them, the append path told apart as the code tells it.
 -- Assumes nothing.
-use Prim.Native.Nat.{ℕ, zero, suc, _+_, _≤_, _<_}
-use mathlib.Core.Path.{_≡_, refl, sym, _∙_, ap}
+use Prim.Native.Nat.{ℕ, _+_, _≤_, _<_}
+use mathlib.Core.Path.{_≡_, refl}
 use mathlib.Core.Bool.{Bool, true, false, cond, _&&_}
 use mathlib.Core.List.{List}
 use mathlib.Core.Option.{Option, none, some}
@@ -20,7 +20,6 @@ use Rattle.table.specs.Records.{exprOf, Sound}
 use Rattle.table.proofs.Opened.{opened}
 use Rattle.table.proofs.FieldLaws.{name-below}
 use Rattle.machine.specs.declared.outcome.Used.{Used}
-use Rattle.machine.specs.Outcomes.{Does}
 use Rattle.machine.specs.Comprehension.{Items, Loop, AppendStep, emptyParts, turns, appendTurns, nothingGathered, loopFrom, comprehends}
 use Rattle.machine.specs.Machine.{body, machine, appendStep}
 use Rattle.records.specs.declared.paths.Places.{Places}

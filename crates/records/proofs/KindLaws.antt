@@ -12,7 +12,7 @@ use Rattle.layout.proofs.KindLaws.{head-table}
 use Rattle.table.specs.Records.{exprOf, Sound, SoundPart, kindByte, callOf, node}
 use Rattle.table.proofs.HeadLaws.{Here}
 use Rattle.table.proofs.SoundLaws.{sound-here, part-here}
-use Rattle.table.proofs.Opened.{Opened, opened}
+use Rattle.table.proofs.Opened.{opened}
 use Rattle.table.proofs.Parts.{sound-kind}
 
 -- ---- the place of an accepted record

@@ -1,13 +1,11 @@
 -- What a comprehension sees of an operand, by the kind of its record: a literal, a name, a fold, the append path. Assumes nothing.
-use Prim.Native.Nat.{ℕ, zero, suc, _+_, _≤_, _<_}
-use mathlib.Core.Path.{_≡_, refl, sym, _∙_, ap}
+use Prim.Native.Nat.{ℕ, _+_}
+use mathlib.Core.Path.{_≡_, refl}
 use mathlib.Core.Bool.{Bool, true, false, cond}
 use mathlib.Core.List.{List}
 use mathlib.Core.Option.{Option, none, some}
 use native.Mathlib.Omega.{arith}
-use lib.Dec.{eqb, ltb}
-use lib.ListN.{getD, getElem?}
-use borrow.Author.Tests.{lt-ltb}
+use lib.Dec.{eqb}
 use Rattle.meaning.specs.Value.{Values}
 use Rattle.meaning.specs.Run.{Eval}
 use Rattle.meaning.specs.Comprehension.{Scope, Meaning}
@@ -18,8 +16,7 @@ use Rattle.meaning.specs.Look.{Look, aFold, aSum, aConditional, arithLook, bina
 use Rattle.meaning.specs.Meaning.{look}
 use Rattle.table.specs.Records.{orElse, binaryOf}
 use Rattle.machine.specs.Outcomes.{Does}
-use Rattle.machine.specs.Comprehension.{AppendStep}
-use Rattle.machine.specs.Machine.{body, machine, appending, sumTo, addedTo, appendStep, appendSum, itemsList}
+use Rattle.machine.specs.Machine.{body, machine, appending, sumTo, appendStep, appendSum, itemsList}
 use Rattle.records.specs.Paths.{foldIn}
 use Rattle.records.proofs.KindLaws.{kindIn}
 use Rattle.records.proofs.Numbered.{by-number}

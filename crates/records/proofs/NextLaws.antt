@@ -33,7 +33,7 @@ use Rattle.records.specs.Records.{shapeOf, firstAt, nextOf, stopped, Nex
 use Rattle.records.proofs.KindLaws.{sound-stands}
 use Rattle.records.proofs.ShapeLaws.{shape-byte}
 use Rattle.records.proofs.Sights.{conditional-at}
-use Rattle.records.proofs.Operands.{headOf, FixedAt, fixed-at}
+use Rattle.records.proofs.Operands.{headOf, fixed-at}
 
 -- ---- places
 

@@ -15,9 +15,8 @@ use Rattle.rooms.specs.declared.scope.Scope.{Scope}
 use Rattle.rooms.specs.Rooms.{Rooms}
 use Rattle.layout.specs.Layout.{headBytes, wordAt, after}
 use Rattle.table.specs.declared.records.Marks.the-variants.{Nowhere}
-use Rattle.table.specs.Shapes.{calledCount}
 use Rattle.table.specs.Records.{exprOf, Sound, Row, unaryOf, binaryOf, callOf}
-use Rattle.table.proofs.Opened.{Opened, opened}
+use Rattle.table.proofs.Opened.{opened}
 use Rattle.machine.specs.declared.outcome.Used.{Used}
 use Rattle.machine.specs.declared.outcome.Outcome.{Outcome}
 use Rattle.machine.specs.declared.outcome.Outcome.the-variants as Outcome
@@ -42,8 +41,7 @@ use Rattle.joins.specs.Joins.{goNext, askNext, valueNext, joinOf, onNext}
 use Rattle.records.specs.declared.records.Shape.{Shape}
 use Rattle.records.specs.declared.records.Shape.the-variants as Shape
 use Rattle.records.specs.Records.{unaryShape, binaryShape, functionShape, shapeOf, firstAt, nextOf}
-use Rattle.records.proofs.KindLaws.{here-is}
-use Rattle.records.proofs.ShapeLaws.{unary-back, binary-back, function-back, shapeKind, shape-byte}
+use Rattle.records.proofs.ShapeLaws.{unary-back, binary-back, function-back, shape-byte}
 use Rattle.records.proofs.Sights.{binary-at, conditional-at}
 
 -- from the record's place to its first operand

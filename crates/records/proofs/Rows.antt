@@ -1,8 +1,8 @@
 -- The elements of a List record and the entries of a Map record, one at a time: where the next stands, what it is, and that it is smaller
 -- than its record. Assumes nothing.
 use Prim.Native.Nat.{ℕ, zero, suc, _+_, _-_, _*_, _≤_, _<_}
-use mathlib.Core.Path.{_≡_, refl, sym, _∙_, ap}
-use mathlib.Core.Bool.{Bool, true, false, cond}
+use mathlib.Core.Path.{_≡_, refl, _∙_, ap}
+use mathlib.Core.Bool.{Bool, true, false}
 use mathlib.Core.List.{List}
 use native.Mathlib.Omega.{arith}
 use native.Mathlib.Numerals.{sub-one}
@@ -20,11 +20,10 @@ use Rattle.table.specs.Records.{exprOf, partOf, Sound, SoundPart, Row, elements
 use Rattle.table.proofs.Opened.{opened}
 use Rattle.table.proofs.Parts.{part-marked, part-bare, part-extent, sound-extent, row-within, first-element, first-pair}
 use Rattle.machine.specs.declared.outcome.Used.{Used}
-use Rattle.machine.specs.Outcomes.{Does, taking}
+use Rattle.machine.specs.Outcomes.{taking}
 use Rattle.machine.specs.Containers as Containers
 use Rattle.machine.specs.Machine.{body, elements, entries, machine}
 use Rattle.records.specs.Records.{unmarkedAt}
-use Rattle.records.proofs.KindLaws.{here-is}
 
 -- ---- an operand that may be marked
 

@@ -26,7 +26,6 @@ use Rattle.outcomes.specs.declared.operators.Comparison.the-variants as Compari
 use Rattle.outcomes.specs.declared.operators.Binary.{Binary}
 use Rattle.outcomes.specs.declared.operators.Binary.the-variants as Binary
 use Rattle.outcomes.specs.declared.operators.Function.{Function}
-use Rattle.outcomes.specs.declared.operators.Function.the-variants as Function
 use Rattle.outcomes.specs.Seen.{foldSeen, arithSeen, comparisonSeen, unarySeen, binarySeen, functionSeen}
 use Rattle.joins.specs.declared.first.Fixed.{Fixed}
 use Rattle.joins.specs.declared.first.Fixed.the-variants as Fixed
@@ -34,7 +33,7 @@ use Rattle.records.specs.declared.records.Shape.{Shape}
 use Rattle.records.specs.declared.records.Shape.the-variants as Shape
 use Rattle.records.specs.Records.{unaryShape, foldShape, arithShape, comparisonShape, binaryShape, functionShape, calledShape, callShape, shapeOf}
 use Rattle.records.proofs.Numbered.{by-number}
-use Rattle.records.proofs.KindLaws.{kindIn, kind-here, here-is, leaf-here}
+use Rattle.records.proofs.KindLaws.{kindIn, kind-here, here-is}
 
 -- ---- the code's operators and the definition's, there and back
 

@@ -1,5 +1,5 @@
 -- What a comprehension sees of the record at a place: a name, a literal, a fold, and the append path. Assumes nothing.
-use Prim.Native.Nat.{ℕ, zero, suc, _+_, _≤_, _<_}
+use Prim.Native.Nat.{ℕ, _+_, _≤_, _<_}
 use mathlib.Core.Path.{_≡_, refl, sym, _∙_, ap}
 use mathlib.Core.Bool.{Bool, true, false, cond}
 use mathlib.Core.List.{List}
@@ -16,7 +16,7 @@ use Rattle.layout.specs.Layout.{headBytes, wordAt, after}
 use Rattle.table.specs.Records.{exprOf, Sound, binaryOf}
 use Rattle.table.proofs.Opened.{opened}
 use Rattle.machine.specs.Outcomes.{Does}
-use Rattle.machine.specs.Comprehension.{AppendStep, emptyParts}
+use Rattle.machine.specs.Comprehension.{emptyParts}
 use Rattle.rooms.specs.declared.value.Value.{Value}
 use Rattle.rooms.specs.Value.{partsOf}
 use Rattle.machine.specs.Machine.{body, machine, appending, sumTo, appendStep, appendSum, itemsList}

@@ -1,33 +1,24 @@
+-- `literals::leaf_value` meets its contract. Assumes nothing.
+use mathlib.Core.Path.{sym, _∙_}
 use native.Mathlib.Omega.{arith}
-use mathlib.Core.Path.{_≡_, sym, _∙_, ap}
+use borrow.Author.Needs.{needs}
 use Rattle.records.proofs.KindLaws.{sound-stands}
 use Rattle.records.proofs.Leaves.{name-gives, literal-gives}
-use borrow.Author.Needs.{needs}
 use Rattle.records.proofs.literals.leaf_value.Statement.{statement}
 use Rattle.records.proofs.literals.leaf_value.Tie as tie
-use Rattle.records.proofs.literals.leaf_value.Reads as reads
-use Rattle.records.proofs.literals.leaf_value.Lts as lts
-use Rattle.layout.proofs.readers.kind_at.Reads as kind-at-reads
-use Rattle.records.proofs.literals.literal_at.Reads as literal-at-reads
-use Rattle.records.proofs.literals.named.Reads as named-reads
 
--- src/literals.rt:107:9
 kind-at-requires : tie.Need-kind-at-requires
 kind-at-requires c κs = sound-stands (c .before .before .args .table .now) (c .before .before .args .literal .now) (c .before .before .args .at) (c .before .before .pre .0) .here
 
--- src/literals.rt:110:9
 named-requires : tie.Need-named-requires
 named-requires c κs = search needs
 
--- src/literals.rt:110:9
 returns : tie.Need-returns
 returns c = c .named .ensures ∙ sym (name-gives (c .before .before .before .before .before .args .table .now) (c .before .before .before .before .before .args .literal .now) (c .before .before .before .before .before .args .at) (c .before .before .before .before .before .pre .0) (sym (c .before .before .kind-at .ensures) ∙ c .before .if1 .taken) (c .before .before .before .before .before .args .slot .value) (c .before .before .before .before .before .args .used))
 
--- src/literals.rt:112:20
 literal-at-requires : tie.Need-literal-at-requires
 literal-at-requires c κs = let h = c .before .before .before .before .pre .1 in let k = c .before .kind-at .ensures in let n = c .if1 .left in (c .before .before .before .before .pre .0, sym k, omega (arith, h, k, n))
 
--- src/literals.rt:103:1
 returns-2 : tie.Need-returns-2
 returns-2 c = let h = c .before .before .before .before .before .pre .1 in let k = c .before .before .kind-at .ensures in let n = c .before .if1 .left in rw (c .literal-at .ensures) (sym (literal-gives (c .before .before .before .before .before .args .table .now) (c .before .before .before .before .before .args .literal .now) (c .before .before .before .before .before .args .at) (c .before .before .before .before .before .pre .0) (omega (arith, h, k, n)) (c .before .before .before .before .before .args .slot .value) (c .before .before .before .before .before .args .used)))
 

@@ -1,9 +1,8 @@
-use Rattle.records.proofs.Leaves.{name-has}
+-- `literals::named` meets its contract. Assumes nothing.
 use borrow.Author.Needs.{needs}
+use Rattle.records.proofs.Leaves.{name-has}
 use Rattle.records.proofs.literals.named.Statement.{statement}
 use Rattle.records.proofs.literals.named.Tie as tie
-use Rattle.records.proofs.literals.named.Reads as reads
-use Rattle.records.proofs.literals.named.Lts as lts
 
 enum-told : tie.Need-enum-told
 enum-told c = search needs

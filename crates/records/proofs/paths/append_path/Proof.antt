@@ -1,15 +1,10 @@
-use mathlib.Core.Path.{_≡_, sym, _∙_}
+-- `paths::append_path` meets its contract. Assumes nothing.
+use mathlib.Core.Path.{sym, _∙_}
 use borrow.Author.Tests.{not-true, not-false}
-use Rattle.records.proofs.Sights.{path-not-empty, path-no-literal, path-other-result, path-open}
 use borrow.Author.Needs.{needs}
+use Rattle.records.proofs.Sights.{path-not-empty, path-no-literal, path-other-result, path-open}
 use Rattle.records.proofs.paths.append_path.Statement.{statement}
 use Rattle.records.proofs.paths.append_path.Tie as tie
-use Rattle.records.proofs.paths.append_path.Reads as reads
-use Rattle.records.proofs.paths.append_path.Lts as lts
-use Rattle.gathering.proofs.loops.is_empty_list.Reads as is-empty-list-reads
-use Rattle.records.proofs.paths.append_step.Reads as append-step-reads
-use Rattle.records.proofs.paths.is_literal.Reads as is-literal-reads
-use Rattle.records.proofs.paths.is_name.Reads as is-name-reads
 
 is-empty-list-requires : tie.Need-is-empty-list-requires
 is-empty-list-requires c κs = search needs

@@ -1,14 +1,10 @@
-use Rattle.records.proofs.KindLaws.{sound-stands}
-use mathlib.Core.Path.{_≡_, sym, _∙_}
-use Rattle.records.proofs.Sights.{step-found, step-unlisted}
+-- `paths::append_step` meets its contract. Assumes nothing.
+use mathlib.Core.Path.{sym, _∙_}
 use borrow.Author.Needs.{needs}
+use Rattle.records.proofs.KindLaws.{sound-stands}
+use Rattle.records.proofs.Sights.{step-found, step-unlisted}
 use Rattle.records.proofs.paths.append_step.Statement.{statement}
 use Rattle.records.proofs.paths.append_step.Tie as tie
-use Rattle.records.proofs.paths.append_step.Reads as reads
-use Rattle.records.proofs.paths.append_step.Lts as lts
-use Rattle.layout.proofs.readers.kind_at.Reads as kind-at-reads
-use Rattle.records.proofs.paths.guarded_step.Reads as guarded-step-reads
-use Rattle.records.proofs.paths.items_of.Reads as items-of-reads
 
 kind-at-requires : tie.Need-kind-at-requires
 kind-at-requires c κs = sound-stands (c .before .before .args .table .now) (c .before .before .args .literal .now) (c .before .before .args .step) (c .before .before .pre) .here

@@ -1,9 +1,7 @@
+-- `paths::fold_of` meets its contract. Assumes nothing.
 use Rattle.records.proofs.Looks.{or-fold, and-fold, no-fold}
-use borrow.Author.Needs.{needs}
 use Rattle.records.proofs.paths.fold_of.Statement.{statement}
 use Rattle.records.proofs.paths.fold_of.Tie as tie
-use Rattle.records.proofs.paths.fold_of.Reads as reads
-use Rattle.records.proofs.paths.fold_of.Lts as lts
 
 returns : tie.Need-returns
 returns c = or-fold (c .match .keys1)

@@ -1,19 +1,13 @@
-use Rattle.records.proofs.KindLaws.{sound-stands}
+-- `paths::folds_at` meets its contract. Assumes nothing.
 use Prim.Native.Nat.{ℕ}
-use mathlib.Core.Path.{_≡_, sym, _∙_, ap}
+use mathlib.Core.Path.{sym, _∙_, ap}
+use borrow.Author.Needs.{needs}
 use Rattle.table.specs.Records.{binaryOf}
 use Rattle.records.specs.Paths.{foldIn}
+use Rattle.records.proofs.KindLaws.{sound-stands}
 use Rattle.records.proofs.Sights.{binary-at, fold-unseen, fold-taken, fold-left}
-use borrow.Author.Needs.{needs}
 use Rattle.records.proofs.paths.folds_at.Statement.{statement}
 use Rattle.records.proofs.paths.folds_at.Tie as tie
-use Rattle.records.proofs.paths.folds_at.Reads as reads
-use Rattle.records.proofs.paths.folds_at.Lts as lts
-use Rattle.layout.proofs.readers.first_operand.Reads as first-operand-reads
-use Rattle.layout.proofs.readers.kind_at.Reads as kind-at-reads
-use Rattle.layout.proofs.readers.number_at.Reads as number-at-reads
-use Rattle.records.proofs.paths.fold_of.Reads as fold-of-reads
-use Rattle.records.proofs.paths.is_name.Reads as is-name-reads
 
 kind-at-requires : tie.Need-kind-at-requires
 kind-at-requires c κs = sound-stands (c .before .before .args .table .now) (c .before .before .args .literal .now) (c .before .before .args .step) (c .before .before .pre) .here

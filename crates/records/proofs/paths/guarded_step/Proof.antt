@@ -1,17 +1,12 @@
-use Rattle.records.proofs.KindLaws.{sound-stands}
+-- `paths::guarded_step` meets its contract. Assumes nothing.
 use Prim.Native.Nat.{_+_}
-use mathlib.Core.Path.{_≡_, sym, _∙_}
+use mathlib.Core.Path.{sym, _∙_}
 use borrow.Author.Tests.{not-true, not-false}
-use Rattle.records.proofs.Sights.{conditional-at, then-sound, guard-sound, guard-missing, guard-unlisted, guard-found}
 use borrow.Author.Needs.{needs}
+use Rattle.records.proofs.KindLaws.{sound-stands}
+use Rattle.records.proofs.Sights.{conditional-at, then-sound, guard-sound, guard-missing, guard-unlisted, guard-found}
 use Rattle.records.proofs.paths.guarded_step.Statement.{statement}
 use Rattle.records.proofs.paths.guarded_step.Tie as tie
-use Rattle.records.proofs.paths.guarded_step.Reads as reads
-use Rattle.records.proofs.paths.guarded_step.Lts as lts
-use Rattle.layout.proofs.readers.end_at.Reads as end-at-reads
-use Rattle.layout.proofs.readers.first_operand.Reads as first-operand-reads
-use Rattle.records.proofs.paths.is_name.Reads as is-name-reads
-use Rattle.records.proofs.paths.items_of.Reads as items-of-reads
 
 first-operand-requires : tie.Need-first-operand-requires
 first-operand-requires c κs = let h = sound-stands (c .before .before .args .table .now) (c .before .before .args .literal .now) (c .before .before .args .step) (c .before .before .pre .0) in (h .here, h .known)

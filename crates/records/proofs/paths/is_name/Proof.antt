@@ -1,15 +1,12 @@
-use Rattle.records.proofs.KindLaws.{sound-stands}
-use mathlib.Core.Path.{_≡_, sym, _∙_}
+-- `paths::is_name` meets its contract. Assumes nothing.
+use mathlib.Core.Path.{sym, _∙_}
+use borrow.Author.Needs.{needs}
 use Rattle.meaning.specs.Kinds.{nameKind}
 use Rattle.table.proofs.Opened.{opened}
+use Rattle.records.proofs.KindLaws.{sound-stands}
 use Rattle.records.proofs.Sights.{name-seen, name-unseen}
-use borrow.Author.Needs.{needs}
 use Rattle.records.proofs.paths.is_name.Statement.{statement}
 use Rattle.records.proofs.paths.is_name.Tie as tie
-use Rattle.records.proofs.paths.is_name.Reads as reads
-use Rattle.records.proofs.paths.is_name.Lts as lts
-use Rattle.layout.proofs.readers.kind_at.Reads as kind-at-reads
-use Rattle.layout.proofs.readers.number_at.Reads as number-at-reads
 
 kind-at-requires : tie.Need-kind-at-requires
 kind-at-requires c κs = sound-stands (c .before .before .args .table .now) (c .before .before .args .literal .now) (c .before .before .args .at) (c .before .before .pre) .here

@@ -1,19 +1,12 @@
-use borrow.Author.Tests.{not-true, not-false}
-use Rattle.records.proofs.KindLaws.{sound-stands}
+-- `paths::items_of` meets its contract. Assumes nothing.
 use Prim.Native.Nat.{ℕ, _+_}
-use mathlib.Core.Path.{_≡_, sym, _∙_, ap}
+use mathlib.Core.Path.{sym, _∙_, ap}
+use borrow.Author.Tests.{not-true, not-false}
 use Rattle.layout.specs.Layout.{after}
+use Rattle.records.proofs.KindLaws.{sound-stands}
 use Rattle.records.proofs.Sights.{binary-at, no-sum-here, other-sum, sum-to-another, items-found, items-missing}
-use borrow.Author.Needs.{needs}
 use Rattle.records.proofs.paths.items_of.Statement.{statement}
 use Rattle.records.proofs.paths.items_of.Tie as tie
-use Rattle.records.proofs.paths.items_of.Reads as reads
-use Rattle.records.proofs.paths.items_of.Lts as lts
-use Rattle.layout.proofs.readers.end_at.Reads as end-at-reads
-use Rattle.layout.proofs.readers.first_operand.Reads as first-operand-reads
-use Rattle.layout.proofs.readers.kind_at.Reads as kind-at-reads
-use Rattle.layout.proofs.readers.number_at.Reads as number-at-reads
-use Rattle.records.proofs.paths.is_name.Reads as is-name-reads
 
 kind-at-requires : tie.Need-kind-at-requires
 kind-at-requires c κs = sound-stands (c .before .before .args .table .now) (c .before .before .args .literal .now) (c .before .before .args .at) (c .before .before .pre) .here

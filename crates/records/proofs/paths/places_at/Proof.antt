@@ -1,18 +1,14 @@
-use Rattle.records.proofs.KindLaws.{sound-stands}
+-- `paths::places_at` meets its contract. Assumes nothing.
 use Prim.Native.Nat.{ℕ, _+_}
-use mathlib.Core.Path.{_≡_, sym, _∙_, ap}
+use mathlib.Core.Path.{_∙_, ap}
 use native.Mathlib.Omega.{arith}
+use borrow.Author.Needs.{needs}
 use Rattle.layout.specs.Layout.{after}
 use Rattle.records.specs.Paths.{placesAt}
+use Rattle.records.proofs.KindLaws.{sound-stands}
 use Rattle.records.proofs.Comprehensions.{comprehension-at, places-are}
-use borrow.Author.Needs.{needs}
 use Rattle.records.proofs.paths.places_at.Statement.{statement}
 use Rattle.records.proofs.paths.places_at.Tie as tie
-use Rattle.records.proofs.paths.places_at.Reads as reads
-use Rattle.records.proofs.paths.places_at.Lts as lts
-use Rattle.layout.proofs.readers.end_at.Reads as end-at-reads
-use Rattle.layout.proofs.readers.number_at.Reads as number-at-reads
-use Rattle.layout.proofs.readers.second_at.Reads as second-at-reads
 
 end-at-requires : tie.Need-end-at-requires
 end-at-requires c κs = let o = comprehension-at (c .before .before .args .table .now) (c .before .before .args .literal .now) (c .before .before .args .at) (c .before .before .pre .0) (c .before .before .pre .1) in rw (c .before .before .pre .2) (sound-stands (c .before .before .args .table .now) (c .before .before .args .literal .now) (after (c .before .before .args .table .now) (c .before .before .args .at + 5)) (o .init) .start)

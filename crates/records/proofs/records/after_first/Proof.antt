@@ -1,19 +1,9 @@
+-- `records::after_first` meets its contract. Assumes nothing.
+use borrow.Author.Needs.{needs}
 use Rattle.records.proofs.KindLaws.{sound-stands}
 use Rattle.records.proofs.NextLaws.{operand-start, operand-is, second-start, select-body, next-unary, next-binary, next-conditional, next-select, next-call, next-default}
-use borrow.Author.Needs.{needs}
 use Rattle.records.proofs.records.after_first.Statement.{statement}
 use Rattle.records.proofs.records.after_first.Tie as tie
-use Rattle.records.proofs.records.after_first.Reads as reads
-use Rattle.records.proofs.records.after_first.Lts as lts
-use Rattle.joins.proofs.first.after_condition.Reads as after-condition-reads
-use Rattle.joins.proofs.first.after_default.Reads as after-default-reads
-use Rattle.joins.proofs.first.after_left.Reads as after-left-reads
-use Rattle.joins.proofs.first.call.Reads as call-reads
-use Rattle.joins.proofs.first.select.Reads as select-reads
-use Rattle.joins.proofs.first.unary.Reads as unary-reads
-use Rattle.layout.proofs.readers.end_at.Reads as end-at-reads
-use Rattle.layout.proofs.readers.first_operand.Reads as first-operand-reads
-use Rattle.records.proofs.records.field_value.Reads as field-value-reads
 
 enum-known-fixed : tie.Need-enum-known-fixed
 enum-known-fixed c = search needs

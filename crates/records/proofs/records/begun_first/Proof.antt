@@ -1,12 +1,9 @@
+-- `records::begun_first` meets its contract. Assumes nothing.
+use borrow.Author.Needs.{needs}
 use Rattle.records.proofs.KindLaws.{sound-stands}
 use Rattle.records.proofs.NextLaws.{first-place, operand-start, default-place}
-use borrow.Author.Needs.{needs}
 use Rattle.records.proofs.records.begun_first.Statement.{statement}
 use Rattle.records.proofs.records.begun_first.Tie as tie
-use Rattle.records.proofs.records.begun_first.Reads as reads
-use Rattle.records.proofs.records.begun_first.Lts as lts
-use Rattle.layout.proofs.readers.end_at.Reads as end-at-reads
-use Rattle.layout.proofs.readers.first_operand.Reads as first-operand-reads
 
 enum-told : tie.Need-enum-told
 enum-told c = search needs

@@ -1,10 +1,8 @@
+-- `records::binary_of` meets its contract. Assumes nothing.
 use Rattle.meaning.specs.Kinds.{numbered, binaries}
 use Rattle.records.proofs.ShapeLaws.{no-binary}
-use borrow.Author.Needs.{needs}
 use Rattle.records.proofs.records.binary_of.Statement.{statement}
 use Rattle.records.proofs.records.binary_of.Tie as tie
-use Rattle.records.proofs.records.binary_of.Reads as reads
-use Rattle.records.proofs.records.binary_of.Lts as lts
 
 returns : tie.Need-returns
 unfolding numbered binaries

@@ -1,10 +1,8 @@
+-- `records::call_shape` meets its contract. Assumes nothing.
 use Rattle.meaning.specs.Kinds.{numbered, functions}
 use Rattle.records.proofs.ShapeLaws.{no-call}
-use borrow.Author.Needs.{needs}
 use Rattle.records.proofs.records.call_shape.Statement.{statement}
 use Rattle.records.proofs.records.call_shape.Tie as tie
-use Rattle.records.proofs.records.call_shape.Reads as reads
-use Rattle.records.proofs.records.call_shape.Lts as lts
 
 returns : tie.Need-returns
 unfolding numbered functions

@@ -1,12 +1,10 @@
+-- `records::field_value` meets its contract. Assumes nothing.
 use Prim.Native.Nat.{_+_}
 use native.Mathlib.Omega.{arith}
-use Rattle.records.proofs.Leaves.{word-fits, same-word}
 use borrow.Author.Needs.{needs}
+use Rattle.records.proofs.Leaves.{word-fits, same-word}
 use Rattle.records.proofs.records.field_value.Statement.{statement}
 use Rattle.records.proofs.records.field_value.Tie as tie
-use Rattle.records.proofs.records.field_value.Reads as reads
-use Rattle.records.proofs.records.field_value.Lts as lts
-use Rattle.layout.proofs.readers.field_at.Reads as field-at-reads
 
 field-at-requires : tie.Need-field-at-requires
 field-at-requires c κs = search needs

@@ -1,22 +1,16 @@
+-- `records::shape_at` meets its contract. Assumes nothing.
 use Prim.Native.Nat.{ℕ}
-use mathlib.Core.Path.{_≡_, sym, _∙_, ap}
+use mathlib.Core.Path.{sym, _∙_, ap}
 use native.Mathlib.Omega.{arith}
+use borrow.Author.Needs.{needs}
 use Rattle.meaning.specs.Kinds.{unaryKind, binaryKind, conditionalKind, selectKind, listKind, mapKind, comprehensionKind, functionKind}
 use Rattle.table.specs.Records.{unaryOf, binaryOf}
 use Rattle.table.proofs.Opened.{opened}
 use Rattle.records.specs.Records.{callShape}
 use Rattle.records.proofs.KindLaws.{sound-stands, leaf-here}
 use Rattle.records.proofs.ShapeLaws.{unary-here, binary-here, call-here, leaf-shape-here}
-use borrow.Author.Needs.{needs}
 use Rattle.records.proofs.records.shape_at.Statement.{statement}
 use Rattle.records.proofs.records.shape_at.Tie as tie
-use Rattle.records.proofs.records.shape_at.Reads as reads
-use Rattle.records.proofs.records.shape_at.Lts as lts
-use Rattle.layout.proofs.readers.kind_at.Reads as kind-at-reads
-use Rattle.layout.proofs.readers.number_at.Reads as number-at-reads
-use Rattle.records.proofs.records.binary_of.Reads as binary-of-reads
-use Rattle.records.proofs.records.call_shape.Reads as call-shape-reads
-use Rattle.records.proofs.records.unary_of.Reads as unary-of-reads
 
 kind-at-requires : tie.Need-kind-at-requires
 kind-at-requires c κs = sound-stands (c .before .before .args .table .now) (c .before .before .args .literal .now) (c .before .before .args .at) (c .before .before .pre) .here

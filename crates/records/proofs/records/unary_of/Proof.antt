@@ -1,10 +1,8 @@
+-- `records::unary_of` meets its contract. Assumes nothing.
 use Rattle.meaning.specs.Kinds.{numbered, unaries}
 use Rattle.records.proofs.ShapeLaws.{no-unary}
-use borrow.Author.Needs.{needs}
 use Rattle.records.proofs.records.unary_of.Statement.{statement}
 use Rattle.records.proofs.records.unary_of.Tie as tie
-use Rattle.records.proofs.records.unary_of.Reads as reads
-use Rattle.records.proofs.records.unary_of.Lts as lts
 
 returns : tie.Need-returns
 unfolding numbered unaries
