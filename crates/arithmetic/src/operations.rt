@@ -14,8 +14,6 @@ use rooms::value::Plain;
 use rooms::value::Value;
 use rooms::value::plain_of;
 
-// ---- by what the left operand is
-
 // No number on the left.
 fn other_arith(
     literal: &[u8],
@@ -66,8 +64,8 @@ pub fn arithmetic(
 ) -> Outcome
     ensures { λ r. ⌜ Gives r (now (literal .entry)) (now («binding_cells» .entry)) (now («binding_text» .entry)) (now (cells .exit)) (now (text .exit)) (arithmetic at (arithSeen operator) left right used (rooms (now (literal .entry)) (now («binding_cells» .entry)) (now («binding_text» .entry)) (now (cells .entry)) (now (text .entry)))) ⌝ }
 {
-    match plain_of(left) {
-        Plain::Null => other_arith(
+    let Plain::Number(n) = plain_of(left) else {
+        return other_arith(
             literal,
             binding_cells,
             binding_text,
@@ -78,67 +76,7 @@ pub fn arithmetic(
             right,
             at,
             used,
-        ),
-        Plain::Bool(_) => other_arith(
-            literal,
-            binding_cells,
-            binding_text,
-            cells,
-            text,
-            operator,
-            left,
-            right,
-            at,
-            used,
-        ),
-        Plain::Number(n) => number_arith(operator, n, right, at, used),
-        Plain::String(_, _, _) => other_arith(
-            literal,
-            binding_cells,
-            binding_text,
-            cells,
-            text,
-            operator,
-            left,
-            right,
-            at,
-            used,
-        ),
-        Plain::Bytes(_, _, _) => other_arith(
-            literal,
-            binding_cells,
-            binding_text,
-            cells,
-            text,
-            operator,
-            left,
-            right,
-            at,
-            used,
-        ),
-        Plain::OptionalNone => other_arith(
-            literal,
-            binding_cells,
-            binding_text,
-            cells,
-            text,
-            operator,
-            left,
-            right,
-            at,
-            used,
-        ),
-        Plain::Other => other_arith(
-            literal,
-            binding_cells,
-            binding_text,
-            cells,
-            text,
-            operator,
-            left,
-            right,
-            at,
-            used,
-        ),
-    }
+        );
+    };
+    number_arith(operator, n, right, at, used)
 }

@@ -20,8 +20,9 @@ use Rattle.machine.specs.declared.outcome.Error.the-variants as Error
 use Rattle.machine.specs.declared.outcome.Limit.the-variants as Limit
 use Rattle.machine.specs.declared.outcome.Outcome.{Outcome}
 use Rattle.machine.specs.declared.outcome.Outcome.the-variants as Outcome
-use Rattle.machine.specs.Outcomes.{withSteps, withCells}
+use Rattle.machine.specs.Outcomes.{Res, withSteps, withCells}
 use Rattle.machine.specs.Views.{isKey}
+use Rattle.machine.specs.Containers as Machine
 use Rattle.gathering.specs.declared.containers.Part.{Part}
 use Rattle.gathering.specs.declared.containers.Part.the-variants as Part
 use Rattle.gathering.specs.declared.containers.Begun.{Begun}
@@ -50,6 +51,11 @@ begunOf n count u w = (begunTo (takenOf (cellRoom w) (u .cells) count) n u, cell
 abbrev pub BegunIn : Begun → List ℕ → Begun × List ℕ → Type 0
 BegunIn b w m = _≡_ {A = Begun × List ℕ} (b, w) m
 
+-- goes on with the cells; Full is exhaustion
+abbrev pub onBegun : Begun → Used → Rooms → (Used → Rooms → Res) → Res
+onBegun (Begun.At first n w) u r k = k w r
+onBegun Begun.Full u r k = (Outcome.Exhausted Limit.Cells u, r)
+
 -- ---- an element
 
 abbrev pub grown : Ready → Value → Ready
@@ -73,6 +79,10 @@ keyedOf p (Outcome.Value v u) = keyedIf (isKey v) p v u
 keyedOf p (Outcome.Error e q u) = Key.Ends (Outcome.Error e q u)
 keyedOf p (Outcome.Exhausted x u) = Key.Ends (Outcome.Exhausted x u)
 
+abbrev pub onKey : Key → Rooms → (Value → Used → Rooms → Res) → Res
+onKey (Key.Is v u) r k = k v u r
+onKey (Key.Ends o) r k = (o, r)
+
 abbrev pub insertedIf : Found → ℕ → ℕ → Ready → Value → Value → Used → List ℕ → Entry × List ℕ
 insertedIf (Found.At c k) p base g key v u w = (Entry.Ends (Outcome.Error Error.DuplicateKey p (withSteps u k)), w)
 insertedIf (Found.Missing k) p base g key v u w =
@@ -88,3 +98,7 @@ enteredOf limit p base g key (some v) u r = insertedOf limit p base g key v u r
 
 abbrev pub EntryIn : Entry → List ℕ → Entry × List ℕ → Type 0
 EntryIn e w m = _≡_ {A = Entry × List ℕ} (e, w) m
+
+abbrev pub onEntry : Entry → Rooms → Machine.Filling → Res
+onEntry (Entry.Made g u) r next = next (g .count) (g .deep) u r
+onEntry (Entry.Ends o) r next = (o, r)

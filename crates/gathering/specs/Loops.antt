@@ -4,6 +4,7 @@ use mathlib.Core.Path.{_≡_}
 use mathlib.Core.Bool.{Bool, true, false}
 use mathlib.Core.List.{List}
 use mathlib.Core.Option.{Option, none, some}
+use lib.Dec.{eqb}
 use Rattle.meaning.specs.Expr.{LogicalFold}
 use Rattle.meaning.specs.Logic.{absorbs}
 use Rattle.rooms.specs.declared.value.Value.{Value}
@@ -114,3 +115,8 @@ gatherOf b w (Outcome.Exhausted x u) = (Gather.Ends (Outcome.Exhausted x u), w)
 
 abbrev pub GatherIn : Gather → List ℕ → Gather × List ℕ → Type 0
 GatherIn g w m = _≡_ {A = Gather × List ℕ} (g, w) m
+
+-- a turn's elements are one run more
+abbrev pub onGather : Gather → Gathered → Rooms → Machine.Gathering → Res
+onGather (Gather.Run a n d u) g r rest = rest (Machine.addRun (eqb n 0) g a n d) u r
+onGather (Gather.Ends o) g r rest = (o, r)

@@ -118,7 +118,7 @@ fn plain_step(outcome: Outcome) -> Step
     match outcome {
         Outcome::Value(v, used) => Step::Bind(v, used),
         Outcome::Error(error, place, used) => Step::Ends(Outcome::Error(error, place, used)),
-        Outcome::Exhausted(limit, used) => Step::Ends(Outcome::Exhausted(limit, used)),
+        Outcome::Exhausted(which, used) => Step::Ends(Outcome::Exhausted(which, used)),
     }
 }
 

@@ -21,8 +21,6 @@ use selection::comparison::is_in;
 use selection::index::index;
 use selection::index::optional_select;
 
-// ---- after the other one
-
 // Both operands are values, and the operator is none of logic.
 fn values(
     literal: &[u8],
@@ -157,9 +155,8 @@ fn after_right(
 ) -> Outcome
     ensures { λ r. ⌜ Gives r (now (literal .entry)) (now («binding_cells» .entry)) (now («binding_text» .entry)) (now (cells .exit)) (now (text .exit)) (rightOf limit at (binarySeen operator) left right used (rooms (now (literal .entry)) (now («binding_cells» .entry)) (now («binding_text» .entry)) (now (cells .entry)) (now (text .entry)))) ⌝ }
 {
-    match operator {
-        Binary::Logic(fold) => logic_right(fold, left, right, at, used),
-        Binary::Equals => both_values(
+    let Binary::Logic(fold) = operator else {
+        return both_values(
             literal,
             binding_cells,
             binding_text,
@@ -171,99 +168,9 @@ fn after_right(
             right,
             at,
             used,
-        ),
-        Binary::NotEquals => both_values(
-            literal,
-            binding_cells,
-            binding_text,
-            cells,
-            text,
-            limit,
-            operator,
-            left,
-            right,
-            at,
-            used,
-        ),
-        Binary::Index => both_values(
-            literal,
-            binding_cells,
-            binding_text,
-            cells,
-            text,
-            limit,
-            operator,
-            left,
-            right,
-            at,
-            used,
-        ),
-        Binary::OptionalIndex => both_values(
-            literal,
-            binding_cells,
-            binding_text,
-            cells,
-            text,
-            limit,
-            operator,
-            left,
-            right,
-            at,
-            used,
-        ),
-        Binary::OptionalSelect => both_values(
-            literal,
-            binding_cells,
-            binding_text,
-            cells,
-            text,
-            limit,
-            operator,
-            left,
-            right,
-            at,
-            used,
-        ),
-        Binary::Arithmetic(_) => both_values(
-            literal,
-            binding_cells,
-            binding_text,
-            cells,
-            text,
-            limit,
-            operator,
-            left,
-            right,
-            at,
-            used,
-        ),
-        Binary::Order(_) => both_values(
-            literal,
-            binding_cells,
-            binding_text,
-            cells,
-            text,
-            limit,
-            operator,
-            left,
-            right,
-            at,
-            used,
-        ),
-        Binary::In => both_values(
-            literal,
-            binding_cells,
-            binding_text,
-            cells,
-            text,
-            limit,
-            operator,
-            left,
-            right,
-            at,
-            used,
-        ),
-    }
+        );
+    };
+    logic_right(fold, left, right, at, used)
 }
 
 fn both_values(

@@ -195,6 +195,6 @@ pub(crate) fn tells(found: Outcome) -> Outcome
     match found {
         Outcome::Value(_, used) => truth_out(true, used),
         Outcome::Error(_, _, used) => truth_out(false, used),
-        Outcome::Exhausted(limit, used) => Outcome::Exhausted(limit, used),
+        Outcome::Exhausted(which, used) => Outcome::Exhausted(which, used),
     }
 }
