@@ -10,13 +10,7 @@ use lib.Dec.{eqb, ltb}
 use lib.ListN.{length, getD, replicate, length-replicate}
 use Rattle.rooms.specs.declared.value.Value.{Value}
 use Rattle.rooms.specs.declared.value.CellSpace.{CellSpace}
-use Rattle.rooms.specs.declared.value.Parts.{Parts}
-use Rattle.rooms.specs.declared.value.Parts.the-variants as Parts
-use Rattle.building.specs.declared.Taken.{Taken}
-use Rattle.building.specs.declared.Taken.the-variants as Taken
 use Rattle.rooms.specs.declared.scope.Scope.{Scope}
-use Rattle.rooms.specs.Value.{partsOf, nestingOf}
-use Rattle.building.specs.Building.{cellRoom, takenOf, cellsTaken, copied}
 use Rattle.rooms.specs.Rooms.{Rooms, rooms, wordsOf, cellAt}
 use Rattle.rooms.specs.Cells.{cellIn}
 use Rattle.rooms.specs.Scope.{stored, slotOf}
@@ -25,11 +19,10 @@ use Rattle.machine.specs.declared.outcome.Used.{Used}
 use Rattle.machine.specs.declared.outcome.Limit.the-variants as Limit
 use Rattle.machine.specs.declared.outcome.Outcome.{Outcome}
 use Rattle.machine.specs.declared.outcome.Outcome.the-variants as Outcome
-use Rattle.machine.specs.Outcomes.{Res, Does, withValue, withWords, withCells, onTaken, stepped}
+use Rattle.machine.specs.Outcomes.{Res, Does, withWords, stepped}
 use Rattle.machine.specs.Machine.{machine}
 use Rattle.records.specs.Records.{slotIn, leafStep}
 use Rattle.records.proofs.Leaves.{literal-gives, leaf-machine}
-use Rattle.machine.specs.Comprehension as Machine
 use Rattle.machine.specs.Comprehension.{Loop, AppendStep, Gathered, Gathering, asks, addRun, gathered, guarded, appendItems, appendTurns, nothingGathered}
 use Rattle.outcomes.specs.declared.logic.Asked.{Asked}
 use Rattle.outcomes.specs.declared.logic.Asked.the-variants as Asked
@@ -37,40 +30,12 @@ use Rattle.outcomes.specs.Decisions.{askedOf, onAsked}
 use Rattle.loops.specs.declared.Collected.{Collected}
 use Rattle.loops.specs.declared.Gather.{Gather}
 use Rattle.loops.specs.declared.Gather.the-variants as Gather
-use Rattle.loops.specs.Loops.{gatheredIn, gatherTo, gatherWords, gatherElements, gatherParts, gatherOf, GatherIn}
+use Rattle.loops.specs.Loops.{gatheredIn, gatherOf, GatherIn, onGather}
+use Rattle.loops.proofs.Looped.{items-as}
 use Rattle.records.specs.declared.paths.Places.{Places}
 use Rattle.records.specs.Paths.{loopAt, guardAt, appendAt}
 use Rattle.recursion.proofs.Stops.{Is, after-operand}
 use Rattle.recursion.proofs.Turns.{asked}
-
--- ---- an items list
-
-abbrev pub onGather : Gather → List ℕ → Gathered → Rooms → Gathering → Res
-onGather (Gather.Run first n d u) w g r k = k (addRun (eqb n 0) g first n d) u (withWords r w)
-onGather (Gather.Ends o) w g r k = (o, withWords r w)
-
-gather-to : (taken : Taken) (s : CellSpace) (a n d : ℕ) (g : Gathered) (u : Used) (r : Rooms) (words : List ℕ) (k : Gathering) →
-    onGather (gatherTo taken (u .cells) n d u) (gatherWords taken (r .bindingCells) s words a (u .cells) n) g r k ≡
-    onTaken taken (λ end. k (addRun (eqb n 0) g (u .cells) n d) (withCells u end) (withWords r (copied (r .bindingCells) s words a (u .cells) n)))
-    (Outcome.Exhausted Limit.Cells u, withWords r words)
-gather-to (Taken.To end) s a n d g u r words k = refl
-gather-to Taken.Full s a n d g u r words k = refl
-
-gather-by : (p : Parts) (v : Value) (g : Gathered) (u : Used) (r : Rooms) (k : Gathering) →
-    let y = gatherParts (r .bindingCells) (r .cells) v p u in
-    onGather (y .0) (y .1) g r k ≡ Machine.gatherParts v g p u r k
-gather-by (Parts.Elements s a n) v g u r k =
-    gather-to (takenOf (cellRoom (r .cells)) (u .cells) n) s a n (nestingOf v) g u r (cellsTaken (r .cells) (u .cells) n) k
-gather-by (Parts.Entries s a n) v g u r k = refl
-gather-by (Parts.Present s a) v g u r k = refl
-gather-by Parts.Nothing v g u r k = refl
-
-gathers : (o : Outcome) (g : Gathered) (r : Rooms) (k : Gathering) →
-    let y = gatherOf (r .bindingCells) (r .cells) o in
-    onGather (y .0) (y .1) g r k ≡ withValue o r (λ v w q. Machine.gatherParts v g (partsOf v) w q k)
-gathers (Outcome.Value v u) g r k = gather-by (partsOf v) v g u r k
-gathers (Outcome.Error e p u) g r k = refl
-gathers (Outcome.Exhausted x u) g r k = refl
 
 -- ---- a guard
 
@@ -184,20 +149,19 @@ module _ (c : Loop) (path : AppendStep) (space : CellSpace) (stride : ℕ) where
           rest : Gathering
           rest k y′ q′ = appendTurns c path space stride (n - 1) (at + stride) k scope y′ q′
 
-          this-list : onGather k cells g z″ (λ k y′ q′. onward scope k y′ q′) ≡ all
+          this-list : onGather k g (withWords z″ cells) (λ k y′ q′. onward scope k y′ q′) ≡ all
           this-list =
-              ap (λ (y : Gather × List ℕ). onGather (y .0) (y .1) g z″ (λ k y′ q′. onward scope k y′ q′)) made ∙
-              (gathers o″ g z″ (λ k y′ q′. onward scope k y′ q′) ∙
+              sym (items-as g (z″ .literal) (z″ .bindingCells) (z″ .bindingText) (z″ .cells) (z″ .text) (λ k y′ q′. onward scope k y′ q′) o″ made) ∙
               (sym (after-operand (path .items scope y z′) items _) ∙
-              (ap (λ b. onAsked b z′ (λ y q. appendItems path g scope y q (λ k y′ q′. onward scope k y′ q′)) (λ y q. onward scope g y q)) (sym way) ∙ this-guard)))
+              (ap (λ b. onAsked b z′ (λ y q. appendItems path g scope y q (λ k y′ q′. onward scope k y′ q′)) (λ y q. onward scope g y q)) (sym way) ∙ this-guard))
 
           pub list-ends : {e : Outcome} → k ≡ Gather.Ends e → Is e (withWords z″ cells) all
-          list-ends last = ap (λ k. onGather k cells g z″ (λ k y′ q′. onward scope k y′ q′)) (sym last) ∙ this-list
+          list-ends last = ap (λ k. onGather k g (withWords z″ cells) (λ k y′ q′. onward scope k y′ q′)) (sym last) ∙ this-list
 
           pub list-again : {first m d : ℕ} {y′ : Used} → k ≡ Gather.Run first m d y′ → {g′ : Gathered} → g′ ≡ addRun (eqb m 0) g first m d →
               onward scope g′ y′ (withWords z″ cells) ≡ all
           list-again {y′ = y′} last run =
-              ap (λ g′. onward scope g′ y′ (withWords z″ cells)) run ∙ (ap (λ k. onGather k cells g z″ (λ k y′ q′. onward scope k y′ q′)) (sym last) ∙ this-list)
+              ap (λ g′. onward scope g′ y′ (withWords z″ cells)) run ∙ (ap (λ k. onGather k g (withWords z″ cells) (λ k y′ q′. onward scope k y′ q′)) (sym last) ∙ this-list)
 
 -- ---- turns that go on, wherever the operands stand that this path does not use
 

@@ -21,8 +21,8 @@ use Rattle.machine.specs.declared.outcome.Used.{Used}
 use Rattle.machine.specs.declared.outcome.Error.the-variants as Error
 use Rattle.machine.specs.declared.outcome.Outcome.{Outcome}
 use Rattle.machine.specs.declared.outcome.Outcome.the-variants as Outcome
-use Rattle.machine.specs.Outcomes.{Res, Does}
-use Rattle.machine.specs.Comprehension.{Items, Loop, AppendStep, itemsParts, onItems, emptyParts, turns, appendTurns, nothingGathered, loopFrom}
+use Rattle.machine.specs.Outcomes.{Res}
+use Rattle.machine.specs.Comprehension.{Items, AppendStep, itemsParts, onItems, emptyParts, turns, appendTurns, nothingGathered, loopFrom}
 use Rattle.machine.specs.Machine.{body, machine, appendStep}
 use Rattle.loops.specs.declared.Range.{Range}
 use Rattle.loops.specs.declared.Range.the-variants as Range

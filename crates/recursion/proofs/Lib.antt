@@ -5,6 +5,5 @@ pub mod Lists
 pub mod Maps
 pub mod Turns
 pub mod Appends
-pub mod Fixed
 pub mod Evals
 pub mod Comprehends

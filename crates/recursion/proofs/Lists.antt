@@ -7,7 +7,6 @@ use mathlib.Core.Option.{Option, none, some}
 use native.Mathlib.Omega.{arith}
 use lib.Dec.{eqb}
 use lib.ListN.{length, getD}
-use Rattle.meaning.specs.Expr.{Elements}
 use Rattle.rooms.specs.declared.value.Value.{Value}
 use Rattle.rooms.specs.declared.scope.Scope.{Scope}
 use Rattle.rooms.specs.Rooms.{Rooms, rooms}
@@ -21,20 +20,14 @@ use Rattle.machine.specs.declared.outcome.Outcome.the-variants as Outcome
 use Rattle.machine.specs.Outcomes.{Res, withWords}
 use Rattle.machine.specs.Views.{partIn}
 use Rattle.machine.specs.Containers as Containers
-use Rattle.machine.specs.Containers.{Filling, addElement, listDone}
+use Rattle.machine.specs.Containers.{Filling, listDone}
 use Rattle.machine.specs.Machine.{elements, machine}
 use Rattle.containers.specs.declared.Ready.{Ready}
 use Rattle.containers.specs.Filling.{addedOf, AddedIn}
+use Rattle.containers.proofs.Filled.{added}
 use Rattle.records.specs.Records.{unmarkedAt}
 use Rattle.records.proofs.Rows.{ElementsLeft, elements-next, element-does, list-at}
 use Rattle.recursion.proofs.Stops.{Is, Stops, stops-there, goes-on}
-
--- the parts that are stored, after one more
-pub added : (p : Option Value) (base : ℕ) (g : Ready) (z : Rooms) (w : Used) (next : Filling) {h : Ready} {cells : List ℕ} →
-    AddedIn h cells (addedOf base g p (z .cells)) →
-    next (h .count) (h .deep) w (withWords z cells) ≡ addElement base (g .count) (g .deep) p w z next
-added none base g z w next e = ap (λ (y : Ready × List ℕ). next (y .0 .count) (y .0 .deep) w (withWords z (y .1))) e
-added (some v) base g z w next e = ap (λ (y : Ready × List ℕ). next (y .0 .count) (y .0 .deep) w (withWords z (y .1))) e
 
 pub added-count : (p : Option Value) (base : ℕ) (g : Ready) (w : List ℕ) {h : Ready} {cells : List ℕ} → AddedIn h cells (addedOf base g p w) → h .count ≤ g .count + 1
 added-count none base g w e = omega (arith, ap (λ (y : Ready × List ℕ). y .0 .count) e)
@@ -69,7 +62,7 @@ module _ (t x : List ℕ) (limit base : ℕ) (c : Scope) where
         fromElement (n - 1) (after t q) k w (withWords z cells) ≡ fromElement n q g u r
     element-again {z = z} e {v} {w} is {b} m a =
         let f = rw m at a in
-        added (partIn z (eqb (getD t q 0) 14) v) base g z w (λ m d w o. elements t limit (elementsOf t x (n - 1) (after t q)) c base m d w o) f ∙
+        sym (added base w (z .literal) (z .bindingCells) (z .bindingText) (z .cells) (z .text) (λ m d w o. elements t limit (elementsOf t x (n - 1) (after t q)) c base m d w o) g (partIn z (eqb (getD t q 0) 14) v) f) ∙
         (goes-on does e is _ ∙ sym this-element)
 
 -- the loop over them: `left` elements are left of the record at p, from `place` on

@@ -1,7 +1,7 @@
 -- The entries of a Map record, one at a time: what follows a key and a value, over what the calls for them ensure. Assumes nothing.
-use Prim.Native.Nat.{ℕ, _+_, _-_, _*_, _<_, _≤_}
+use Prim.Native.Nat.{ℕ, _+_, _-_, _<_, _≤_}
 use mathlib.Core.Path.{_≡_, refl, sym, _∙_, ap, subst}
-use mathlib.Core.Bool.{Bool, true, false}
+use mathlib.Core.Bool.{Bool}
 use mathlib.Core.List.{List}
 use mathlib.Core.Option.{Option, none, some}
 use native.Mathlib.Omega.{arith}
@@ -21,57 +21,20 @@ use Rattle.table.proofs.Opened.{opened}
 use Rattle.machine.specs.declared.outcome.Used.{Used}
 use Rattle.machine.specs.declared.outcome.Outcome.{Outcome}
 use Rattle.machine.specs.declared.outcome.Outcome.the-variants as Outcome
-use Rattle.machine.specs.Outcomes.{Res, withWords, withValue, written, withSteps}
-use Rattle.machine.specs.Views.{isKey, partIn}
-use Rattle.machine.specs.Containers as Containers
-use Rattle.machine.specs.Containers.{Filling, ifKey, ifNew, addEntry, mapDone}
+use Rattle.machine.specs.Outcomes.{Res, withWords, withValue}
+use Rattle.machine.specs.Views.{partIn}
+use Rattle.machine.specs.Containers.{Filling, addEntry, mapDone}
 use Rattle.machine.specs.Machine.{entries, machine}
 use Rattle.containers.specs.declared.Ready.{Ready}
 use Rattle.containers.specs.declared.Key.{Key}
 use Rattle.containers.specs.declared.Key.the-variants as Key
 use Rattle.containers.specs.declared.Entry.{Entry}
 use Rattle.containers.specs.declared.Entry.the-variants as Entry
-use Rattle.containers.specs.Filling.{grown, keyedIf, keyedOf, insertedIf, enteredOf, EntryIn}
+use Rattle.containers.specs.Filling.{keyedOf, onKey, insertedIf, enteredOf, EntryIn, onEntry}
+use Rattle.containers.proofs.Filled.{keyed, entered}
 use Rattle.records.specs.Records.{unmarkedAt}
 use Rattle.records.proofs.Rows.{EntriesLeft, pairs-next, entry-does, map-at}
 use Rattle.recursion.proofs.Stops.{Is, Stops, after-operand, stops-there, goes-on}
-
--- ---- a key
-
-abbrev pub onKey : Key → Rooms → (Value → Used → Rooms → Res) → Res
-onKey (Key.Is v u) r k = k v u r
-onKey (Key.Ends o) r k = (o, r)
-
-key-by : (b : Bool) (p : ℕ) (v : Value) (u : Used) (r : Rooms) (k : Value → Used → Rooms → Res) →
-    ifKey b p u r (λ w q. k v w q) ≡ onKey (keyedIf b p v u) r k
-key-by true p v u r k = refl
-key-by false p v u r k = refl
-
-keyed : (o : Outcome) (p : ℕ) (r : Rooms) (k : Value → Used → Rooms → Res) →
-    withValue o r (λ v w q. ifKey (isKey v) p w q (λ w′ q′. k v w′ q′)) ≡ onKey (keyedOf p o) r k
-keyed (Outcome.Value v u) p r k = key-by (isKey v) p v u r k
-keyed (Outcome.Error e q u) p r k = refl
-keyed (Outcome.Exhausted x u) p r k = refl
-
--- ---- an entry
-
-abbrev pub onEntry : Entry → List ℕ → Rooms → Filling → Res
-onEntry (Entry.Made g u) w r next = next (g .count) (g .deep) u (withWords r w)
-onEntry (Entry.Ends o) w r next = (o, withWords r w)
-
-new-by : (f : Found) (p base : ℕ) (g : Ready) (key v : Value) (u : Used) (r : Rooms) (next : Filling) →
-    let y = insertedIf f p base g key v u (r .cells) in
-    onEntry (y .0) (y .1) r next ≡
-    ifNew f p u r (λ w. next (grown g v .count) (grown g v .deep) w (written (written r (base + g .count * 2) key) (base + g .count * 2 + 1) v))
-new-by (Found.At c k) p base g key v u r next = refl
-new-by (Found.Missing k) p base g key v u r next = refl
-new-by (Found.Out k) p base g key v u r next = refl
-
-pub entered : (part : Option Value) (limit p base : ℕ) (g : Ready) (key : Value) (u : Used) (r : Rooms) (next : Filling) →
-    let y = enteredOf limit p base g key part u r in
-    onEntry (y .0) (y .1) r next ≡ addEntry limit p base (g .count) (g .deep) key part u r next
-entered none limit p base g key u r next = refl
-entered (some v) limit p base g key u r next = new-by (findIn limit r key Cells.Evaluation base (g .count) (u .steps)) p base g key v u r next
 
 -- how many parts an entry leaves, if it is made
 abbrev AtMost : ℕ → Entry → Type 0
@@ -120,7 +83,7 @@ module _ (t x : List ℕ) (limit p base : ℕ) (c : Scope) where
     this-entry : {o : Outcome} {z : Rooms} → Is o z keyDoes → fromEntry n q g u r ≡ onKey (keyedOf p o) z onward
     this-entry {o} {z} e =
         rw (pairs-next t x n q h) (entry-does t limit c base (g .count) (g .deep) u r x (after t q) sound p (exprOf t x q) (pairsOf t x (n - 1) (after t (after t q)))) ∙
-        (after-operand keyDoes e _ ∙ keyed o p z onward)
+        (after-operand keyDoes e _ ∙ keyed p onward o z (keyedOf p o) refl)
 
     pub key-ends : {o : Outcome} {z : Rooms} → Is o z keyDoes → {e : Outcome} {k : Key} → k ≡ keyedOf p o → k ≡ Key.Ends e → Is e z (fromEntry n q g u r)
     key-ends {z = z} e a is = sym (this-entry e ∙ ap (λ k. onKey k z onward) (sym a ∙ is))
@@ -135,18 +98,18 @@ module _ (t x : List ℕ) (limit p base : ℕ) (c : Scope) where
 
       module _ {v : Value} {w′ : Used} (value : o′ ≡ Outcome.Value v w′) {b : Bool} (mark : b ≡ eqb (getD t (after t q) 0) 14)
           {y : Entry} {cells : List ℕ} (made : EntryIn y cells (enteredOf limit p base g key (partIn z′ b v) w′ z′)) where
-        this-value : onEntry y cells z′ rest ≡ fromEntry n q g u r
+        this-value : onEntry y (withWords z′ cells) rest ≡ fromEntry n q g u r
         this-value =
             let m = rw mark at made in
-            ap (λ (y : Entry × List ℕ). onEntry (y .0) (y .1) z′ rest) m ∙
-            (entered (partIn z′ (eqb (getD t (after t q) 0) 14) v) limit p base g key w′ z′ rest ∙ (goes-on (valueDoes w z) second value _ ∙ sym this-key))
+            sym (entered limit p base key w′ (z′ .literal) (z′ .bindingCells) (z′ .bindingText) (z′ .cells) (z′ .text) rest g
+            (partIn z′ (eqb (getD t (after t q) 0) 14) v) m) ∙ (goes-on (valueDoes w z) second value _ ∙ sym this-key)
 
         pub entry-ends : {e : Outcome} → y ≡ Entry.Ends e → Is e (withWords z′ cells) (fromEntry n q g u r)
-        entry-ends is = ap (λ y. onEntry y cells z′ rest) (sym is) ∙ this-value
+        entry-ends is = ap (λ y. onEntry y (withWords z′ cells) rest) (sym is) ∙ this-value
 
         pub entry-again : {g′ : Ready} {w″ : Used} → y ≡ Entry.Made g′ w″ →
             fromEntry (n - 1) (after t (after t q)) g′ w″ (withWords z′ cells) ≡ fromEntry n q g u r
-        entry-again is = ap (λ y. onEntry y cells z′ rest) (sym is) ∙ this-value
+        entry-again is = ap (λ y. onEntry y (withWords z′ cells) rest) (sym is) ∙ this-value
 
 -- the loop over them: `left` entries are left of the record at p, from `place` on
 pub record MapLoop (t x b y cells₀ text₀ : List ℕ) (limit p base count : ℕ) (c : Scope) (u₀ : Used) (cells text : List ℕ) (place left : ℕ) (u : Used) (g : Ready) : Type 0 where

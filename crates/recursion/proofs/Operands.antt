@@ -1,7 +1,7 @@
 -- An operand that the caller evaluates if it is a literal or a name, and `eval` if not: either way it gives what the machine gives.
 -- Assumes nothing.
 use Prim.Native.Nat.{ℕ, _<_}
-use mathlib.Core.Path.{_≡_, refl, sym, _∙_, ap}
+use mathlib.Core.Path.{_≡_, sym, _∙_, ap}
 use mathlib.Core.Bool.{Bool, true}
 use mathlib.Core.List.{List}
 use lib.Dec.{ltb}
@@ -16,7 +16,6 @@ use Rattle.rooms.proofs.Scopes.{read-slot}
 use Rattle.table.specs.Records.{exprOf, Sound}
 use Rattle.machine.specs.declared.outcome.Used.{Used}
 use Rattle.machine.specs.declared.outcome.Outcome.{Outcome}
-use Rattle.machine.specs.Outcomes.{Res}
 use Rattle.machine.specs.Machine.{machine}
 use Rattle.records.specs.Records.{leafKinds, slotIn, leafStep}
 use Rattle.records.proofs.Leaves.{leaf-machine}

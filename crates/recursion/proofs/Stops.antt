@@ -1,5 +1,5 @@
 -- A result and its rooms as one equation with what the machine does, and outcomes that are no value. Assumes nothing.
-use mathlib.Core.Path.{_≡_, refl, sym, _∙_, ap}
+use mathlib.Core.Path.{_≡_, sym, _∙_, ap}
 use mathlib.Core.List.{[], _∷_}
 use types.Run.{OneOf}
 use denote.Enum.Declared.{tagOf}
@@ -10,7 +10,7 @@ use Rattle.machine.specs.declared.outcome.Outcome.{Outcome}
 use Rattle.machine.specs.declared.outcome.Outcome.the-variants as Outcome
 use Rattle.machine.specs.Outcomes.{Res, withValue}
 use Rattle.machine.proofs.outcome.Outcome.{the-type}
-use Rattle.outcomes.proofs.Stops.{by-stop}
+use Rattle.outcomes.proofs.Stops.{goes-out}
 
 abbrev pub Is : Outcome → Rooms → Res → Type 0
 Is o z m = _≡_ {A = Res} (o, z) m
@@ -19,15 +19,12 @@ Is o z m = _≡_ {A = Res} (o, z) m
 abbrev pub Stops : Outcome → Type 0
 Stops o = OneOf (1 ∷ 2 ∷ []) (tagOf the-type o)
 
-pub handed-out : (o : Outcome) (z : Rooms) (k : Value → Used → Rooms → Res) → Stops o → withValue o z k ≡ (o, z)
-handed-out o z k h = by-stop (λ o. withValue o z k) (λ o. (o, z)) (λ e p u. refl) (λ x u. refl) o h
-
 -- what follows an operand, by what it came to
 pub after-operand : (m : Res) {o : Outcome} {z : Rooms} → Is o z m → (k : Value → Used → Rooms → Res) → withValue (m .0) (m .1) k ≡ withValue o z k
 after-operand m e k = ap (λ (y : Res). withValue (y .0) (y .1) k) (sym e)
 
 pub stops-there : (m : Res) {o : Outcome} {z : Rooms} → Is o z m → Stops o → (k : Value → Used → Rooms → Res) → Is o z (withValue (m .0) (m .1) k)
-stops-there m {o} {z} e h k = sym (after-operand m e k ∙ handed-out o z k h)
+stops-there m {o} {z} e h k = sym (after-operand m e k ∙ goes-out o z k h)
 
 pub goes-on : (m : Res) {o : Outcome} {z : Rooms} → Is o z m → {v : Value} {w : Used} → o ≡ Outcome.Value v w → (k : Value → Used → Rooms → Res) →
     k v w z ≡ withValue (m .0) (m .1) k

@@ -2,7 +2,6 @@
 -- Assumes nothing.
 use Prim.Native.Nat.{ℕ, zero, suc, _+_, _-_, _*_, _<_, _≤_}
 use mathlib.Core.Path.{_≡_, refl, sym, _∙_, ap}
-use mathlib.Core.Bool.{Bool, true, false}
 use mathlib.Core.List.{List}
 use mathlib.Core.Option.{Option, none, some}
 use native.Mathlib.Numerals.{sub-one}
@@ -13,7 +12,6 @@ use Rattle.layout.proofs.KindLaws.{head-table}
 use Rattle.table.specs.Records.{Sound}
 use Rattle.table.proofs.SoundLaws.{sound-here}
 use Rattle.meaning.specs.Expr.{LogicalFold}
-use Rattle.meaning.specs.Logic.{absorbs}
 use Rattle.rooms.specs.declared.value.Value.{Value}
 use Rattle.rooms.specs.declared.value.CellSpace.{CellSpace}
 use Rattle.rooms.specs.declared.scope.Scope.{Scope}
@@ -24,57 +22,28 @@ use Rattle.machine.specs.declared.outcome.Used.{Used}
 use Rattle.machine.specs.declared.outcome.Error.{Error}
 use Rattle.machine.specs.declared.outcome.Outcome.{Outcome}
 use Rattle.machine.specs.declared.outcome.Outcome.the-variants as Outcome
-use Rattle.machine.specs.Outcomes.{Res, Does, withValue}
-use Rattle.machine.specs.Views.{boolIn}
-use Rattle.machine.specs.Logic.{branch}
+use Rattle.machine.specs.Outcomes.{Res, Does}
 use Rattle.machine.specs.Comprehension as Machine
 use Rattle.machine.specs.Comprehension.{Loop, Binds, Holds, asks, finish, afterStep, turn, turns}
 use Rattle.outcomes.specs.declared.logic.Asked.{Asked}
 use Rattle.outcomes.specs.declared.logic.Asked.the-variants as Asked
-use Rattle.outcomes.specs.Decisions.{askedBool, askedOf, onAsked}
+use Rattle.outcomes.specs.Decisions.{askedOf, onAsked}
+use Rattle.outcomes.proofs.Asking.{asked-as}
 use Rattle.loops.specs.declared.Pending.{Pending}
 use Rattle.loops.specs.declared.Pending.the-variants as Pending
 use Rattle.loops.specs.declared.Step.{Step}
 use Rattle.loops.specs.declared.Step.the-variants as Step
-use Rattle.loops.specs.Loops.{pendingSeen, unlessCleared, stepOf, onStep}
+use Rattle.loops.specs.Loops.{pendingSeen, stepOf, onStep}
+use Rattle.loops.proofs.Looped.{step-as}
 use Rattle.records.specs.declared.paths.Places.{Places}
 use Rattle.records.specs.Paths.{loopAt, finishWith}
-use Rattle.recursion.proofs.Stops.{Is, after-operand}
+use Rattle.recursion.proofs.Stops.{Is}
 
 -- ---- a condition
 
-asked-by : (b : Option Bool) (p : ℕ) (u : Used) (z : Rooms) (holds fails : Used → Rooms → Res) →
-    branch p u z b holds fails ≡ onAsked (askedBool p u b) z holds fails
-asked-by none p u z holds fails = refl
-asked-by (some true) p u z holds fails = refl
-asked-by (some false) p u z holds fails = refl
-
-pub asked-of : (o : Outcome) (p : ℕ) (z : Rooms) (holds fails : Used → Rooms → Res) →
-    withValue o z (λ v u r. branch p u r (boolIn v) holds fails) ≡ onAsked (askedOf p o) z holds fails
-asked-of (Outcome.Value v u) p z holds fails = asked-by (boolIn v) p u z holds fails
-asked-of (Outcome.Error e q u) p z holds fails = refl
-asked-of (Outcome.Exhausted x u) p z holds fails = refl
-
 pub asked : (m : Res) (p : ℕ) {o : Outcome} {z : Rooms} → Is o z m → {a : Asked} → a ≡ askedOf p o → (holds fails : Used → Rooms → Res) →
     onAsked a z holds fails ≡ asks p m holds fails
-asked m p {o} {z} e f holds fails = ap (λ a. onAsked a z holds fails) f ∙ sym (after-operand m e _ ∙ asked-of o p z holds fails)
-
--- ---- a step
-
-cleared-by : (b : Bool) (held : Pending) (v : Value) (u : Used) (z : Rooms) (binds : Binds) (holds : Holds) →
-    onStep (unlessCleared b held v u) z binds holds ≡ Machine.unlessCleared b (pendingSeen held) v u z binds holds
-cleared-by true held v u z binds holds = refl
-cleared-by false held v u z binds holds = refl
-
-pub stepped-by : (fold : Option LogicalFold) (held : Pending) (o : Outcome) (z : Rooms) (binds : Binds) (holds : Holds) →
-    onStep (stepOf fold held o) z binds holds ≡ afterStep fold (pendingSeen held) o z binds holds
-stepped-by none held (Outcome.Value v u) z binds holds = refl
-stepped-by none held (Outcome.Error e p u) z binds holds = refl
-stepped-by none held (Outcome.Exhausted x u) z binds holds = refl
-stepped-by (some f) Pending.Nothing (Outcome.Value v u) z binds holds = refl
-stepped-by (some f) (Pending.Held e p) (Outcome.Value v u) z binds holds = cleared-by (absorbs f (boolIn v)) (Pending.Held e p) v u z binds holds
-stepped-by (some f) held (Outcome.Error e p u) z binds holds = refl
-stepped-by (some f) held (Outcome.Exhausted x u) z binds holds = refl
+asked m p {o} {z} e {a} f holds fails = sym (asked-as p holds fails (o, z) a f) ∙ ap (λ (m : Res). asks p m holds fails) e
 
 -- ---- the end
 
@@ -141,11 +110,10 @@ module _ (c : Loop) (space : CellSpace) (stride : ℕ) where
 
         this-step : onStep k z′ binds holds ≡ fromTurn n at held s u r
         this-step =
-            ap (λ k. onStep k z′ binds holds) (taken ∙ ap (λ f. stepOf f held o′) folds) ∙
-            (stepped-by (c .fold) held o′ z′ binds holds ∙
+            sym (step-as z′ binds holds (c .fold) held o′ k (taken ∙ ap (λ f. stepOf f held o′) folds)) ∙
             (ap (λ (y : Res). afterStep (c .fold) (pendingSeen held) (y .0) (y .1) binds holds) step ∙
             (ap (λ (v : Value). turn c v (pendingSeen held) (λ e t z o. turns c space stride (n - 1) (at + stride) e t z o) s w z) item-is ∙
-            (ap (λ a. onAsked a z inTurn atEnd) (sym is) ∙ this-turn))))
+            (ap (λ a. onAsked a z inTurn atEnd) (sym is) ∙ this-turn)))
 
         pub step-ends : {e : Outcome} → k ≡ Step.Ends e → Is e z′ (fromTurn n at held s u r)
         step-ends way = ap (λ k. onStep k z′ binds holds) (sym way) ∙ this-step

@@ -1,32 +1,6 @@
-use mathlib.Core.Logic.{⊎-elim}
-use mathlib.Core.Path.{_≡_, refl, ap, sym, _∙_}
-use Prim.Native.Nat.{_+_, _*_, _-_, _≤_}
-use native.Mathlib.Omega.{arith}
-use borrow.Author.Tests.{le-ltb, lt-ltb, ltb-true, ltb-false}
-use lib.Dec.{eqb}
-use lib.ListN.{length, getD, length-set}
-use Rattle.machine.specs.Views.{partIn}
-use Rattle.records.specs.Records.{unmarkedAt}
-use mathlib.Core.List.{List}
-use Rattle.rooms.specs.Rooms.{rooms}
-use Rattle.rooms.proofs.Scopes.{mapped-length}
-use Rattle.layout.specs.Layout.{wordAt, after}
-use Rattle.table.specs.Records.{exprOf, Sound}
-use Rattle.records.proofs.KindLaws.{sound-stands, part-stands}
-use Rattle.records.proofs.Rows.{list-at, map-at, element-next, entry-next}
-use Rattle.recursion.proofs.Lists.{ListLoop, list-begins, added-count, no-element, element-stops, element-again}
-use Rattle.recursion.proofs.Operands.{Came, leaf-here, came-leaf, came-record, leaf-does}
-use Rattle.recursion.proofs.Fixed.{FixedAt, fixed-at}
-use Rattle.recursion.proofs.Evals.{no-step, after-step, kind-fits, begun-places, leaf-is, none-is, list-full, list-is, map-full, map-is, stops-first, joins-both, second-at}
-use Rattle.records.proofs.Comprehensions.{comprehension-at}
-use Rattle.recursion.proofs.Comprehends.{init-stops, range-stops, no-range, turns-are, plain-are, guarded-are, condition-sound, step-sound, result-sound, accumulator-small, item-small, operands-smaller, plain-run, guarded-run}
-use Rattle.recursion.proofs.Maps.{MapLoop, map-begins, entered-count, no-entry, key-ends, value-stops, entry-ends, entry-again}
-use Rattle.recursion.proofs.Turns.{TurnsLoop, no-turn, turn-ends, turn-fails, step-ends, step-holds, step-binds, extent-least, turns-begin, turns-again, held-is, result-is}
-use Rattle.recursion.proofs.Appends.{AppendsLoop, no-append, append-ends, append-fails, guard-ends, guard-fails, list-ends, list-again, came-unguarded, came-guarded, literal-does, fails-again, gathers-again, run-added, appends-begin, appends-again}
-use Rattle.rooms.specs.Scope.{stored, absent}
-use Rattle.records.specs.Paths.{loopAt, appendAt}
-use Rattle.machine.specs.Machine.{machine}
-use Rattle.loops.specs.Loops.{gatheredIn}
+-- The measures of the cycle and what each member asks of its callees. Assumes nothing.
+use Prim.Native.Nat.{_+_, _*_}
+use Rattle.layout.specs.Layout.{wordAt}
 use Prim.Native.Nat.{ℕ, _<_}
 use borrow.Fn.Kinds.{In}
 use borrow.Fn.PlainCycle.{Measures, is, falls, and}
@@ -151,3 +125,163 @@ turns-at t = and 6 turns-kinds.ps (is 6 turns-kinds.ps μ-turns t) turns.Pre
 
 abbrev pub turns-below : ℕ → In 6 turns-kinds.ps
 turns-below t = and 6 turns-kinds.ps (falls 6 turns-kinds.ps _<_ μ-turns t) turns.Pre
+
+abbrev pub appends-claims : ℕ → appends-lts.Claims
+appends-claims t = (
+  leaf-reads.Asked,
+  leaf-reads.Learnt,
+  asks-reads.Asked,
+  asks-reads.Learnt,
+  collected-list-reads.Asked,
+  collected-list-reads.Learnt,
+  cell-at-reads.Asked,
+  cell-at-reads.Learnt,
+  eval-below t,
+  eval.Post,
+  gather-items-reads.Asked,
+  gather-items-reads.Learnt,
+  add-run-reads.Asked,
+  add-run-reads.Learnt,
+)
+
+abbrev pub comprehend-claims : ℕ → comprehend-lts.Claims
+comprehend-claims t = (
+  first-operand-reads.Asked,
+  first-operand-reads.Learnt,
+  end-at-reads.Asked,
+  end-at-reads.Learnt,
+  eval-below t,
+  eval.Post,
+  range-of-reads.Asked,
+  range-of-reads.Learnt,
+  places-at-reads.Asked,
+  places-at-reads.Learnt,
+  append-path-reads.Asked,
+  append-path-reads.Learnt,
+  turns-below t,
+  turns.Post,
+  appends-below t,
+  appends.Post,
+)
+
+abbrev pub eval-claims : ℕ → eval-lts.Claims
+eval-claims t = (
+  out-of-steps-reads.Asked,
+  out-of-steps-reads.Learnt,
+  stepped-reads.Asked,
+  stepped-reads.Learnt,
+  shape-at-reads.Asked,
+  shape-at-reads.Learnt,
+  slot-at-reads.Asked,
+  slot-at-reads.Learnt,
+  leaf-value-reads.Asked,
+  leaf-value-reads.Learnt,
+  count-at-reads.Asked,
+  count-at-reads.Learnt,
+  begin-reads.Asked,
+  begin-reads.Learnt,
+  out-of-cells-reads.Asked,
+  out-of-cells-reads.Learnt,
+  list-parts-below t,
+  list-parts.Post,
+  map-parts-below t,
+  map-parts.Post,
+  comprehend-below t,
+  comprehend.Post,
+  begun-first-reads.Asked,
+  begun-first-reads.Learnt,
+  is-leaf-reads.Asked,
+  is-leaf-reads.Learnt,
+  leaf-reads.Asked,
+  leaf-reads.Learnt,
+  eval-below t,
+  eval.Post,
+  after-first-reads.Asked,
+  after-first-reads.Learnt,
+  after-both-reads.Asked,
+  after-both-reads.Learnt,
+)
+
+abbrev pub finish-claims : ℕ → finish-lts.Claims
+finish-claims t = (
+  is-leaf-reads.Asked,
+  is-leaf-reads.Learnt,
+  slot-at-reads.Asked,
+  slot-at-reads.Learnt,
+  leaf-reads.Asked,
+  leaf-reads.Learnt,
+  eval-below t,
+  eval.Post,
+)
+
+abbrev pub list-parts-claims : ℕ → list-parts-lts.Claims
+list-parts-claims t = (
+  first-operand-reads.Asked,
+  first-operand-reads.Learnt,
+  is-marked-reads.Asked,
+  is-marked-reads.Learnt,
+  unmarked-reads.Asked,
+  unmarked-reads.Learnt,
+  is-leaf-reads.Asked,
+  is-leaf-reads.Learnt,
+  slot-at-reads.Asked,
+  slot-at-reads.Learnt,
+  leaf-reads.Asked,
+  leaf-reads.Learnt,
+  eval-below t,
+  eval.Post,
+  add-element-reads.Asked,
+  add-element-reads.Learnt,
+  end-at-reads.Asked,
+  end-at-reads.Learnt,
+  whole-list-reads.Asked,
+  whole-list-reads.Learnt,
+)
+
+abbrev pub map-parts-claims : ℕ → map-parts-lts.Claims
+map-parts-claims t = (
+  first-operand-reads.Asked,
+  first-operand-reads.Learnt,
+  is-leaf-reads.Asked,
+  is-leaf-reads.Learnt,
+  slot-at-reads.Asked,
+  slot-at-reads.Learnt,
+  leaf-reads.Asked,
+  leaf-reads.Learnt,
+  eval-below t,
+  eval.Post,
+  key-of-reads.Asked,
+  key-of-reads.Learnt,
+  end-at-reads.Asked,
+  end-at-reads.Learnt,
+  is-marked-reads.Asked,
+  is-marked-reads.Learnt,
+  unmarked-reads.Asked,
+  unmarked-reads.Learnt,
+  add-entry-reads.Asked,
+  add-entry-reads.Learnt,
+  whole-map-reads.Asked,
+  whole-map-reads.Learnt,
+)
+
+abbrev pub turns-claims : ℕ → turns-lts.Claims
+turns-claims t = (
+  folds-at-reads.Asked,
+  folds-at-reads.Learnt,
+  is-leaf-reads.Asked,
+  is-leaf-reads.Learnt,
+  slot-at-reads.Asked,
+  slot-at-reads.Learnt,
+  leaf-reads.Asked,
+  leaf-reads.Learnt,
+  eval-below t,
+  eval.Post,
+  asks-reads.Asked,
+  asks-reads.Learnt,
+  finish-below t,
+  finish.Post,
+  cell-at-reads.Asked,
+  cell-at-reads.Learnt,
+  step-of-reads.Asked,
+  step-of-reads.Learnt,
+)
