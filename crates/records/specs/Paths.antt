@@ -19,7 +19,7 @@ use Rattle.machine.specs.Outcomes.{Does}
 use Rattle.machine.specs.Comprehension as Machine
 use Rattle.machine.specs.Comprehension.{AppendStep, emptyParts}
 use Rattle.machine.specs.Machine.{machine, appendStep}
-use Rattle.gathering.specs.declared.loops.Pending.{Pending}
+use Rattle.loops.specs.declared.Pending.{Pending}
 use Rattle.records.specs.declared.paths.Path.{Path}
 use Rattle.records.specs.declared.paths.Path.the-variants as Path
 use Rattle.records.specs.declared.paths.Listed.{Listed}
