@@ -10,21 +10,27 @@ use native.Mathlib.Omega.{arith}
 use lib.Dec.{ltb, eqb}
 use lib.ListN.{length, getD, take, drop, replicate, take-append-drop}
 use borrow.Author.Tests.{ltb-true, ltb-false, eqb-true, eqb-false}
-use Rattle.meaning.specs.Limits.{Counts, cut}
-use Rattle.meaning.specs.Errors.{Refusal, UnsoundBinding, Exhausted, refusalNumber}
+use Rattle.meaning.specs.Limits.{Counts}
+use Rattle.meaning.specs.Errors.{Refusal, UnsoundBinding, Exhausted}
 use Rattle.meaning.specs.Expr.{Expr}
 use Rattle.meaning.specs.Limited as Limited
 use Rattle.meaning.specs.Limited.{zeroCell, limited, cleared, roomsAfter}
 use Rattle.meaning.specs.Run.{Trace, Eval}
 use Rattle.meaning.specs.Value.{Value}
 use Rattle.meaning.specs.Comprehension.{Scope}
-use Rattle.meaning.specs.Listing.{namesOf}
+use Rattle.meaning.specs.Listing.{Listed, recordsOf, namesIn, namesOf}
 use Rattle.meaning.specs.Meaning.{run}
 use Rattle.meaning.specs.Heads.{Got, got, refused, _>>=_}
 use Rattle.meaning.specs.Table.{readTable}
 use Rattle.meaning.specs.Bindings.{BindingRoom, scopeOf}
 use Rattle.meaning.specs.Answer as Meaning
 use Rattle.meaning.specs.Answer.{Answered, refusal, ran, answerRun, answerRead, answerOf}
+use Rattle.table.specs.declared.Checked.the-variants.{Accepted}
+use Rattle.table.specs.Check.{verdict, checkOf}
+use Rattle.table.specs.Records.{exprOf}
+use Rattle.table.specs.Walk.{Walk}
+use Rattle.table.proofs.Accepted.{accepted as table-accepted}
+use Rattle.table.proofs.Walk.{accepted-walk}
 use Rattle.laws.specs.Names.{Agree, In}
 use Rattle.laws.specs.Charges.{Stops}
 use Rattle.laws.proofs.NamesListed.{names-listed}
@@ -47,7 +53,7 @@ use Rattle.reading.specs.Shown.{Shows}
 use Rattle.reading.proofs.Showing.{shows}
 use Rattle.answers.specs.declared.Answer.{Answer}
 use Rattle.answers.specs.declared.Answer.the-variants as Answer
-use Rattle.answers.specs.Evaluated.{accepted, evaluated}
+use Rattle.answers.specs.Evaluated.{accepted}
 use Rattle.answers.specs.Meant.{Told, told, toldBy, counted, countsIn, Says, limits, bound, meant, Evaluates}
 use Rattle.answers.specs.Alike.{Alike}
 
@@ -132,6 +138,21 @@ module _ (table literal cells text : List ℕ) (steps : ℕ) where
     unnamed-unseen answer other left leftOther h k =
         says-alike (meant table others steps (over otherWords otherBytes)) (over words bytes) (over otherWords otherBytes) answer other left leftOther refl refl
         (subst (λ m. Says m (over words bytes) answer left) same-meant (h .says)) (k .says)
+
+  -- under each name that is met where one goes through the table from record to record
+  abbrev pub AgreeWhereMet : BindingRoom → BindingRoom → Type 0
+  AgreeWhereMet room other = (rs : List Listed) → Walk table (length table) 0 rs → Agree (In (namesIn rs)) (scopeOf room) (scopeOf other)
+
+  -- That is where the rule names something.
+  pub met-named : (room other : BindingRoom) → AgreeWhereMet room other → AgreeWhereNamed room other
+  unfolding checkOf
+  met-named room other h e g =
+      let checked : checkOf table literal ≡ Accepted = ap verdict g in
+      let is : exprOf table literal 0 ≡ e = got-same (sym (table-accepted table literal checked .is) ∙ g) in
+      subst (λ x. Agree (In (namesOf x)) (scopeOf room) (scopeOf other)) is (h (recordsOf (exprOf table literal 0)) (accepted-walk table literal checked))
+    where
+      got-same : {x y : Expr} → _≡_ {A = Got Expr} (got x) (got y) → x ≡ y
+      got-same q = cc
 
 -- ---- exhaustion
 

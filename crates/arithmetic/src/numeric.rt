@@ -68,7 +68,7 @@ pub fn negate(v: Value, at: usize, used: Used) -> Outcome
     }
 }
 
-// ---- two numbers
+// ---- numbers
 
 fn ints(operator: Arith, a: i64, b: i64) -> IntAnswer
     ensures { λ r. ⌜ r ≡ intArith (arithSeen operator) a b ⌝ }

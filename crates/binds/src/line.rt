@@ -24,3 +24,8 @@ pub fn after(part: &[u8], end: usize) -> usize
 {
     if end < part.len() { end + 1 } else { end }
 }
+
+// The first byte, or 0 where there is none.
+pub fn first(part: &[u8]) -> u8 {
+    if 0 < part.len() { part[0] } else { 0 }
+}

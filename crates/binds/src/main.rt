@@ -1,5 +1,9 @@
 // Runs a list of binding rooms from standard input, a room and what is done to it on each line, by `soundness` and `bindings`.
 // Of each call the answer is written, the used counts, and a digest each of the lent cells, the lent text and the slots.
+ghost use mathlib.Core.Path.{_≡_};
+ghost use Prim.Native.Nat.{_≤_};
+ghost use lib.ListN.{length};
+use crate::case::Case;
 use libc::STDIN_FILENO;
 
 mod case;
@@ -10,7 +14,7 @@ mod say;
 mod spelled;
 
 // Bytes that are read: the longest list, and one byte more, by which a longer one is seen.
-const ROOM: usize = 1048576;
+const ROOM: usize = 524288;
 
 // The words and the bytes that a case can lend.
 const WORDS: usize = 16384;
@@ -20,30 +24,75 @@ const BYTES: usize = 32768;
 // The bytes that one word of the list can spell.
 const SPELLED: usize = 131072;
 
-// A line: deeds of four words each.
+fn room() -> [u8; ROOM]
+    ensures { λ r. ⌜ 524288 ≡ length r ⌝ }
+{
+    [0; ROOM]
+}
+
+fn words() -> [u64; WORDS]
+    ensures { λ r. ⌜ 16384 ≡ length r ⌝ }
+{
+    [0; WORDS]
+}
+
+fn bytes() -> [u8; BYTES]
+    ensures { λ r. ⌜ 32768 ≡ length r ⌝ }
+{
+    [0; BYTES]
+}
+
+fn spelling() -> [u8; SPELLED]
+    ensures { λ r. ⌜ 131072 ≡ length r ⌝ }
+{
+    [0; SPELLED]
+}
+
+// Where a deed ends that begins at a place: behind its four words.
+fn deed_end(part: &[u8], from: usize) -> usize
+    requires { ⌜ from ≤ length (now part) ⌝ }
+    ensures { λ r. ⌜ (from ≤ r) × (r ≤ length (now (part .entry))) ⌝ }
+{
+    let first = line::after(part, line::find(part, from, b' '));
+    let second = line::after(part, line::find(part, first, b' '));
+    let third = line::after(part, line::find(part, second, b' '));
+    line::find(part, third, b' ')
+}
+
+fn deed(
+    part: &[u8],
+    cells: &mut [u64],
+    text: &mut [u8],
+    left: &mut [u8],
+    right: &mut [u8],
+    case: Case,
+) -> Case {
+    let first = line::after(part, line::find(part, 0, b' '));
+    let first_end = line::find(part, first, b' ');
+    let second = line::after(part, first_end);
+    let second_end = line::find(part, second, b' ');
+    let third = line::after(part, second_end);
+    case::act(
+        line::first(part),
+        &part[first..first_end],
+        &part[second..second_end],
+        &part[third..],
+        cells,
+        text,
+        left,
+        right,
+        case,
+    )
+}
+
+// A line: deeds, with a space between two.
 fn answer_line(part: &[u8], cells: &mut [u64], text: &mut [u8], left: &mut [u8], right: &mut [u8]) {
     let mut case = case::fresh();
     let mut from = 0;
     while from < part.len() {
-        let deed = part[from];
-        let a = line::after(part, line::find(part, from, b' '));
-        let a_end = line::find(part, a, b' ');
-        let b = line::after(part, a_end);
-        let b_end = line::find(part, b, b' ');
-        let c = line::after(part, b_end);
-        let c_end = line::find(part, c, b' ');
-        case = case::act(
-            deed,
-            &part[a..a_end],
-            &part[b..b_end],
-            &part[c..c_end],
-            cells,
-            text,
-            left,
-            right,
-            case,
-        );
-        from = c_end + 1;
+        let end = deed_end(part, from);
+        case = deed(&part[from..end], cells, text, left, right, case);
+        from = end + 1;
     }
 }
 
@@ -69,16 +118,16 @@ fn answer_all(
 }
 
 fn main() {
-    let mut input = [0; ROOM];
+    let mut input = room();
     let count = io::read_full(STDIN_FILENO, &mut input);
     if count == ROOM {
-        say::words(b"The list is longer than 1048575 bytes.\n");
+        say::words(b"The list is longer than 524287 bytes.\n");
         return;
     }
-    let mut cells = [0; WORDS];
-    let mut text = [0; BYTES];
-    let mut left = [0; SPELLED];
-    let mut right = [0; SPELLED];
+    let mut cells = words();
+    let mut text = bytes();
+    let mut left = spelling();
+    let mut right = spelling();
     let cases = answer_all(
         &input[..count],
         &mut cells,

@@ -1,13 +1,13 @@
 -- The readers show all of a value: what reads as a value of the definition shows it, part by part. Assumes nothing.
 use Prim.Native.Nat.{ℕ, zero, suc, _+_, _*_, _<_}
-use mathlib.Core.Path.{_≡_, refl, sym, ap, _∙_, subst}
+use mathlib.Core.Path.{_≡_, refl, ap, _∙_, subst}
 use mathlib.Core.Option.{Option, none, some, bind}
 use mathlib.Core.Bool.{cond}
 use native.Mathlib.Omega.{arith}
 use lib.Dec.{ltb}
 use borrow.Author.Tests.{lt-ltb}
 use Rattle.meaning.specs.Value as Meaning
-use Rattle.meaning.specs.Value.{list, map, optionalOf, nil, cons, empty, entry, count, countEntries, keyOf}
+use Rattle.meaning.specs.Value.{count, countEntries, keyOf}
 use Rattle.rooms.specs.declared.value.Value.{Value}
 use Rattle.rooms.specs.declared.value.Value.the-variants as Value
 use Rattle.rooms.specs.declared.value.CellSpace.{CellSpace}

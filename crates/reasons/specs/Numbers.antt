@@ -1,7 +1,7 @@
 -- The errors and limits of the code as the definition has them, and the numbers that they are known by.
 use Prim.Native.Nat.{ℕ}
 use Rattle.meaning.specs.Errors as Errors
-use Rattle.meaning.specs.Errors.{aBool, anIterable, errorNumber}
+use Rattle.meaning.specs.Errors.{aBool, anIterable}
 use Rattle.machine.specs.declared.outcome.Error.{Error}
 use Rattle.machine.specs.declared.outcome.Error.the-variants as Error
 use Rattle.machine.specs.declared.outcome.Limit.{Limit}

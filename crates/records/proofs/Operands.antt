@@ -2,7 +2,7 @@
 -- decides, and may begin another, as the code does. Assumes nothing.
 use Prim.Native.Nat.{ℕ, _+_, _≤_, _<_}
 use mathlib.Core.Path.{_≡_, refl, sym, _∙_, ap}
-use mathlib.Core.Bool.{Bool, true, false}
+use mathlib.Core.Bool.{Bool}
 use mathlib.Core.List.{List}
 use mathlib.Core.Option.{Option, none, some}
 use native.Mathlib.Omega.{arith}
@@ -21,8 +21,7 @@ use Rattle.machine.specs.declared.outcome.Used.{Used}
 use Rattle.machine.specs.declared.outcome.Outcome.{Outcome}
 use Rattle.machine.specs.declared.outcome.Outcome.the-variants as Outcome
 use Rattle.machine.specs.Outcomes.{Res, withValue}
-use Rattle.machine.specs.Views.{boolIn, optionalIn}
-use Rattle.machine.specs.Logic.{branch}
+use Rattle.machine.specs.Views.{optionalIn}
 use Rattle.machine.specs.Calls.{orValueOut}
 use Rattle.machine.specs.Machine as Machine
 use Rattle.machine.specs.Machine.{onLeft, leftOf, machine}
@@ -32,7 +31,8 @@ use Rattle.outcomes.specs.declared.operators.Binary.{Binary}
 use Rattle.outcomes.specs.declared.operators.Function.{Function}
 use Rattle.outcomes.specs.declared.logic.Asked.{Asked}
 use Rattle.outcomes.specs.declared.logic.Asked.the-variants as Asked
-use Rattle.outcomes.specs.Decisions.{askedBool, askedOf}
+use Rattle.outcomes.specs.Decisions.{askedOf, onAsked}
+use Rattle.outcomes.proofs.Asking.{asked}
 use Rattle.joins.specs.declared.first.Fixed.{Fixed}
 use Rattle.joins.specs.declared.first.Fixed.the-variants as Fixed
 use Rattle.joins.specs.declared.first.Next.{Next}
@@ -101,17 +101,11 @@ go-does : (o : Option Used) (q : ℕ) (x : Outcome) (r : Rooms) (k : ℕ → Use
 go-does none q x r k = refl
 go-does (some u) q x r k = refl
 
-asked-does : (b : Option Bool) (p q s : ℕ) (u : Used) (r : Rooms) (k : ℕ → Used → Rooms → Res) →
-    onNext (askNext (askedBool p u b) q s) r k ≡ branch p u r b (λ w d. k q w d) (λ w d. k s w d)
-asked-does none p q s u r k = refl
-asked-does (some true) p q s u r k = refl
-asked-does (some false) p q s u r k = refl
-
-ask-does : (x : Outcome) (p q s : ℕ) (r : Rooms) (k : ℕ → Used → Rooms → Res) →
-    onNext (askNext (askedOf p x) q s) r k ≡ withValue x r (λ v u d. branch p u d (boolIn v) (λ w e. k q w e) (λ w e. k s w e))
-ask-does (Outcome.Value v u) p q s r k = asked-does (boolIn v) p q s u r k
-ask-does (Outcome.Error e n u) p q s r k = refl
-ask-does (Outcome.Exhausted e u) p q s r k = refl
+ask-does : (a : Asked) (q s : ℕ) (r : Rooms) (k : ℕ → Used → Rooms → Res) →
+    onNext (askNext a q s) r k ≡ onAsked a r (λ w d. k q w d) (λ w d. k s w d)
+ask-does (Asked.Holds u) q s r k = refl
+ask-does (Asked.Fails u) q s r k = refl
+ask-does (Asked.Ends o) q s r k = refl
 
 -- the default before the Optional
 value-does : (x : Outcome) (limit p q : ℕ) (r : Rooms) (target : ℕ → Used → Rooms → Res) →
@@ -162,7 +156,9 @@ module _ (t x : List ℕ) (p : ℕ) where
   unfolding Machine.body
   conditional-does i limit s u r =
       let a : Res = machine t limit (exprOf t x (p + 3)) s u r in
-      rw i (sym (ask-does (a .0) p (after t (p + 3)) (after t (after t (p + 3))) (a .1) (λ q w d. then limit s Fixed.Conditional a q w d)))
+      let k : ℕ → Used → Rooms → Res = λ q w d. then limit s Fixed.Conditional a q w d in
+      let q : ℕ = after t (p + 3) in
+      rw i (asked p (λ w d. k q w d) (λ w d. k (after t q) w d) a ∙ sym (ask-does (askedOf p (a .0)) q (after t q) (a .1) k))
 
   or-value-does : exprOf t x p ≡ Expr.orValue p (exprOf t x (p + 4)) (exprOf t x (after t (p + 4))) →
       (limit : ℕ) (s : Scope) (u : Used) (r : Rooms) → Machine.body t limit (exprOf t x p) s u r ≡ fixedDoes t x limit p Fixed.OrValue s u r

@@ -1,10 +1,8 @@
+-- `cell_from` meets its contract. Assumes nothing.
 use Rattle.reading.proofs.Indexed.{inside, outside}
 use borrow.Author.Needs.{needs}
 use Rattle.reading.proofs.cell_from.Statement.{statement}
 use Rattle.reading.proofs.cell_from.Tie as tie
-use Rattle.reading.proofs.cell_from.Reads as reads
-use Rattle.reading.proofs.cell_from.Lts as lts
-use Rattle.rooms.proofs.cells.cell_at.Reads as cell-at-reads
 
 -- src/values.rt:140:46
 add-cell-at : tie.Need-add-cell-at

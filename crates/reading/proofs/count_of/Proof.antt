@@ -1,9 +1,7 @@
+-- `count_of` meets its contract. Assumes nothing.
 use borrow.Author.Needs.{needs}
 use Rattle.reading.proofs.count_of.Statement.{statement}
 use Rattle.reading.proofs.count_of.Tie as tie
-use Rattle.reading.proofs.count_of.Reads as reads
-use Rattle.reading.proofs.count_of.Lts as lts
-use Rattle.rooms.proofs.value.parts_of.Reads as parts-of-reads
 
 -- src/values.rt:119:9
 parts-of-requires : tie.Need-parts-of-requires

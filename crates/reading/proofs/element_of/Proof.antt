@@ -1,10 +1,7 @@
+-- `element_of` meets its contract. Assumes nothing.
 use borrow.Author.Needs.{needs}
 use Rattle.reading.proofs.element_of.Statement.{statement}
 use Rattle.reading.proofs.element_of.Tie as tie
-use Rattle.reading.proofs.element_of.Reads as reads
-use Rattle.reading.proofs.element_of.Lts as lts
-use Rattle.reading.proofs.cell_from.Reads as cell-from-reads
-use Rattle.rooms.proofs.value.parts_of.Reads as parts-of-reads
 
 -- src/values.rt:169:9
 parts-of-requires : tie.Need-parts-of-requires

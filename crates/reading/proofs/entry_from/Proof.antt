@@ -1,10 +1,8 @@
+-- `entry_from` meets its contract. Assumes nothing.
 use Rattle.reading.proofs.Indexed.{inside, outside}
 use borrow.Author.Needs.{needs}
 use Rattle.reading.proofs.entry_from.Statement.{statement}
 use Rattle.reading.proofs.entry_from.Tie as tie
-use Rattle.reading.proofs.entry_from.Reads as reads
-use Rattle.reading.proofs.entry_from.Lts as lts
-use Rattle.rooms.proofs.cells.cell_at.Reads as cell-at-reads
 
 -- src/values.rt:159:54
 mul-cell-at : tie.Need-mul-cell-at

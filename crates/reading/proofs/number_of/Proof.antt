@@ -1,10 +1,7 @@
+-- `number_of` meets its contract. Assumes nothing.
 use borrow.Author.Needs.{needs}
 use Rattle.reading.proofs.number_of.Statement.{statement}
 use Rattle.reading.proofs.number_of.Tie as tie
-use Rattle.reading.proofs.number_of.Reads as reads
-use Rattle.reading.proofs.number_of.Lts as lts
-use Rattle.reading.proofs.of_number.Reads as of-number-reads
-use Rattle.rooms.proofs.value.plain_of.Reads as plain-of-reads
 
 -- src/values.rt:87:9
 plain-of-requires : tie.Need-plain-of-requires

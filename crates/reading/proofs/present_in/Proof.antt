@@ -1,10 +1,7 @@
+-- `present_in` meets its contract. Assumes nothing.
 use borrow.Author.Needs.{needs}
 use Rattle.reading.proofs.present_in.Statement.{statement}
 use Rattle.reading.proofs.present_in.Tie as tie
-use Rattle.reading.proofs.present_in.Reads as reads
-use Rattle.reading.proofs.present_in.Lts as lts
-use Rattle.rooms.proofs.cells.cell_at.Reads as cell-at-reads
-use Rattle.rooms.proofs.value.parts_of.Reads as parts-of-reads
 
 -- src/values.rt:214:9
 parts-of-requires : tie.Need-parts-of-requires

@@ -1,9 +1,7 @@
+-- `text_of` meets its contract. Assumes nothing.
 use borrow.Author.Needs.{needs}
 use Rattle.reading.proofs.text_of.Statement.{statement}
 use Rattle.reading.proofs.text_of.Tie as tie
-use Rattle.reading.proofs.text_of.Reads as reads
-use Rattle.reading.proofs.text_of.Lts as lts
-use Rattle.rooms.proofs.value.plain_of.Reads as plain-of-reads
 
 -- src/values.rt:103:9
 plain-of-requires : tie.Need-plain-of-requires

@@ -1,9 +1,7 @@
+-- `truth_of` meets its contract. Assumes nothing.
 use borrow.Author.Needs.{needs}
 use Rattle.reading.proofs.truth_of.Statement.{statement}
 use Rattle.reading.proofs.truth_of.Tie as tie
-use Rattle.reading.proofs.truth_of.Reads as reads
-use Rattle.reading.proofs.truth_of.Lts as lts
-use Rattle.rooms.proofs.value.plain_of.Reads as plain-of-reads
 
 -- src/values.rt:62:9
 plain-of-requires : tie.Need-plain-of-requires

@@ -1,10 +1,7 @@
+-- `value_of` meets its contract. Assumes nothing.
 use borrow.Author.Needs.{needs}
 use Rattle.reading.proofs.value_of.Statement.{statement}
 use Rattle.reading.proofs.value_of.Tie as tie
-use Rattle.reading.proofs.value_of.Reads as reads
-use Rattle.reading.proofs.value_of.Lts as lts
-use Rattle.reading.proofs.entry_from.Reads as entry-from-reads
-use Rattle.rooms.proofs.value.parts_of.Reads as parts-of-reads
 
 -- src/values.rt:194:9
 parts-of-requires : tie.Need-parts-of-requires
