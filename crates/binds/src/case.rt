@@ -8,7 +8,7 @@ use crate::lent::some_words;
 use crate::lent::word_of;
 use crate::say;
 use crate::spelled;
-use rooms::cells::read_cell;
+use cells::read_cell;
 use rooms::scope::Scope;
 use soundness::Bindings;
 

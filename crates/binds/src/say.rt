@@ -1,8 +1,8 @@
 // What is written of a call: the answer, the used counts, and a digest each of the lent cells, the lent text and the slots.
 use crate::digest;
 use bindings::Answer;
+use cells::write_cell;
 use libc::STDOUT_FILENO;
-use rooms::cells::write_cell;
 use rooms::scope::Scope;
 use rooms::value::Value;
 use soundness::Bindings;

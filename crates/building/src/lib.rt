@@ -4,8 +4,8 @@ ghost use Prim.Native.Nat.{_+_, _≤_};
 ghost use lib.ListN.{length, getD, set};
 ghost use Rattle.rooms.specs.Rooms.{textOf};
 ghost use Rattle.building.specs.Building.{cellRoom, textRoom, takenOf, zeroed, cellsTaken, cellsCleared, bytesCleared, copied, pasted};
-use rooms::cells::cell_at;
-use rooms::cells::write_cell;
+use cells::cell_at;
+use cells::write_cell;
 use rooms::value::CellSpace;
 use rooms::value::TextSpace;
 

@@ -6,6 +6,7 @@ ghost use Rattle.rooms.specs.Rooms.{rooms};
 ghost use Rattle.sizes.specs.Sizes.{sizeOf};
 ghost use Rattle.machine.specs.Views.{optionalIn};
 ghost use Rattle.machine.specs.Calls.{sizeOut, hasValueOut, valueOut, orValueOut};
+use cells::cell_at;
 use machine::outcome::Error;
 use machine::outcome::Outcome;
 use machine::outcome::Used;
@@ -13,7 +14,6 @@ use outcomes::outcomes::Optional;
 use outcomes::outcomes::no_overload;
 use outcomes::outcomes::optional_of;
 use outcomes::outcomes::truth_out;
-use rooms::cells::cell_at;
 use rooms::value::Value;
 use spans::part_points;
 

@@ -3,7 +3,7 @@ ghost use mathlib.Core.Path.{_≡_};
 ghost use Rattle.rooms.specs.Rooms.{rooms};
 ghost use Rattle.comparing.specs.LookUp.{findIn};
 use crate::plain::plain_equal;
-use rooms::cells::cell_at;
+use cells::cell_at;
 use rooms::value::CellSpace;
 use rooms::value::Value;
 

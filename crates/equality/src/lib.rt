@@ -2,10 +2,10 @@
 ghost use mathlib.Core.Path.{_≡_};
 ghost use Rattle.rooms.specs.Rooms.{rooms};
 ghost use Rattle.equality.specs.Equality.{decided, elementsEqual, entriesEqual, equalIn, equalPairs, amongIn};
+use cells::cell_at;
 use comparing::lookup::Found;
 use comparing::lookup::find;
 use comparing::plain::plain_equal;
-use rooms::cells::cell_at;
 use rooms::value::CellSpace;
 use rooms::value::Parts;
 use rooms::value::Value;

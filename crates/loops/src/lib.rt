@@ -14,6 +14,8 @@ ghost use Rattle.loops.specs.Loops.{rangeSeen, foldsSeen, unlessCleared,
 use building::Taken;
 use building::copy_cells;
 use building::take_cells;
+use cells::cell_at;
+use cells::write_cell;
 use machine::outcome::Error;
 use machine::outcome::Outcome;
 use machine::outcome::Used;
@@ -23,8 +25,6 @@ use outcomes::outcomes::deeper;
 use outcomes::outcomes::out_of_cells;
 use outcomes::outcomes::truth_of;
 use outcomes::outcomes::with_cells;
-use rooms::cells::cell_at;
-use rooms::cells::write_cell;
 use rooms::value::CellSpace;
 use rooms::value::Parts;
 use rooms::value::Value;

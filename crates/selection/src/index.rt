@@ -8,12 +8,12 @@ ghost use Rattle.machine.specs.Selection.{optionally, perhaps, index, optSelect
 ghost use Rattle.outcomes.specs.Gives.{Gives};
 use crate::lookup::look_up;
 use crate::lookup::optionally;
+use cells::cell_at;
 use machine::outcome::Error;
 use machine::outcome::Outcome;
 use machine::outcome::Used;
 use outcomes::outcomes::Optional;
 use outcomes::outcomes::optional_of;
-use rooms::cells::cell_at;
 use rooms::value::Plain;
 use rooms::value::Value;
 

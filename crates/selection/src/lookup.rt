@@ -10,6 +10,7 @@ ghost use Rattle.machine.specs.Selection.{elementOut, lookUpIn, lookUp, optiona
 ghost use Rattle.outcomes.specs.Gives.{Gives};
 use crate::index::index;
 use building::Taken;
+use cells::cell_at;
 use comparing::lookup::Found;
 use machine::outcome::Error;
 use machine::outcome::Limit;
@@ -24,7 +25,6 @@ use outcomes::outcomes::out_of_steps;
 use outcomes::outcomes::truth_out;
 use outcomes::outcomes::with_cells;
 use outcomes::outcomes::with_steps;
-use rooms::cells::cell_at;
 use rooms::value::CellSpace;
 use rooms::value::Parts;
 use rooms::value::Value;
@@ -39,7 +39,7 @@ pub fn present(cells: &mut [u64], v: Value, used: Used) -> Outcome
     let Taken::To(end) = building::take_cells(cells, cell, 1) else {
         return out_of_cells(used);
     };
-    rooms::cells::write_cell(cells, cell, v);
+    cells::write_cell(cells, cell, v);
     let more = with_cells(used, end);
     let nesting = rooms::value::nesting_of(v);
     if nesting < DEEPEST {

@@ -2,8 +2,8 @@
 ghost use mathlib.Core.Path.{_≡_};
 ghost use Prim.Native.Nat.{_+_, _*_, _<_};
 ghost use Rattle.soundness.specs.Keys.{isKey, repeatedIn, keysFit};
+use cells::read_cell;
 use comparing::plain::plain_equal;
-use rooms::cells::read_cell;
 use rooms::value::Value;
 
 pub fn is_key(v: Value) -> bool

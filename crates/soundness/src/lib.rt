@@ -4,7 +4,7 @@ ghost use Prim.Native.Nat.{min, _<_};
 ghost use Rattle.soundness.specs.Sound.{firstBad, slotsFit, soundOf};
 use building::cell_room;
 use building::text_room;
-use rooms::cells::read_cell;
+use cells::read_cell;
 use rooms::scope::NAMES;
 use rooms::scope::Scope;
 

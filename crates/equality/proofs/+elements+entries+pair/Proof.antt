@@ -15,7 +15,7 @@ use Rattle.equality.proofs.+elements+entries+pair.Lts-entries as entrie
 use Rattle.equality.proofs.pair.Reads as pair
 use Rattle.equality.proofs.pair.Kinds as pair-kinds
 use Rattle.equality.proofs.+elements+entries+pair.Lts-pair as pair-lts
-use Rattle.rooms.proofs.cells.cell_at.Reads as cell-at-reads
+use Rattle.cells.proofs.cell_at.Reads as cell-at-reads
 use Rattle.comparing.proofs.lookup.find.Reads as find-reads
 use Rattle.comparing.proofs.plain.plain_equal.Reads as plain-equal-reads
 use Rattle.equality.proofs.verdict.Reads as verdict-reads

@@ -9,7 +9,7 @@ use Rattle.soundness.proofs.first_bad.Statement.{statement}
 use Rattle.soundness.proofs.first_bad.Tie as tie
 use Rattle.soundness.proofs.first_bad.Reads as reads
 use Rattle.soundness.proofs.first_bad.Lts as lts
-use Rattle.rooms.proofs.cells.read_cell.Reads as read-cell-reads
+use Rattle.cells.proofs.read_cell.Reads as read-cell-reads
 use Rattle.soundness.proofs.values.value_fits.Reads as value-fits-reads
 
 abbrev Inv-loop : tie.InvT-loop

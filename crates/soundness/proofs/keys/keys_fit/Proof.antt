@@ -9,7 +9,7 @@ use Rattle.soundness.proofs.keys.keys_fit.Statement.{statement}
 use Rattle.soundness.proofs.keys.keys_fit.Tie as tie
 use Rattle.soundness.proofs.keys.keys_fit.Reads as reads
 use Rattle.soundness.proofs.keys.keys_fit.Lts as lts
-use Rattle.rooms.proofs.cells.read_cell.Reads as read-cell-reads
+use Rattle.cells.proofs.read_cell.Reads as read-cell-reads
 use Rattle.soundness.proofs.keys.is_key.Reads as is-key-reads
 use Rattle.soundness.proofs.keys.repeated.Reads as repeated-reads
 

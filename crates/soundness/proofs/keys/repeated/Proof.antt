@@ -8,7 +8,7 @@ use Rattle.soundness.proofs.keys.repeated.Statement.{statement}
 use Rattle.soundness.proofs.keys.repeated.Tie as tie
 use Rattle.soundness.proofs.keys.repeated.Reads as reads
 use Rattle.soundness.proofs.keys.repeated.Lts as lts
-use Rattle.rooms.proofs.cells.read_cell.Reads as read-cell-reads
+use Rattle.cells.proofs.read_cell.Reads as read-cell-reads
 use Rattle.comparing.proofs.plain.plain_equal.Reads as plain-equal-reads
 
 abbrev Inv-loop : tie.InvT-loop

@@ -8,7 +8,7 @@ use Rattle.soundness.proofs.values.deepest.Statement.{statement}
 use Rattle.soundness.proofs.values.deepest.Tie as tie
 use Rattle.soundness.proofs.values.deepest.Reads as reads
 use Rattle.soundness.proofs.values.deepest.Lts as lts
-use Rattle.rooms.proofs.cells.read_cell.Reads as read-cell-reads
+use Rattle.cells.proofs.read_cell.Reads as read-cell-reads
 use Rattle.rooms.proofs.value.nesting_of.Reads as nesting-of-reads
 use Rattle.soundness.proofs.values.deeper.Reads as deeper-reads
 

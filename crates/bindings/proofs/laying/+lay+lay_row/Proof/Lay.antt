@@ -19,7 +19,7 @@ use Rattle.bindings.proofs.laying.lay_row.Kinds as lay-row-kinds
 use Rattle.bindings.proofs.laying.+lay+lay_row.Lts-lay_row as lay-row-lts
 use Rattle.bindings.proofs.laying.lay_literal.Reads as lay-literal-reads
 use Rattle.bindings.proofs.literals.literal_at.Reads as literal-at-reads
-use Rattle.rooms.proofs.cells.write_cell.Reads as write-cell-reads
+use Rattle.cells.proofs.write_cell.Reads as write-cell-reads
 use Rattle.rooms.proofs.value.nesting_of.Reads as nesting-of-reads
 use Rattle.soundness.proofs.values.deeper.Reads as deeper-reads
 use Rattle.layout.proofs.readers.count_at.Reads as count-at-reads

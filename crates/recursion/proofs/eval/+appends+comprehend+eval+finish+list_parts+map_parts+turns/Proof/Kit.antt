@@ -56,7 +56,7 @@ use Rattle.records.proofs.paths.places_at.Reads as places-at-reads
 use Rattle.records.proofs.records.after_first.Reads as after-first-reads
 use Rattle.records.proofs.records.begun_first.Reads as begun-first-reads
 use Rattle.records.proofs.records.shape_at.Reads as shape-at-reads
-use Rattle.rooms.proofs.cells.cell_at.Reads as cell-at-reads
+use Rattle.cells.proofs.cell_at.Reads as cell-at-reads
 
 abbrev pub μ-appends : Measures 6 appends-kinds.ps ℕ
 μ-appends κs a = 4 * wordAt (a .0 .now) (a .1 .1 .1 .1 .1 .1 .1 .0 + 1) + 1
