@@ -1,28 +1,26 @@
 -- What a binding brought in comes to is what the definition brings in. In order: two readings side by side; names without a value; the room
 -- afterwards; refusals and the theorem; an emptied room. Rests on LaidValues and Older. Assumes nothing.
-use Prim.Native.Nat.{ℕ, zero, suc, _+_, _*_, _/_, _≤_, _<_, min}
-use mathlib.Core.Path.{_≡_, refl, sym, ap, ap₂, _∙_, subst}
+use Prim.Native.Nat.{ℕ, suc, _+_, _*_, _/_, _≤_, _<_, min}
+use mathlib.Core.Path.{_≡_, refl, sym, ap, ap₂, _∙_}
 use mathlib.Core.Logic.{_⊎_, inl, inr}
-use mathlib.Core.List.{List, [], _∷_}
+use mathlib.Core.List.{List, []}
 use mathlib.Core.Option.{Option, none, some}
 use mathlib.Core.Bool.{Bool, true, false, not, _&&_, _||_, cond}
 use native.Mathlib.Omega.{arith}
 use lib.Dec.{leb, eqb, ltb}
-use lib.ListN.{length, getD, take, drop}
+use lib.ListN.{length}
 use borrow.Author.Tests.{eqb-true, eqb-false, ltb-true, ltb-false}
 use Rattle.meaning.specs.Limits.{mostCells, mostBytes}
-use Rattle.meaning.specs.Errors.{Refusal, WrongField, NameBound, BindingRoomFull, refusalNumber}
+use Rattle.meaning.specs.Errors.{Refusal, WrongField, NameBound, BindingRoomFull}
 use Rattle.meaning.specs.Value as Meaning
 use Rattle.meaning.specs.Maps.{isFound}
 use Rattle.meaning.specs.Comprehension.{emptyScope, store}
 use Rattle.meaning.specs.Heads.{Got, got, refused, _>>=_, _>>_, demand, orRefuse, start}
 use Rattle.meaning.specs.Kinds.{nameOf}
 use Rattle.meaning.specs.Table.{readTable}
-use Rattle.meaning.specs.Expr.{Expr}
 use Rattle.meaning.specs.Bindings.{cellsOf, bytesOf, BindingRoom, emptyRoom, boundIn, scopeOf, bring}
 use Rattle.meaning.specs.Spelling.{Literal, literalOf, spelledRoot}
 use Rattle.meaning.specs.WellFormed.{AllBytes, WellFormed}
-use Rattle.laws.proofs.Fine.{Perhaps}
 use Rattle.laws.proofs.Reading.{was-read}
 use Rattle.laws.proofs.TableFormed.{table-formed}
 use Rattle.laws.proofs.Spelled.{literal-sound, spelled-well-formed}
@@ -35,30 +33,25 @@ use Rattle.rooms.specs.Cells.{cellIn}
 use Rattle.rooms.specs.Rooms.{rooms}
 use Rattle.rooms.specs.Reading.{readTo, reading}
 use Rattle.building.specs.Building.{cellRoom, textRoom}
-use Rattle.rooms.specs.Scope.{emptySlots, slotOf, stored}
+use Rattle.rooms.specs.Scope.{emptySlots, slotOf}
 use Rattle.rooms.proofs.ReadBack.{reads}
 use Rattle.rooms.proofs.Scopes.{scope-empty, no-slot, stored-same, stored-other}
 use Rattle.soundness.specs.declared.Bindings.{Bindings}
-use Rattle.soundness.specs.declared.Soundness.{Soundness}
-use Rattle.soundness.specs.declared.Soundness.the-variants.{Sound, Unsound}
+use Rattle.soundness.specs.declared.Soundness.the-variants.{Sound}
 use Rattle.soundness.specs.Fits.{valueFits, isAbsent, slotFits}
 use Rattle.soundness.specs.Sound.{soundOf}
 use Rattle.soundness.specs.Held.{bindingRooms, heldScope, roomOf, aliveBelow}
 use Rattle.soundness.proofs.Goods.{SoundRoom, sound-room, room-sound}
 use Rattle.soundness.proofs.SoundScope.{absent-is, beyond, fits-held, held-read, room-scope}
-use Rattle.bindings.specs.declared.Answer.the-variants.{Done, Refused}
-use Rattle.bindings.specs.Literals.{literalIn}
-use Rattle.bindings.specs.Judging.{cellsFor, bytesFor}
 use Rattle.bindings.specs.Laying.{Room, room, laid}
-use Rattle.bindings.specs.Bringing.{literalFor, ifSound, accepted, Outcome, bound, after, outcomeOf, emptied}
+use Rattle.bindings.specs.Bringing.{literalFor, accepted, bound, after, outcomeOf, emptied}
 use Rattle.bindings.proofs.LayLaws.{laid-cells, laid-bytes}
-use Rattle.bindings.proofs.SpelledLaws.{Spells, spells-cells, spells-bytes}
+use Rattle.bindings.proofs.SpelledLaws.{spells-cells, spells-bytes}
 use Rattle.bindings.proofs.AcceptedLaws.{Fits, accepted-fits}
-use Rattle.brought.specs.Brings.{StandsFor, Kept, Holds, refusal, Brings, BringsIn}
+use Rattle.brought.specs.Brings.{StandsFor, Holds, Brings, BringsIn}
 use Rattle.brought.proofs.Later.{Later, take-same, drop-same, later-cell, later-text, laid-later}
 use Rattle.brought.proofs.Older.{never, fits-kept, read-kept}
-use Rattle.brought.proofs.LaidScalars.{Good}
-use Rattle.brought.proofs.LaidValues.{Final, LaidAt, literal-laid, either-side, lower}
+use Rattle.brought.proofs.LaidValues.{LaidAt, literal-laid, either-side, lower}
 
 -- ---- two readings side by side
 

@@ -1,16 +1,16 @@
 -- A scalar laid down: it fits the room, it stands for the scalar of the table, and a cell gives it back. And the keys of a Map, which do
 -- not match. Assumes nothing.
-use Prim.Native.Nat.{ℕ, zero, suc, _+_, _*_, _/_, _^_, _≤_, _<_, max}
-use mathlib.Core.Path.{_≡_, refl, sym, ap, ap₂, _∙_}
-use mathlib.Core.Logic.{_⊎_, inl, inr}
+use Prim.Native.Nat.{ℕ, suc, _+_, _^_, _≤_, _<_}
+use mathlib.Core.Path.{_≡_, refl, ap, ap₂, _∙_}
+use mathlib.Core.Logic.{inl}
 use mathlib.Core.List.{List, [], _∷_}
-use mathlib.Core.Option.{Option, none, some}
-use mathlib.Core.Bool.{Bool, true, false, not, _&&_, _||_, cond}
+use mathlib.Core.Option.{none}
+use mathlib.Core.Bool.{true, false, not}
 use native.Mathlib.Omega.{arith}
 use lib.IntN.{ℤ, pos, negsuc}
 use lib.Signed.{mag}
-use lib.ListN.{length, getD, set, take, drop, length-set}
-use lib.Seq.{getD-set-same, drop-cons, take-take}
+use lib.ListN.{length, getD, set, take, length-set}
+use lib.Seq.{getD-set-same, drop-cons}
 use borrow.Author.Tests.{ltb-true}
 use Rattle.numbers.specs.declared.double.Double.{Double}
 use Rattle.numbers.specs.declared.double.Double.the-variants as Double
@@ -24,7 +24,6 @@ use Rattle.meaning.specs.Comparison.{scalarEqual, find}
 use Rattle.meaning.specs.WellFormed.{SoundScalar, SoundEntries}
 use Rattle.laws.proofs.MatchingKeys.{not-found}
 use Rattle.rooms.specs.declared.value.Value.{Value}
-use Rattle.rooms.specs.declared.value.Value.the-variants as Value
 use Rattle.rooms.specs.declared.value.TextSpace.the-variants as Text
 use Rattle.rooms.specs.declared.value.CellSpace.the-variants as Cells
 use Rattle.rooms.specs.Value.{doubleValue}
@@ -33,13 +32,13 @@ use Rattle.rooms.specs.Rooms.{Rooms, rooms, cellAt, part}
 use Rattle.rooms.specs.Stands.{Alive, TextAt, StandsScalar, Stands, StandsEntries}
 use Rattle.rooms.proofs.CellLaws.{Small}
 use Rattle.rooms.proofs.Frame.{part-same}
-use Rattle.comparing.specs.Seen.{seenScalar, sameSeen, seenIn}
+use Rattle.comparing.specs.Seen.{sameSeen, seenIn}
 use Rattle.comparing.proofs.SeenMeaning.{scalar-seen}
 use Rattle.soundness.specs.Keys as Keys
 use Rattle.soundness.specs.Keys.{isKey, repeatedIn, keysFit}
 use Rattle.soundness.specs.Fits.{valueFits}
 use Rattle.soundness.specs.Held.{aliveBelow}
-use Rattle.bindings.specs.Laying.{Room, room, typed, withText, laidScalar}
+use Rattle.bindings.specs.Laying.{Room, typed, laidScalar}
 use Rattle.brought.proofs.Later.{typed-long, typed-away}
 use Rattle.brought.proofs.Older.{all-true, span-fits, string-fits}
 

@@ -1,7 +1,7 @@
 -- Literals laid down, in the room as it is at the end: each cell that was taken fits, and the value stands for what the table spells.
 -- In order: what the end keeps; one part in its cell; a row of parts; entries; any literal. Assumes nothing.
-use Prim.Native.Nat.{ℕ, zero, suc, _+_, _*_, _/_, _≤_, _<_, max}
-use mathlib.Core.Path.{_≡_, refl, sym, ap, ap₂, _∙_, subst}
+use Prim.Native.Nat.{ℕ, suc, _+_, _*_, _/_, _≤_, _<_, max}
+use mathlib.Core.Path.{_≡_, refl, sym, ap, ap₂, _∙_}
 use mathlib.Core.Logic.{_⊎_, inl, inr}
 use mathlib.Core.List.{List, []}
 use mathlib.Core.Bool.{Bool, true, false}
@@ -11,8 +11,8 @@ use lib.ListN.{length, take}
 use lib.Seq.{take-take}
 use borrow.Author.Tests.{ltb-true, ltb-false, eqb-true, eqb-false}
 use Rattle.meaning.specs.Value as Meaning
-use Rattle.meaning.specs.Value.{Scalar, null, bool, int, uint, double, string, scalar, list, map, nil, cons, empty, entry, Key, keyScalar, nesting, nestingIn, nestingOver, count, countEntries}
-use Rattle.meaning.specs.Spelling.{Literal, scalarAt, listAt, mapAt, Literals, noLiterals, literals, LiteralPairs, noLiteralPairs, literalPairs, literalNesting, literalsNesting, literalPairsNesting}
+use Rattle.meaning.specs.Value.{Scalar, null, bool, int, uint, double, string, scalar, keyScalar, nesting, nestingIn, nestingOver, count, countEntries}
+use Rattle.meaning.specs.Spelling.{Literal, scalarAt, Literals, LiteralPairs, literalNesting, literalsNesting, literalPairsNesting}
 use Rattle.meaning.specs.WellFormed.{SoundScalar, Sound, SoundElements, SoundEntries}
 use Rattle.rooms.specs.declared.value.Value.{Value}
 use Rattle.rooms.specs.declared.value.Value.the-variants as Value
@@ -20,13 +20,13 @@ use Rattle.rooms.specs.declared.value.CellSpace.the-variants as Cells
 use Rattle.rooms.specs.Value.{nestingOf}
 use Rattle.rooms.specs.Cells.{cellIn}
 use Rattle.rooms.specs.Rooms.{rooms, cellAt}
-use Rattle.rooms.specs.Stands.{StandsScalar, Stands, StandsCells, StandsEntries}
-use Rattle.rooms.proofs.CellLaws.{Small, small-back, written-length, written-words, written-other}
+use Rattle.rooms.specs.Stands.{Stands, StandsCells, StandsEntries}
+use Rattle.rooms.proofs.CellLaws.{small-back, written-length, written-words, written-other}
 use Rattle.soundness.specs.Keys.{keysFit}
 use Rattle.soundness.specs.Fits.{deepestIn, valueFits}
 use Rattle.soundness.specs.Held.{aliveBelow}
-use Rattle.soundness.proofs.Goods.{Row, row-good, map-good}
-use Rattle.bindings.specs.Laying.{Room, room, put, taking, laidScalar, countLiterals, countPairs, laid, laidRow, laidPairs}
+use Rattle.soundness.proofs.Goods.{row-good, map-good}
+use Rattle.bindings.specs.Laying.{Room, put, taking, laidScalar, countLiterals, countPairs, laid, laidRow, laidPairs}
 use Rattle.bindings.proofs.LayLaws.{laid-nesting}
 use Rattle.bindings.proofs.SpelledLaws.{Spells, spellsScalar, spellsList, spellsMap, SpellsAll, spellsNone, spellsMore, SpellsPairs, spellsNoPairs, spellsPair}
 use Rattle.brought.proofs.Later.{Later, later-cell, later-text, put-later, later-then, laid-later, row-later, pairs-later}

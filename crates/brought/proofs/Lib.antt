@@ -4,3 +4,4 @@ pub mod Older
 pub mod LaidScalars
 pub mod LaidValues
 pub mod Brought
+pub mod AfterBringing

@@ -3,32 +3,29 @@
 use Prim.Native.Nat.{ℕ, zero, suc, _+_, _*_, _≤_, _<_, max}
 use mathlib.Core.Path.{_≡_, refl, sym, ap, ap₂, _∙_}
 use mathlib.Core.List.{List, []}
-use mathlib.Core.Option.{Option, none, some, bind}
+use mathlib.Core.Option.{some, bind}
 use mathlib.Core.Bool.{Bool, true, false, not, _&&_, _||_, cond}
 use native.Mathlib.Omega.{arith}
-use lib.Dec.{leb, eqb}
-use lib.ListN.{length, take}
+use lib.ListN.{take}
 use borrow.Author.Tests.{le-leb, eq-eqb}
 use Rattle.text.specs.Utf8.{wellFormed}
 use Rattle.meaning.specs.Value as Meaning
 use Rattle.meaning.specs.Value.{keyOf, scalar, string, list, map, cons, entry}
 use Rattle.rooms.specs.declared.value.Value.{Value}
 use Rattle.rooms.specs.declared.value.Value.the-variants as Value
-use Rattle.rooms.specs.declared.value.TextSpace.{TextSpace}
 use Rattle.rooms.specs.declared.value.TextSpace.the-variants as Text
-use Rattle.rooms.specs.declared.value.CellSpace.{CellSpace}
 use Rattle.rooms.specs.declared.value.CellSpace.the-variants as Cells
 use Rattle.rooms.specs.Value.{nestingOf, plainOf}
 use Rattle.rooms.specs.Cells.{cellIn}
-use Rattle.rooms.specs.Rooms.{Rooms, cellAt, part, textOf}
+use Rattle.rooms.specs.Rooms.{cellAt, part}
 use Rattle.rooms.specs.Reading.{Reader, elementsIn, entriesIn, readBy, readTo}
 use Rattle.rooms.proofs.Frame.{part-same}
-use Rattle.comparing.specs.Seen.{Seen, seenScalar, seenOf, sameSeen}
+use Rattle.comparing.specs.Seen.{seenScalar, seenOf, sameSeen}
 use Rattle.soundness.specs.Keys as Keys
 use Rattle.soundness.specs.Keys.{isKey, repeatedIn, keysFit}
-use Rattle.soundness.specs.Fits.{ofBindings, textOfBindings, deepestIn, spanFits, stringFits, rowFits, mapFits, valueFits, isAbsent, slotFits}
+use Rattle.soundness.specs.Fits.{deepestIn, spanFits, stringFits, rowFits, mapFits, valueFits}
 use Rattle.soundness.specs.Held.{bindingRooms}
-use Rattle.soundness.proofs.Goods.{both-true, Span, span-good, string-good, Row, row-good, map-good}
+use Rattle.soundness.proofs.Goods.{both-true, span-good, string-good, row-good, map-good}
 
 pub never : {A : Type 0} {b : Bool} → b ≡ true → b ≡ false → A
 never e f = let z : true ≡ false = sym e ∙ f in let y : _≡_ {A = ℕ} 1 0 = ap (λ b. cond b 1 0) z in absurd (omega arith)
