@@ -21,8 +21,8 @@ use Rattle.machine.specs.declared.outcome.Outcome.{Outcome}
 use Rattle.machine.specs.declared.outcome.Outcome.the-variants as Outcome
 use Rattle.machine.specs.Outcomes.{Res, Does, withWords, stepped}
 use Rattle.machine.specs.Machine.{machine}
-use Rattle.records.specs.Records.{slotIn, leafStep}
-use Rattle.records.proofs.Leaves.{literal-gives, leaf-machine}
+use Rattle.nodes.specs.Records.{slotIn, leafStep}
+use Rattle.nodes.proofs.Leaves.{literal-gives, leaf-machine}
 use Rattle.machine.specs.Comprehension.{Loop, AppendStep, Gathered, Gathering, asks, addRun, gathered, guarded, appendItems, appendTurns, nothingGathered}
 use Rattle.outcomes.specs.declared.logic.Asked.{Asked}
 use Rattle.outcomes.specs.declared.logic.Asked.the-variants as Asked
@@ -32,8 +32,8 @@ use Rattle.loops.specs.declared.Gather.{Gather}
 use Rattle.loops.specs.declared.Gather.the-variants as Gather
 use Rattle.loops.specs.Loops.{gatheredIn, gatherOf, GatherIn, onGather}
 use Rattle.loops.proofs.Looped.{items-as}
-use Rattle.records.specs.declared.paths.Places.{Places}
-use Rattle.records.specs.Paths.{loopAt, guardAt, appendAt}
+use Rattle.nodes.specs.declared.paths.Places.{Places}
+use Rattle.nodes.specs.Paths.{loopAt, guardAt, appendAt}
 use Rattle.recursion.proofs.Stops.{Is, after-operand}
 use Rattle.recursion.proofs.Turns.{asked}
 

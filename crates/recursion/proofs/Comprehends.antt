@@ -27,12 +27,12 @@ use Rattle.machine.specs.Machine.{body, machine, appendStep}
 use Rattle.loops.specs.declared.Range.{Range}
 use Rattle.loops.specs.declared.Range.the-variants as Range
 use Rattle.loops.specs.Loops.{rangeSeen}
-use Rattle.records.specs.declared.paths.Path.{Path}
-use Rattle.records.specs.declared.paths.Path.the-variants as Path
-use Rattle.records.specs.declared.paths.Places.{Places}
-use Rattle.records.specs.Paths.{placesAt, loopAt, pathOf, pathSeen, appendAt, PathIn}
-use Rattle.records.proofs.Sights.{literal-seen}
-use Rattle.records.proofs.Comprehensions.{ComprehensionAt, openPath, turns-taken, appends-taken}
+use Rattle.nodes.specs.declared.paths.Path.{Path}
+use Rattle.nodes.specs.declared.paths.Path.the-variants as Path
+use Rattle.nodes.specs.declared.paths.Places.{Places}
+use Rattle.nodes.specs.Paths.{placesAt, loopAt, pathOf, pathSeen, appendAt, PathIn}
+use Rattle.nodes.proofs.Sights.{literal-seen}
+use Rattle.nodes.proofs.Comprehensions.{ComprehensionAt, openPath, turns-taken, appends-taken}
 use Rattle.recursion.proofs.Stops.{Is, Stops, stops-there, goes-on}
 
 -- ---- the append path is only there with a literal for a condition

@@ -26,15 +26,15 @@ use Rattle.joins.specs.declared.first.Fixed.{Fixed}
 use Rattle.joins.specs.declared.first.Next.{Next}
 use Rattle.joins.specs.declared.first.Next.the-variants as Next
 use Rattle.joins.specs.Joins.{joinOf, onNext}
-use Rattle.records.specs.declared.records.Shape.{Shape}
-use Rattle.records.specs.declared.records.Shape.the-variants as Shape
-use Rattle.records.specs.Records.{leafKinds, slotIn, leafOut, shapeOf, firstAt, nextOf, NextIn}
-use Rattle.records.proofs.Leaves.{leaf-body}
-use Rattle.records.proofs.Rows.{list-at, map-at}
+use Rattle.nodes.specs.declared.records.Shape.{Shape}
+use Rattle.nodes.specs.declared.records.Shape.the-variants as Shape
+use Rattle.nodes.specs.Records.{leafKinds, slotIn, leafOut, shapeOf, firstAt, nextOf, NextIn}
+use Rattle.nodes.proofs.Leaves.{leaf-body}
+use Rattle.nodes.proofs.Rows.{list-at, map-at}
 use Rattle.recursion.proofs.Stops.{Is}
 use Rattle.recursion.proofs.Operands.{beyond}
-use Rattle.records.proofs.ShapeLaws.{none-body}
-use Rattle.records.proofs.Operands.{FixedAt}
+use Rattle.nodes.proofs.ShapeLaws.{none-body}
+use Rattle.nodes.proofs.Operands.{FixedAt}
 
 -- ---- its step
 

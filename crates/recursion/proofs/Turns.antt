@@ -35,8 +35,8 @@ use Rattle.loops.specs.declared.Step.{Step}
 use Rattle.loops.specs.declared.Step.the-variants as Step
 use Rattle.loops.specs.Loops.{pendingSeen, stepOf, onStep}
 use Rattle.loops.proofs.Looped.{step-as}
-use Rattle.records.specs.declared.paths.Places.{Places}
-use Rattle.records.specs.Paths.{loopAt, finishWith}
+use Rattle.nodes.specs.declared.paths.Places.{Places}
+use Rattle.nodes.specs.Paths.{loopAt, finishWith}
 use Rattle.recursion.proofs.Stops.{Is}
 
 -- ---- a condition

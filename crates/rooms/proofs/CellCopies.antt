@@ -16,10 +16,10 @@ use Rattle.rooms.specs.declared.value.Value.{Value}
 use Rattle.rooms.specs.declared.value.Value.the-variants as Value
 use Rattle.rooms.specs.declared.value.TextSpace.the-variants as Text
 use Rattle.rooms.specs.declared.value.CellSpace.the-variants as Cells
-use Rattle.rooms.specs.declared.cells.TextPlace.{TextPlace}
-use Rattle.rooms.specs.declared.cells.TextPlace.the-variants as TextPlace
-use Rattle.rooms.specs.declared.cells.CellPlace.{CellPlace}
-use Rattle.rooms.specs.declared.cells.CellPlace.the-variants as CellPlace
+use Rattle.rooms.specs.declared.places.TextPlace.{TextPlace}
+use Rattle.rooms.specs.declared.places.TextPlace.the-variants as TextPlace
+use Rattle.rooms.specs.declared.places.CellPlace.{CellPlace}
+use Rattle.rooms.specs.declared.places.CellPlace.the-variants as CellPlace
 use Rattle.rooms.specs.Value.{doubleValue}
 use Rattle.rooms.specs.Cells.{signedOf, headOf, payloadOf, textPlace, cellPlace, only, bareOf, textOf, containerOf, valueOf, cellOf, hasCell, cellIn, writtenIn, settled}
 use Rattle.rooms.proofs.Words.{signed-below, signed-above}

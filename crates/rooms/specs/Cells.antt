@@ -16,10 +16,10 @@ use Rattle.rooms.specs.declared.value.TextSpace.{TextSpace}
 use Rattle.rooms.specs.declared.value.TextSpace.the-variants as Text
 use Rattle.rooms.specs.declared.value.CellSpace.{CellSpace}
 use Rattle.rooms.specs.declared.value.CellSpace.the-variants as Cells
-use Rattle.rooms.specs.declared.cells.TextPlace.{TextPlace}
-use Rattle.rooms.specs.declared.cells.TextPlace.the-variants as TextPlace
-use Rattle.rooms.specs.declared.cells.CellPlace.{CellPlace}
-use Rattle.rooms.specs.declared.cells.CellPlace.the-variants as CellPlace
+use Rattle.rooms.specs.declared.places.TextPlace.{TextPlace}
+use Rattle.rooms.specs.declared.places.TextPlace.the-variants as TextPlace
+use Rattle.rooms.specs.declared.places.CellPlace.{CellPlace}
+use Rattle.rooms.specs.declared.places.CellPlace.the-variants as CellPlace
 use Rattle.rooms.specs.Value.{doubleValue}
 
 -- ---- numbers and spaces

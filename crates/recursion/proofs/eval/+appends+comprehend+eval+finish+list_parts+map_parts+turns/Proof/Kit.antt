@@ -44,18 +44,18 @@ use Rattle.outcomes.proofs.logic.asks.Reads as asks-reads
 use Rattle.outcomes.proofs.outcomes.out_of_cells.Reads as out-of-cells-reads
 use Rattle.outcomes.proofs.outcomes.out_of_steps.Reads as out-of-steps-reads
 use Rattle.outcomes.proofs.outcomes.stepped.Reads as stepped-reads
-use Rattle.records.proofs.literals.is_leaf.Reads as is-leaf-reads
-use Rattle.records.proofs.literals.is_marked.Reads as is-marked-reads
-use Rattle.records.proofs.literals.leaf.Reads as leaf-reads
-use Rattle.records.proofs.literals.leaf_value.Reads as leaf-value-reads
-use Rattle.records.proofs.literals.slot_at.Reads as slot-at-reads
-use Rattle.records.proofs.literals.unmarked.Reads as unmarked-reads
-use Rattle.records.proofs.paths.append_path.Reads as append-path-reads
-use Rattle.records.proofs.paths.folds_at.Reads as folds-at-reads
-use Rattle.records.proofs.paths.places_at.Reads as places-at-reads
-use Rattle.records.proofs.records.after_first.Reads as after-first-reads
-use Rattle.records.proofs.records.begun_first.Reads as begun-first-reads
-use Rattle.records.proofs.records.shape_at.Reads as shape-at-reads
+use Rattle.nodes.proofs.literals.is_leaf.Reads as is-leaf-reads
+use Rattle.nodes.proofs.literals.is_marked.Reads as is-marked-reads
+use Rattle.nodes.proofs.literals.leaf.Reads as leaf-reads
+use Rattle.nodes.proofs.literals.leaf_value.Reads as leaf-value-reads
+use Rattle.nodes.proofs.literals.slot_at.Reads as slot-at-reads
+use Rattle.nodes.proofs.literals.unmarked.Reads as unmarked-reads
+use Rattle.nodes.proofs.paths.append_path.Reads as append-path-reads
+use Rattle.nodes.proofs.paths.folds_at.Reads as folds-at-reads
+use Rattle.nodes.proofs.paths.places_at.Reads as places-at-reads
+use Rattle.nodes.proofs.records.after_first.Reads as after-first-reads
+use Rattle.nodes.proofs.records.begun_first.Reads as begun-first-reads
+use Rattle.nodes.proofs.records.shape_at.Reads as shape-at-reads
 use Rattle.cells.proofs.cell_at.Reads as cell-at-reads
 
 abbrev pub μ-appends : Measures 6 appends-kinds.ps ℕ
