@@ -36,7 +36,13 @@ fn with(case: Case, bindings: Bindings) -> Case {
 }
 
 // So much is lent, as far as there is so much.
-fn lend(cells: &mut [u64], text: &mut [u8], words: usize, bytes: usize, bindings: Bindings) -> Case {
+fn lend(
+    cells: &mut [u64],
+    text: &mut [u8],
+    words: usize,
+    bytes: usize,
+    bindings: Bindings,
+) -> Case {
     let lent = some_words(cells, words);
     let lent_bytes = some_bytes(text, bytes);
     fill_words(&mut cells[..lent]);
@@ -186,7 +192,10 @@ pub fn act(
             case
         }
         b's' => with(case, with_slot(case.bindings, number, second, third)),
-        b'u' => with(case, with_counts(case.bindings, number, spelled::number(second))),
+        b'u' => with(
+            case,
+            with_counts(case.bindings, number, spelled::number(second)),
+        ),
         _ => answered(deed, number, second, third, cells, text, left, right, case),
     }
 }

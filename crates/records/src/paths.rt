@@ -9,8 +9,6 @@ ghost use Rattle.table.specs.Records.{Sound, exprOf, binaryOf};
 ghost use Rattle.machine.specs.Machine.{appendSum, appendStep};
 ghost use Rattle.loops.specs.Loops.{foldsSeen};
 ghost use Rattle.records.specs.Paths.{placesAt, foldIn, pathOf, pathSeen, PathIn, itemsSeen, ItemsIn};
-use loops::Folds;
-use loops::is_empty_list;
 use layout::kinds::BINARY;
 use layout::kinds::CONDITIONAL;
 use layout::kinds::LIST;
@@ -20,6 +18,8 @@ use layout::readers::first_operand;
 use layout::readers::kind_at;
 use layout::readers::number_at;
 use layout::readers::second_at;
+use loops::Folds;
+use loops::is_empty_list;
 use outcomes::operators::Fold;
 use rooms::value::Value;
 

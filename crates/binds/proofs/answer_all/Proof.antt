@@ -12,7 +12,6 @@ use Rattle.binds.proofs.line.find.Reads as find-reads
 use Rattle.binds.proofs.say.words.Reads as words-reads
 use Rattle.binds.proofs.say.number.Reads as number-reads
 
-
 abbrev Inv-loop : tie.InvT-loop
 Inv-loop list cells₀ text₀ left₀ right₀ cases₀ from₀ t9 t10 cells text left right cases from = (cases ≤ from) × (length cells ≡ length cells₀) × (length text ≡ length text₀) × (length left ≡ length left₀) × (length right ≡ length right₀)
 

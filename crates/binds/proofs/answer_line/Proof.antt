@@ -12,7 +12,6 @@ use Rattle.binds.proofs.case.act.Reads as act-reads
 use Rattle.binds.proofs.line.after.Reads as after-reads
 use Rattle.binds.proofs.line.find.Reads as find-reads
 
-
 abbrev Inv-loop : tie.InvT-loop
 Inv-loop part cells₀ text₀ left₀ right₀ case₀ from₀ cells text left right case from = (length cells ≡ length cells₀) × (length text ≡ length text₀) × (length left ≡ length left₀) × (length right ≡ length right₀)
 

@@ -10,7 +10,6 @@ use Rattle.binds.proofs.digest.of_bytes.Lts as lts
 use Rattle.binds.proofs.digest.mix.Reads as mix-reads
 use Rattle.binds.proofs.digest.wide.Reads as wide-reads
 
-
 abbrev Inv-loop : tie.InvT-loop
 Inv-loop bytes digest₀ at₀ digest at = at ≤ length bytes
 

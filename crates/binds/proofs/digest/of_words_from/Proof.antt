@@ -9,7 +9,6 @@ use Rattle.binds.proofs.digest.of_words_from.Reads as reads
 use Rattle.binds.proofs.digest.of_words_from.Lts as lts
 use Rattle.binds.proofs.digest.word.Reads as word-reads
 
-
 abbrev Inv-loop : tie.InvT-loop
 Inv-loop before words digest₀ at₀ digest at = at ≤ length words
 

@@ -8,7 +8,6 @@ use Rattle.binds.proofs.lent.fill_bytes.Tie as tie
 use Rattle.binds.proofs.lent.fill_bytes.Reads as reads
 use Rattle.binds.proofs.lent.fill_bytes.Lts as lts
 
-
 abbrev Inv-loop : tie.InvT-loop
 Inv-loop text₀ at₀ text at = length text ≡ length text₀
 

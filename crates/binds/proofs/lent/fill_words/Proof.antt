@@ -8,7 +8,6 @@ use Rattle.binds.proofs.lent.fill_words.Tie as tie
 use Rattle.binds.proofs.lent.fill_words.Reads as reads
 use Rattle.binds.proofs.lent.fill_words.Lts as lts
 
-
 abbrev Inv-loop : tie.InvT-loop
 Inv-loop cells₀ at₀ cells at = length cells ≡ length cells₀
 

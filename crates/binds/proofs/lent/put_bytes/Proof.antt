@@ -8,7 +8,6 @@ use Rattle.binds.proofs.lent.put_bytes.Tie as tie
 use Rattle.binds.proofs.lent.put_bytes.Reads as reads
 use Rattle.binds.proofs.lent.put_bytes.Lts as lts
 
-
 abbrev Inv-loop : tie.InvT-loop
 Inv-loop text₀ from bytes at₀ next₀ text at next = length text ≡ length text₀
 

@@ -9,7 +9,6 @@ use Rattle.binds.proofs.lent.put_words.Reads as reads
 use Rattle.binds.proofs.lent.put_words.Lts as lts
 use Rattle.binds.proofs.lent.word_of.Reads as word-of-reads
 
-
 abbrev Inv-loop : tie.InvT-loop
 Inv-loop cells₀ from bytes at₀ next₀ cells at next = (length cells ≡ length cells₀) × (next ≤ length bytes)
 

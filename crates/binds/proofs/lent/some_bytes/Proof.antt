@@ -5,7 +5,6 @@ use Rattle.binds.proofs.lent.some_bytes.Tie as tie
 use Rattle.binds.proofs.lent.some_bytes.Reads as reads
 use Rattle.binds.proofs.lent.some_bytes.Lts as lts
 
-
 -- src/main.rt:99:1
 returns : tie.Need-returns
 returns c = (omega arith, simp length-take (omega arith))

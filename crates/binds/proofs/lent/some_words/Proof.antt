@@ -5,7 +5,6 @@ use Rattle.binds.proofs.lent.some_words.Tie as tie
 use Rattle.binds.proofs.lent.some_words.Reads as reads
 use Rattle.binds.proofs.lent.some_words.Lts as lts
 
-
 -- src/main.rt:92:1
 returns : tie.Need-returns
 returns c = (omega arith, simp length-take (omega arith))

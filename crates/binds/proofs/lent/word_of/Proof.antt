@@ -9,7 +9,6 @@ use Rattle.binds.proofs.lent.word_of.Reads as reads
 use Rattle.binds.proofs.lent.word_of.Lts as lts
 use Rattle.binds.proofs.lent.wide.Reads as wide-reads
 
-
 abbrev Inv-loop : tie.InvT-loop
 Inv-loop bytes from word₀ at₀ left₀ word at left = at + left ≤ length bytes
 

@@ -10,7 +10,6 @@ use Rattle.binds.proofs.say.slots_digest.Lts as lts
 use Rattle.binds.proofs.say.slot_digest.Reads as slot-digest-reads
 use Rattle.rooms.proofs.scope.Scope.value_of.Reads as value-of-reads
 
-
 abbrev Inv-loop : tie.InvT-loop
 Inv-loop scope sum₀ at₀ sum at = at ≤ 128
 

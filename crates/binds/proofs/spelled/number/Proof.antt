@@ -10,7 +10,6 @@ use Rattle.binds.proofs.spelled.number.Lts as lts
 use Rattle.binds.proofs.spelled.digit.Reads as digit-reads
 use Rattle.binds.proofs.spelled.wide.Reads as wide-reads
 
-
 abbrev Inv-loop : tie.InvT-loop
 Inv-loop part value₀ at₀ value at = at ≤ length part
 
