@@ -30,15 +30,12 @@ all-lent c =
     (mapped-length (given .bindings .scope .slots) _ 128 (slots .1 .0 .1))
     (slots-fit (given .bindings .scope .slots) (slots .0) (slots .1 .1))
 
--- src/lib.rt:73:9
 check-requires : tie.Need-check-requires
 check-requires c κs = search needs
 
--- src/lib.rt:74:29
 enum-known-checked : tie.Need-enum-known-checked
 enum-known-checked c = search needs
 
--- src/lib.rt:75:9
 returns : tie.Need-returns
 returns c =
     let given = c .before .before .before .before .before .before .before .before .before .before .args in
@@ -49,15 +46,12 @@ returns c =
 enum-told : tie.Need-enum-told
 enum-told c = search needs
 
--- src/lib.rt:77:9
 sound-requires : tie.Need-sound-requires
 sound-requires c κs = search needs
 
--- src/lib.rt:78:31
 enum-known-soundness : tie.Need-enum-known-soundness
 enum-known-soundness c = search needs
 
--- src/lib.rt:79:9
 returns-2 : tie.Need-returns-2
 returns-2 c =
     let given = c .before .before .before .before .before .before .before .before .before .before .before .before .before .args in
@@ -68,22 +62,18 @@ returns-2 c =
 enum-told-2 : tie.Need-enum-told-2
 enum-told-2 c = search needs
 
--- src/lib.rt:82:5
 run-requires : tie.Need-run-requires
 run-requires c κs =
     let given = c .before .before .before .before .before .before .before .before .before .before .before .before .before .before .before .args in
     let lent = rooms (given .literal .now) (given .binding-cells .now) (given .binding-text .now) (given .cells .now) (given .text .now) in
     root-sound (given .table .now) (given .bindings) (given .steps) lent (sym (c .before .before .before .before .before .before .before .before .check .ensures) ∙ c .before .before .before .before .before .before .enum-told .given .1)
 
--- src/lib.rt:61:1
 same-length : tie.Need-same-length
 same-length c = search needs
 
--- src/lib.rt:61:1
 same-length-2 : tie.Need-same-length-2
 same-length-2 c = search needs
 
--- src/lib.rt:61:1
 returns-3 : tie.Need-returns-3
 returns-3 c =
     let given = c .before .before .before .before .before .before .before .before .before .before .before .before .before .before .before .before .before .before .before .before .args in

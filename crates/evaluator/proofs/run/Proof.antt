@@ -1,35 +1,25 @@
+-- `run` meets its contract. Assumes nothing.
 use Rattle.table.specs.Records.{exprOf}
 use Rattle.evaluator.proofs.Running.{run-answers}
 use borrow.Author.Needs.{needs}
 use Rattle.evaluator.proofs.run.Statement.{statement}
 use Rattle.evaluator.proofs.run.Tie as tie
-use Rattle.evaluator.proofs.run.Reads as reads
-use Rattle.evaluator.proofs.run.Lts as lts
-use Rattle.answers.proofs.answered.Reads as answered-reads
-use Rattle.answers.proofs.step_limit.Reads as step-limit-reads
-use Rattle.recursion.proofs.eval.eval.Reads as eval-reads
 
--- src/lib.rt:43:9
 step-limit-requires : tie.Need-step-limit-requires
 step-limit-requires c κs = search needs
 
--- src/lib.rt:44:9
 eval-requires : tie.Need-eval-requires
 eval-requires c κs = search needs
 
--- src/lib.rt:56:5
 answered-requires : tie.Need-answered-requires
 answered-requires c κs = search needs
 
--- src/lib.rt:25:1
 same-length : tie.Need-same-length
 same-length c = search needs
 
--- src/lib.rt:25:1
 same-length-2 : tie.Need-same-length-2
 same-length-2 c = search needs
 
--- src/lib.rt:25:1
 returns : tie.Need-returns
 returns c =
     let given = c .before .before .before .before .before .before .before .before .before .before .before .before .before .before .before .before .before .before .before .before .before .args in
