@@ -1,0 +1,2 @@
+-- What a sound room holds, and what the place of an unsound one names.
+pub mod Verdicts
