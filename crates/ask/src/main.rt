@@ -1,0 +1,54 @@
+// Evaluates one rule from standard input, with no bindings and the largest limits, and writes the answer as one line.
+// The input: the length of the literal text (two bytes, the lower first), the text, and the table to the end.
+use libc::STDIN_FILENO;
+use libc::STDOUT_FILENO;
+use shown::lines::LONGEST_LINE;
+use shown::lines::put_answer;
+
+const LENGTH_BYTES: usize = 2;
+
+// The longest text, and one byte more than the longest table, by which a longer one is seen.
+const INPUT: usize = 2 + 65535 + 16385;
+
+const WORDS: usize = 8192;
+const BYTES: usize = 16384;
+const MOST_STEPS: usize = 1000000;
+
+fn say(words: &[u8]) {
+    io::write_all(STDOUT_FILENO, words);
+}
+
+fn answer(literal: &[u8], table: &[u8]) {
+    let mut cells = [0u64; WORDS];
+    let mut text = [0u8; BYTES];
+    let mut line = [0u8; LONGEST_LINE];
+    let answer = evaluator::evaluate(
+        table,
+        literal,
+        bindings::empty(),
+        &[],
+        &[],
+        &mut cells,
+        &mut text,
+        MOST_STEPS,
+    );
+    let length = put_answer(literal, &[], &[], &cells, &text, answer, &mut line);
+    say(&line[..length]);
+    say(b"\n");
+}
+
+fn main() {
+    let mut input = [0u8; INPUT];
+    let count = io::read_full(STDIN_FILENO, &mut input);
+    if count < LENGTH_BYTES {
+        say(b"The input ends before the length of its text.\n");
+        return;
+    }
+    let length = (input[0] as usize) + 256 * (input[1] as usize);
+    let start = LENGTH_BYTES + length;
+    if count < start {
+        say(b"The input ends before its text does.\n");
+        return;
+    }
+    answer(&input[LENGTH_BYTES..start], &input[start..count]);
+}
