@@ -6,11 +6,23 @@ pub struct Word {
     pub end: usize,
 }
 
-// The first place from one on that holds a byte, or that does not; the line's end where there is none.
-pub fn find(line: &[u8], from: usize, byte: u8, is: bool) -> usize {
+// The first place from one on that holds a byte; the end where there is none.
+pub fn find(bytes: &[u8], from: usize, byte: u8) -> usize {
+    let mut at = from;
+    while at < bytes.len() {
+        if bytes[at] == byte {
+            return at;
+        }
+        at += 1;
+    }
+    bytes.len()
+}
+
+// The first place from one on that holds no space; the end where there is none.
+fn behind_spaces(line: &[u8], from: usize) -> usize {
     let mut at = from;
     while at < line.len() {
-        if (line[at] == byte) == is {
+        if line[at] != b' ' {
             return at;
         }
         at += 1;
@@ -19,7 +31,12 @@ pub fn find(line: &[u8], from: usize, byte: u8, is: bool) -> usize {
 }
 
 pub fn word_from(line: &[u8], from: usize) -> Word {
-    let start = find(line, from, b' ', false);
-    let end = find(line, start, b' ', true);
+    let start = behind_spaces(line, from);
+    let end = find(line, start, b' ');
     Word { start, end }
+}
+
+// Whether no word is left.
+pub fn is_over(line: &[u8], from: usize) -> bool {
+    behind_spaces(line, from) == line.len()
 }

@@ -1,9 +1,22 @@
-// What is lent for an evaluation: contents of its own before, and what became of them.
+// Lent memory: how much of it, contents of its own before an evaluation, and what became of them.
 use answers::Answer;
 use machine::outcome::Used;
 
-const WORD: u64 = 0xA5A5A5A5A5A5A5A5;
+const WORD: u64 = 0xA5A5_A5A5_A5A5_A5A5;
+
 const BYTE: u8 = 0xA5;
+
+// The words of so many cells, or of as many as there are.
+pub fn words_of(cells: &[u64], count: usize) -> usize {
+    let most = cells.len();
+    if most / 2 < count { most } else { count * 2 }
+}
+
+// So many bytes, or as many as there are.
+pub fn bytes_of(text: &[u8], count: usize) -> usize {
+    let most = text.len();
+    if most < count { most } else { count }
+}
 
 pub fn fill_words(cells: &mut [u64]) {
     let mut at = 0;
@@ -21,9 +34,9 @@ pub fn fill_bytes(text: &mut [u8]) {
     }
 }
 
-fn words_are(cells: &[u64], from: usize, to: usize, word: u64) -> bool {
-    let mut at = from;
-    while at < to && at < cells.len() {
+fn words_are(cells: &[u64], word: u64) -> bool {
+    let mut at = 0;
+    while at < cells.len() {
         if cells[at] != word {
             return false;
         }
@@ -32,9 +45,9 @@ fn words_are(cells: &[u64], from: usize, to: usize, word: u64) -> bool {
     true
 }
 
-fn bytes_are(text: &[u8], from: usize, to: usize, byte: u8) -> bool {
-    let mut at = from;
-    while at < to && at < text.len() {
+fn bytes_are(text: &[u8], byte: u8) -> bool {
+    let mut at = 0;
+    while at < text.len() {
         if text[at] != byte {
             return false;
         }
@@ -45,26 +58,22 @@ fn bytes_are(text: &[u8], from: usize, to: usize, byte: u8) -> bool {
 
 // Above the counts.
 fn is_as_lent(cells: &[u64], text: &[u8], used: Used) -> bool {
-    words_are(cells, used.cells * 2, cells.len(), WORD) && bytes_are(text, used.bytes, text.len(), BYTE)
+    let words = words_of(cells, used.cells);
+    let bytes = bytes_of(text, used.bytes);
+    words_are(&cells[words..], WORD) && bytes_are(&text[bytes..], BYTE)
 }
 
 // Below the counts.
 fn is_cleared(cells: &[u64], text: &[u8], used: Used) -> bool {
-    words_are(cells, 0, used.cells * 2, 0) && bytes_are(text, 0, used.bytes, 0)
+    let words = words_of(cells, used.cells);
+    let bytes = bytes_of(text, used.bytes);
+    words_are(&cells[..words], 0) && bytes_are(&text[..bytes], 0)
 }
 
 // As lent above the counts, and zero below them unless there is a value.
 pub fn is_kept(cells: &[u64], text: &[u8], answer: Answer) -> bool {
     match answer {
-        Answer::Refused(_, _) => is_as_lent(
-            cells,
-            text,
-            Used {
-                steps: 0,
-                cells: 0,
-                bytes: 0,
-            },
-        ),
+        Answer::Refused(_, _) => words_are(cells, WORD) && bytes_are(text, BYTE),
         Answer::Value(_, used) => is_as_lent(cells, text, used),
         Answer::Error(_, _, used) => is_as_lent(cells, text, used) && is_cleared(cells, text, used),
         Answer::Exhausted(_, used) => is_as_lent(cells, text, used) && is_cleared(cells, text, used),

@@ -1,69 +1,82 @@
-// Numbers and bytes as words spell them.
+// Numbers and bytes as the words of a line spell them.
+use crate::line::word_from;
 
-pub enum Number {
-    Is(usize),
+// The number, or how many bytes there are, and where the word ends; or that it spells none.
+pub enum Spelled {
+    Is(usize, usize),
     No,
 }
 
-const MOST: usize = 0xFFFFFFFFFFFFFFFF;
+const MOST: usize = 0xFFFF_FFFF_FFFF_FFFF;
 
 // One decimal digit more; a number that grows too large stays the largest.
-fn longer(number: usize, digit: usize) -> usize {
-    if (MOST - digit) / 10 < number {
+fn longer(number: usize, digit: u8) -> usize {
+    let more = digit as usize;
+    if (MOST - more) / 10 < number {
         return MOST;
     }
-    number * 10 + digit
+    number * 10 + more
 }
 
-// Decimal digits, at least one.
-pub fn number(word: &[u8]) -> Number {
-    if word.len() == 0 {
-        return Number::No;
+// A word of decimal digits, at least one.
+pub fn number_from(line: &[u8], from: usize) -> Spelled {
+    let word = word_from(line, from);
+    let end = word.end;
+    let mut at = word.start;
+    if at == end {
+        return Spelled::No;
     }
     let mut number = 0;
-    let mut at = 0;
-    while at < word.len() {
-        let digit = word[at];
+    while at < end {
+        let digit = line[at];
         if digit < b'0' || b'9' < digit {
-            return Number::No;
+            return Spelled::No;
         }
-        number = longer(number, (digit - b'0') as usize);
+        number = longer(number, digit - b'0');
         at += 1;
     }
-    Number::Is(number)
+    Spelled::Is(number, end)
 }
 
-// Sixteen for a byte that is no hexadecimal digit.
+const NO_DIGIT: u8 = 16;
+
 fn digit_of(byte: u8) -> u8 {
-    if b'0' <= byte && byte <= b'9' {
-        return byte - b'0';
+    match byte {
+        b'0'..=b'9' => byte - b'0',
+        b'a'..=b'f' => byte - b'a' + 10,
+        b'A'..=b'F' => byte - b'A' + 10,
+        _ => NO_DIGIT,
     }
-    if b'a' <= byte && byte <= b'f' {
-        return byte - b'a' + 10;
-    }
-    if b'A' <= byte && byte <= b'F' {
-        return byte - b'A' + 10;
-    }
-    16
 }
 
-// Two hexadecimal digits a byte, or `-` for none; how many bytes there are now in `out`.
-pub fn bytes(word: &[u8], out: &mut [u8]) -> Number {
-    if word.len() == 1 && word[0] == b'-' {
-        return Number::Is(0);
+// The bytes that two hexadecimal digits each spell, at the start of `out`.
+fn bytes_of(word: &[u8], out: &mut [u8], end: usize) -> Spelled {
+    let count = word.len() / 2;
+    if word.len() == 0 || word.len() % 2 == 1 || out.len() < count {
+        return Spelled::No;
     }
-    if word.len() == 0 || word.len() % 2 == 1 || out.len() < word.len() / 2 {
-        return Number::No;
-    }
-    let mut count = 0;
-    while count < word.len() / 2 {
-        let high = digit_of(word[count * 2]);
-        let low = digit_of(word[count * 2 + 1]);
-        if 15 < high || 15 < low {
-            return Number::No;
+    let mut at = 0;
+    while at < count {
+        let high = digit_of(word[at * 2]);
+        let low = digit_of(word[at * 2 + 1]);
+        if high == NO_DIGIT || low == NO_DIGIT {
+            return Spelled::No;
         }
-        out[count] = high * 16 + low;
-        count += 1;
+        out[at] = (high << 4) | low;
+        at += 1;
     }
-    Number::Is(count)
+    Spelled::Is(count, end)
+}
+
+// A word of hexadecimal digits, or `-` for no bytes.
+pub fn bytes_from(line: &[u8], from: usize, out: &mut [u8]) -> Spelled {
+    let word = word_from(line, from);
+    let start = word.start;
+    let end = word.end;
+    if end - start == 1 {
+        if line[start] == b'-' {
+            return Spelled::Is(0, end);
+        }
+    }
+    bytes_of(&line[start..end], out, end)
 }

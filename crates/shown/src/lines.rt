@@ -1,7 +1,6 @@
 // The line of an answer.
 use crate::pieces::put_number;
 use crate::pieces::put_word;
-use crate::values::LEVELS;
 use crate::values::put_value;
 use answers::Answer;
 use machine::outcome::Limit;
@@ -12,24 +11,25 @@ use rooms::value::Value;
 // So much of a value is shown.
 pub const LONGEST_VALUE: usize = 1000000;
 
-// A value that goes on where it is cut, and the counts.
-const REST: usize = 128;
+// One byte more, by which a longer value is seen.
+const SEEN: usize = 1000001;
 
-pub const LONGEST_LINE: usize = LONGEST_VALUE + REST;
+// A value that is cut, that it goes on, and the counts.
+pub const LONGEST_LINE: usize = 1000128;
 
 fn put_counts(out: &mut [u8], at: usize, used: Used) -> usize {
     let steps = put_word(out, at, b" steps ");
-    let cells = put_number(out, steps, used.steps as u64);
-    let middle = put_word(out, cells, b" cells ");
-    let bytes = put_number(out, middle, used.cells as u64);
-    let last = put_word(out, bytes, b" bytes ");
-    put_number(out, last, used.bytes as u64)
+    let after_steps = put_number(out, steps, used.steps as u64);
+    let cells = put_word(out, after_steps, b" cells ");
+    let after_cells = put_number(out, cells, used.cells as u64);
+    let bytes = put_word(out, after_cells, b" bytes ");
+    put_number(out, bytes, used.bytes as u64)
 }
 
-fn put_placed(out: &mut [u8], at: usize, before: &[u8], number: u8, place: usize) -> usize {
-    let next = put_word(out, at, before);
-    let middle = put_number(out, next, number as u64);
-    let last = put_word(out, middle, b" at ");
+// A number and the place that it is about.
+fn put_placed(out: &mut [u8], at: usize, number: u8, place: usize) -> usize {
+    let next = put_number(out, at, number as u64);
+    let last = put_word(out, next, b" at ");
     put_number(out, last, place as u64)
 }
 
@@ -42,7 +42,11 @@ fn put_limit(out: &mut [u8], at: usize, limit: Limit) -> usize {
     }
 }
 
-// The value, or its first bytes and that it goes on.
+fn lesser(left: usize, right: usize) -> usize {
+    if left < right { left } else { right }
+}
+
+// The value at the start of `out`, or its first bytes and that it goes on.
 fn put_cut(
     literal: &[u8],
     binding_cells: &[u64],
@@ -52,16 +56,13 @@ fn put_cut(
     value: Value,
     out: &mut [u8],
 ) -> usize {
-    // one byte more, by which a longer value is seen
-    let most = LONGEST_VALUE + 1;
-    let room = if most < out.len() { most } else { out.len() };
+    let room = lesser(SEEN, out.len());
     let next = put_value(
         literal,
         binding_cells,
         binding_text,
         cells,
         text,
-        LEVELS,
         value,
         &mut out[..room],
         0,
@@ -83,7 +84,10 @@ pub fn put_answer(
     out: &mut [u8],
 ) -> usize {
     match answer {
-        Answer::Refused(number, place) => put_placed(out, 0, b"Refused ", number, place),
+        Answer::Refused(number, place) => {
+            let next = put_word(out, 0, b"Refused ");
+            put_placed(out, next, number, place)
+        }
         Answer::Value(value, used) => {
             let next = put_cut(
                 literal,
@@ -97,8 +101,9 @@ pub fn put_answer(
             put_counts(out, next, used)
         }
         Answer::Error(error, place, used) => {
-            let next = put_placed(out, 0, b"Error ", error_number(error), place);
-            put_counts(out, next, used)
+            let next = put_word(out, 0, b"Error ");
+            let after = put_placed(out, next, error_number(error), place);
+            put_counts(out, after, used)
         }
         Answer::Exhausted(limit, used) => {
             let next = put_limit(out, 0, limit);

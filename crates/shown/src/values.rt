@@ -1,27 +1,24 @@
 // A value as text. Parts that stand in it many times are put each time, up to where the memory ends.
-use crate::pieces::put_bits;
+use crate::pieces::put_digits;
 use crate::pieces::put_number;
 use crate::pieces::put_quoted;
 use crate::pieces::put_signed;
 use crate::pieces::put_word;
-use numbers::double::Double;
+use comparing::texts::part;
 use numbers::double::to_bits;
+use numbers::order::Number;
 use rooms::cells::cell_at;
 use rooms::value::CellSpace;
+use rooms::value::Parts;
+use rooms::value::Plain;
 use rooms::value::TextSpace;
 use rooms::value::Value;
+use rooms::value::nesting_of;
+use rooms::value::parts_of;
+use rooms::value::plain_of;
 
-// More levels than any value has.
-pub const LEVELS: usize = 33;
-
-// A part of a text; nothing if it does not lie there.
-fn put_part(out: &mut [u8], at: usize, text: &[u8], first: usize, length: usize) -> usize {
-    let end = first + length;
-    if text.len() < end {
-        return at;
-    }
-    put_quoted(out, at, &text[first..end])
-}
+// Hexadecimal digits of a Double.
+const DIGITS: usize = 16;
 
 fn put_text(
     literal: &[u8],
@@ -33,12 +30,14 @@ fn put_text(
     out: &mut [u8],
     at: usize,
 ) -> usize {
-    let start = first as usize;
-    let size = length as usize;
     match space {
-        TextSpace::Literal => put_part(out, at, literal, start, size),
-        TextSpace::Binding => put_part(out, at, binding_text, start, size),
-        TextSpace::Evaluation => put_part(out, at, text, start, size),
+        TextSpace::Literal => put_quoted(out, at, part(literal, first as usize, length as usize)),
+        TextSpace::Binding => put_quoted(
+            out,
+            at,
+            part(binding_text, first as usize, length as usize),
+        ),
+        TextSpace::Evaluation => put_quoted(out, at, part(text, first as usize, length as usize)),
     }
 }
 
@@ -50,19 +49,58 @@ fn put_bool(out: &mut [u8], at: usize, truth: bool) -> usize {
     }
 }
 
-fn put_double(out: &mut [u8], at: usize, double: Double) -> usize {
-    let next = put_word(out, at, b"Double 0x");
-    put_bits(out, next, to_bits(double))
-}
-
-fn put_separator(out: &mut [u8], at: usize, before: usize) -> usize {
-    if 0 < before {
-        return put_word(out, at, b", ");
+fn put_numeral(out: &mut [u8], at: usize, number: Number) -> usize {
+    match number {
+        Number::Int(int) => {
+            let next = put_word(out, at, b"Int ");
+            put_signed(out, next, int)
+        }
+        Number::Uint(uint) => {
+            let next = put_word(out, at, b"Uint ");
+            put_number(out, next, uint)
+        }
+        Number::Double(double) => {
+            let next = put_word(out, at, b"Double 0x");
+            put_digits(out, next, to_bits(double), DIGITS)
+        }
     }
-    at
 }
 
-// The elements of a List, or the part of an Optional: so many cells from one on.
+// A value without parts.
+fn put_plain(
+    literal: &[u8],
+    binding_text: &[u8],
+    text: &[u8],
+    plain: Plain,
+    out: &mut [u8],
+    at: usize,
+) -> usize {
+    match plain {
+        Plain::Null => put_word(out, at, b"Null"),
+        Plain::Bool(truth) => put_bool(out, at, truth),
+        Plain::Number(number) => put_numeral(out, at, number),
+        Plain::String(space, first, length) => {
+            let next = put_word(out, at, b"String ");
+            put_text(literal, binding_text, text, space, first, length, out, next)
+        }
+        Plain::Bytes(space, first, length) => {
+            let next = put_word(out, at, b"Bytes ");
+            put_text(literal, binding_text, text, space, first, length, out, next)
+        }
+        Plain::OptionalNone => put_word(out, at, b"Optional none"),
+        Plain::Other => at,
+    }
+}
+
+// Between two parts: where there are more to come.
+fn put_separator(out: &mut [u8], at: usize, left: usize) -> usize {
+    if left == 0 {
+        return at;
+    }
+    put_word(out, at, b", ")
+}
+
+// So many elements, a cell each, with so many levels left.
 fn put_elements(
     literal: &[u8],
     binding_cells: &[u64],
@@ -77,27 +115,29 @@ fn put_elements(
     at: usize,
 ) -> usize {
     let mut next = at;
-    let mut i = 0;
-    while i < (length as usize) {
-        next = put_separator(out, next, i);
-        let part = cell_at(binding_cells, cells, space, (first as usize) + i);
-        next = put_value(
+    let mut place = first as usize;
+    let mut left = length as usize;
+    while 0 < left {
+        left -= 1;
+        let element = cell_at(binding_cells, cells, space, place);
+        next = put_nested(
             literal,
             binding_cells,
             binding_text,
             cells,
             text,
             levels,
-            part,
+            element,
             out,
             next,
         );
-        i += 1;
+        next = put_separator(out, next, left);
+        place += 1;
     }
     next
 }
 
-// The entries of a Map: so many pairs of cells.
+// So many entries, two cells each.
 fn put_entries(
     literal: &[u8],
     binding_cells: &[u64],
@@ -112,12 +152,12 @@ fn put_entries(
     at: usize,
 ) -> usize {
     let mut next = at;
-    let mut i = 0;
-    while i < (length as usize) {
-        next = put_separator(out, next, i);
-        let place = (first as usize) + i * 2;
+    let mut place = first as usize;
+    let mut left = length as usize;
+    while 0 < left {
+        left -= 1;
         let key = cell_at(binding_cells, cells, space, place);
-        next = put_value(
+        next = put_nested(
             literal,
             binding_cells,
             binding_text,
@@ -129,25 +169,26 @@ fn put_entries(
             next,
         );
         next = put_word(out, next, b": ");
-        let part = cell_at(binding_cells, cells, space, place + 1);
-        next = put_value(
+        let value = cell_at(binding_cells, cells, space, place + 1);
+        next = put_nested(
             literal,
             binding_cells,
             binding_text,
             cells,
             text,
             levels,
-            part,
+            value,
             out,
             next,
         );
-        i += 1;
+        next = put_separator(out, next, left);
+        place += 2;
     }
     next
 }
 
-// With so many levels left, this one among them.
-pub fn put_value(
+// A value and its parts, with so many levels left. Where the memory is full nothing more is looked at.
+fn put_nested(
     literal: &[u8],
     binding_cells: &[u64],
     binding_text: &[u8],
@@ -161,28 +202,9 @@ pub fn put_value(
     if levels == 0 || out.len() <= at {
         return at;
     }
-    match value {
-        Value::Null => put_word(out, at, b"Null"),
-        Value::Bool(truth) => put_bool(out, at, truth),
-        Value::Int(number) => {
-            let next = put_word(out, at, b"Int ");
-            put_signed(out, next, number)
-        }
-        Value::Uint(number) => {
-            let next = put_word(out, at, b"Uint ");
-            put_number(out, next, number)
-        }
-        Value::Double(number) => put_double(out, at, Double::Plain(number)),
-        Value::Nan(bits) => put_double(out, at, Double::Nan(bits)),
-        Value::String(space, first, length) => {
-            let next = put_word(out, at, b"String ");
-            put_text(literal, binding_text, text, space, first, length, out, next)
-        }
-        Value::Bytes(space, first, length) => {
-            let next = put_word(out, at, b"Bytes ");
-            put_text(literal, binding_text, text, space, first, length, out, next)
-        }
-        Value::List(_, space, first, length) => {
+    let within = levels - 1;
+    match parts_of(value) {
+        Parts::Elements(space, first, length) => {
             let next = put_word(out, at, b"List [");
             let end = put_elements(
                 literal,
@@ -190,7 +212,7 @@ pub fn put_value(
                 binding_text,
                 cells,
                 text,
-                levels - 1,
+                within,
                 space,
                 first,
                 length,
@@ -199,7 +221,7 @@ pub fn put_value(
             );
             put_word(out, end, b"]")
         }
-        Value::Map(_, space, first, length) => {
+        Parts::Entries(space, first, length) => {
             let next = put_word(out, at, b"Map {");
             let end = put_entries(
                 literal,
@@ -207,7 +229,7 @@ pub fn put_value(
                 binding_text,
                 cells,
                 text,
-                levels - 1,
+                within,
                 space,
                 first,
                 length,
@@ -216,23 +238,45 @@ pub fn put_value(
             );
             put_word(out, end, b"}")
         }
-        Value::OptionalNone => put_word(out, at, b"Optional none"),
-        Value::OptionalOf(_, space, cell) => {
+        Parts::Present(space, cell) => {
             let next = put_word(out, at, b"Optional of ");
-            put_elements(
+            let part = cell_at(binding_cells, cells, space, cell as usize);
+            put_nested(
                 literal,
                 binding_cells,
                 binding_text,
                 cells,
                 text,
-                levels - 1,
-                space,
-                cell,
-                1,
+                within,
+                part,
                 out,
                 next,
             )
         }
-        Value::Absent => at,
+        Parts::Nothing => put_plain(literal, binding_text, text, plain_of(value), out, at),
     }
+}
+
+pub fn put_value(
+    literal: &[u8],
+    binding_cells: &[u64],
+    binding_text: &[u8],
+    cells: &[u64],
+    text: &[u8],
+    value: Value,
+    out: &mut [u8],
+    at: usize,
+) -> usize {
+    let nesting = nesting_of(value) as usize;
+    put_nested(
+        literal,
+        binding_cells,
+        binding_text,
+        cells,
+        text,
+        nesting + 1,
+        value,
+        out,
+        at,
+    )
 }
