@@ -11,7 +11,9 @@ const LENGTH_BYTES: usize = 2;
 const INPUT: usize = 2 + 65535 + 16385;
 
 const WORDS: usize = 8192;
+
 const BYTES: usize = 16384;
+
 const MOST_STEPS: usize = 1000000;
 
 fn say(words: &[u8]) {

@@ -76,6 +76,7 @@ pub fn is_kept(cells: &[u64], text: &[u8], answer: Answer) -> bool {
         Answer::Refused(_, _) => words_are(cells, WORD) && bytes_are(text, BYTE),
         Answer::Value(_, used) => is_as_lent(cells, text, used),
         Answer::Error(_, _, used) => is_as_lent(cells, text, used) && is_cleared(cells, text, used),
-        Answer::Exhausted(_, used) => is_as_lent(cells, text, used) && is_cleared(cells, text, used),
+        Answer::Exhausted(_, used) => is_as_lent(cells, text, used)
+            && is_cleared(cells, text, used),
     }
 }
