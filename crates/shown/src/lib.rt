@@ -1,4 +1,3 @@
-// An answer as a line of text, put into lent memory: pieces of text, values, whole lines.
+// An answer as a line of text, put into lent memory: values, whole lines.
 pub mod lines;
-pub mod pieces;
 pub mod values;

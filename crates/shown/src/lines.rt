@@ -1,10 +1,10 @@
 // The line of an answer.
-use crate::pieces::put_number;
-use crate::pieces::put_word;
 use crate::values::put_value;
 use answers::Answer;
 use machine::outcome::Limit;
 use machine::outcome::Used;
+use pieces::put_number;
+use pieces::put_word;
 use reading::reasons::error_number;
 use rooms::value::Value;
 

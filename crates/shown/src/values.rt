@@ -1,12 +1,12 @@
 // A value as text. Parts that stand in it many times are put each time, up to where the memory ends.
-use crate::pieces::put_digits;
-use crate::pieces::put_number;
-use crate::pieces::put_quoted;
-use crate::pieces::put_signed;
-use crate::pieces::put_word;
 use comparing::texts::part;
 use numbers::double::to_bits;
 use numbers::order::Number;
+use pieces::put_digits;
+use pieces::put_number;
+use pieces::put_quoted;
+use pieces::put_signed;
+use pieces::put_word;
 use rooms::cells::cell_at;
 use rooms::value::CellSpace;
 use rooms::value::Parts;

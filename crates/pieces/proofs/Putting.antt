@@ -1,0 +1,46 @@
+-- Text put into memory, a byte or a text after the other. Assumes nothing.
+use Prim.Native.Nat.{ℕ, suc, _+_, _≤_, _<_}
+use mathlib.Core.Path.{_≡_, refl, sym, ap, _∙_}
+use mathlib.Core.Bool.{cond}
+use mathlib.Core.List.{List, [], _∷_, _++_}
+use native.Mathlib.Numerals.{add-one}
+use lib.Dec.{ltb}
+use lib.ListN.{length, set, getD, drop, drop-of-length-le}
+use lib.Seq.{drop-cons}
+use borrow.Author.Tests.{lt-ltb, le-ltb}
+use Rattle.pieces.specs.Page.{Page, put, puts}
+
+-- ---- a byte
+
+pub put-in : (b at : ℕ) (out : List ℕ) → at < length out → _≡_ {A = Page} (at + 1, set out at b) (put b (at, out))
+unfolding put
+put-in b at out h = (λ i. (add-one at i, set out at b)) ∙ ap (λ t. cond t (suc at, set out at b) (at, out)) (sym (lt-ltb at (length out) h))
+
+pub put-out : (b at : ℕ) (out : List ℕ) → length out ≤ at → _≡_ {A = Page} (at, out) (put b (at, out))
+unfolding put
+put-out b at out h = ap (λ t. cond t (suc at, set out at b) (at, out)) (sym (le-ltb at (length out) h))
+
+pub puts-one : (b : ℕ) (p : Page) → puts (b ∷ []) p ≡ put b p
+unfolding puts
+puts-one b p = refl
+
+-- ---- texts
+
+pub puts-none : (p : Page) → puts [] p ≡ p
+unfolding puts
+puts-none p = refl
+
+pub puts-joined : (s t : List ℕ) (p : Page) → puts (s ++ t) p ≡ puts t (puts s p)
+unfolding puts
+puts-joined [] t p = refl
+puts-joined (b ∷ s) t p = puts-joined s t (put b p)
+
+-- ---- the turns of a loop over a text
+
+pub word-on : (w : List ℕ) (i : ℕ) (p q : Page) → i < length w → q ≡ put (getD w i 0) p → puts (drop (i + 1) w) q ≡ puts (drop i w) p
+unfolding puts
+word-on w i p q h e = (λ j. puts (drop (add-one i j) w) (e j)) ∙ ap (λ s. puts s p) (sym (drop-cons w i 0 h))
+
+pub word-over : (w : List ℕ) (i : ℕ) (p : Page) → length w ≤ i → p ≡ puts (drop i w) p
+unfolding puts
+word-over w i p h = ap (λ s. puts s p) (sym (drop-of-length-le w h))
