@@ -2,8 +2,8 @@
 // The input: the length of the literal text (two bytes, the lower first), the text, and the table to the end.
 use libc::STDIN_FILENO;
 use libc::STDOUT_FILENO;
-use shown::lines::LONGEST_LINE;
-use shown::lines::put_answer;
+use lines::LONGEST_LINE;
+use lines::put_answer;
 
 const LENGTH_BYTES: usize = 2;
 

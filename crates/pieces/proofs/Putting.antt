@@ -35,6 +35,18 @@ unfolding puts
 puts-joined [] t p = refl
 puts-joined (b ∷ s) t p = puts-joined s t (put b p)
 
+pub puts-two : (s t : List ℕ) (p q r : Page) → q ≡ puts s p → r ≡ puts t q → r ≡ puts (s ++ t) p
+puts-two s t p q r e f = f ∙ ap (puts t) e ∙ sym (puts-joined s t p)
+
+pub puts-three : (s t u : List ℕ) (p q l r : Page) → q ≡ puts s p → l ≡ puts t q → r ≡ puts u l → r ≡ puts (s ++ t ++ u) p
+puts-three s t u p q l r e f g = puts-two (s ++ t) u p l r (puts-two s t p q l e f) g
+
+-- where the memory is full nothing is put
+pub puts-full : (s : List ℕ) (at : ℕ) (out : List ℕ) → length out ≤ at → _≡_ {A = Page} (at, out) (puts s (at, out))
+unfolding puts
+puts-full [] at out h = refl
+puts-full (b ∷ s) at out h = puts-full s at out h ∙ ap (puts s) (put-out b at out h)
+
 -- ---- the turns of a loop over a text
 
 pub word-on : (w : List ℕ) (i : ℕ) (p q : Page) → i < length w → q ≡ put (getD w i 0) p → puts (drop (i + 1) w) q ≡ puts (drop i w) p

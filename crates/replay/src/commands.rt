@@ -10,8 +10,7 @@ use crate::spelled::Spelled;
 use crate::spelled::bytes_from;
 use crate::spelled::number_from;
 use libc::STDOUT_FILENO;
-use shown::lines::put_answer;
-use shown::pieces::put_word;
+use lines::put_answer;
 use soundness::Bindings;
 use text::bytes::equal;
 

@@ -203,7 +203,7 @@ fn main() {
     let mut binding_text = [0u8; BYTES];
     let mut cells = [0u64; WORDS];
     let mut text = [0u8; BYTES];
-    let mut out = [0u8; shown::lines::LONGEST_LINE];
+    let mut out = [0u8; lines::LONGEST_LINE];
     let state = take_all(
         &mut chunk,
         &mut line,

@@ -1,9 +1,8 @@
--- Values and answers as text, where they lie. In order: elements, entries, a value whose parts are shown by a given function, a value of some
--- depth; an answer. That this is the text of what is read there is proved in proofs/Reads.
+-- Values as text where they lie. In order: a value without parts, elements, entries, a value whose parts are shown by a given function, a value
+-- of some depth. That this is the text of the value that is read there is proved in proofs/ReadOut.
 use Prim.Native.Nat.{ℕ, zero, suc}
 use Prim.Native.Char.{code}
 use mathlib.Core.List.{List, [], _∷_, _++_}
-use Rattle.meaning.specs.Errors.{errorNumber}
 use Rattle.rooms.specs.declared.value.Value.{Value}
 use Rattle.rooms.specs.declared.value.Parts.{Parts}
 use Rattle.rooms.specs.declared.value.Parts.the-variants as Parts
@@ -11,14 +10,8 @@ use Rattle.rooms.specs.declared.value.CellSpace.{CellSpace}
 use Rattle.rooms.specs.Value.{partsOf, nestingOf}
 use Rattle.rooms.specs.Rooms.{Rooms, cellAt}
 use Rattle.comparing.specs.Equality.{Seen, seenScalar, seenNone, seenOther, seenIn}
-use Rattle.reading.specs.Numbers.{errorMeant, limitMeant}
-use Rattle.answers.specs.declared.Answer.{Answer}
-use Rattle.answers.specs.declared.Answer.the-variants as Answer
-use Rattle.answers.specs.Meant.{countsIn}
 use Rattle.pieces.specs.Spelled.{ascii}
-use Rattle.shown.specs.Written.{writtenScalar, separator, shortened, placed, counted, exhausted}
-
--- ---- values
+use Rattle.shown.specs.Written.{writtenScalar, separator}
 
 -- a value without parts
 abbrev pub shownSeen : Seen → List ℕ
@@ -55,11 +48,3 @@ shownTo (suc n) r m = partsShown (λ part. shownTo n r part) r m (partsOf m)
 -- by the nesting that the value carries
 unfoldable pub shownIn : Rooms → Value → List ℕ
 shownIn r m = shownTo (suc (nestingOf m)) r m
-
--- ---- answers
-
-unfoldable pub shownAnswer : Rooms → Answer → List ℕ
-shownAnswer r (Answer.Refused number place) = ascii "Refused " ++ placed number place
-shownAnswer r (Answer.Value v u) = shortened (shownIn r v) ++ counted (countsIn u)
-shownAnswer r (Answer.Error e place u) = ascii "Error " ++ placed (errorNumber (errorMeant e)) place ++ counted (countsIn u)
-shownAnswer r (Answer.Exhausted x u) = exhausted (limitMeant x) ++ counted (countsIn u)

@@ -1,5 +1,5 @@
 // The line of an answer.
-use crate::values::put_value;
+use shown::put_value;
 use answers::Answer;
 use machine::outcome::Limit;
 use machine::outcome::Used;
