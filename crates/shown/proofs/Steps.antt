@@ -20,14 +20,14 @@ use Rattle.rooms.specs.declared.value.Plain.the-variants as Plain
 use Rattle.rooms.specs.declared.value.Parts.{Parts}
 use Rattle.rooms.specs.declared.value.Parts.the-variants as Parts
 use Rattle.rooms.specs.declared.value.CellSpace.{CellSpace}
-use Rattle.rooms.specs.Value.{partsOf, plainOf}
+use Rattle.rooms.specs.Value.{partsOf, plainOf, nestingOf}
 use Rattle.rooms.specs.Rooms.{Rooms, cellAt, part, textOf}
 use Rattle.comparing.specs.Equality.{numberScalar, seenOf, seenIn}
 use Rattle.pieces.specs.Page.{Page, puts}
 use Rattle.pieces.specs.Spelled.{ascii, hexadecimal, decimal, signed, quoted}
 use Rattle.pieces.proofs.Putting.{puts-none, puts-joined, puts-two, puts-three}
 use Rattle.shown.specs.Written.{writtenScalar, separator}
-use Rattle.shown.specs.Shown.{Show, shownSeen, elementsShown, entriesShown, partsShown, shownTo}
+use Rattle.shown.specs.Shown.{Show, shownSeen, elementsShown, entriesShown, partsShown, shownTo, shownIn}
 
 one-more : (n : ℕ) → (n ≡ 0 → ⊥) → suc (n - 1) ≡ n
 one-more n h = omega arith
@@ -164,3 +164,7 @@ module _ (n : ℕ) (r : Rooms) (m : Value) (x : Parts) (h : n ≡ 0 → ⊥) (c 
   pub nested-plain : (y : Plain) (p o : Page) → x ≡ Parts.Nothing → y ≡ plainOf m → o ≡ puts (shownSeen (seenOf (r .literal) (r .bindingText) (r .text) y)) p → o ≡ puts (shownTo n r m) p
   unfolding seenIn
   nested-plain y p o d e f = by-parts Parts.Nothing p o d (f ∙ ap (λ z. puts (shownSeen (seenOf (r .literal) (r .bindingText) (r .text) z)) p) e)
+
+pub value-whole : (n : ℕ) (r : Rooms) (m : Value) (p q : Page) → n ≡ nestingOf m → q ≡ puts (shownTo (n + 1) r m) p → q ≡ puts (shownIn r m) p
+unfolding shownIn
+value-whole n r m p q h e = e ∙ ap (λ k. puts (shownTo k r m) p) (add-one n ∙ ap suc h)

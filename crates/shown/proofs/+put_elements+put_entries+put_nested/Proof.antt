@@ -4,6 +4,7 @@ use Prim.Native.Nat.{_+_, _*_, _≤_}
 use mathlib.Core.Path.{_≡_, refl, _∙_}
 use native.Mathlib.Omega.{arith}
 use lib.ListN as Lists
+use Rattle.rooms.specs.declared.value.Value.{Value}
 use Rattle.rooms.specs.Rooms.{rooms, cellAt}
 use Rattle.pieces.specs.Page.{Page, puts}
 use Rattle.pieces.proofs.Putting.{puts-full}
@@ -85,7 +86,8 @@ put-elements-μ-loop literal binding-cells binding-text cells text levels space 
 
 -- src/lib.rt:140:5
 put-elements-loop-holds : (t : ℕ) → put-elements-lts.Need-loop-holds (put-elements-claims t) (put-elements-at t) put-elements.Post put-elements-Inv-loop put-elements-μ-loop
-put-elements-loop-holds t c = ?
+put-elements-loop-holds t c =
+    (refl, omega (arith, c .before .before .before .before .before .before .fits .first .fits, c .before .before .before .before .before .before .fits .length .fits), refl)
 
 -- src/lib.rt:141:9
 put-elements-sub-left : (t : ℕ) → put-elements-lts.Need-sub-left (put-elements-claims t) (put-elements-at t) put-elements.Post put-elements-Inv-loop put-elements-μ-loop
@@ -97,7 +99,8 @@ put-elements-cell-at-requires t c κs = search needs
 
 -- src/lib.rt:143:9
 put-elements-put-nested-requires : (t : ℕ) → put-elements-lts.Need-put-nested-requires (put-elements-claims t) (put-elements-at t) put-elements.Post put-elements-Inv-loop put-elements-μ-loop
-put-elements-put-nested-requires t c κs = ?
+put-elements-put-nested-requires t c κs =
+    (omega (arith, c .before .before .before .before .before .before .before .before .before .before .pre .0), tt)
 
 -- src/lib.rt:154:9
 put-elements-put-separator-requires : (t : ℕ) → put-elements-lts.Need-put-separator-requires (put-elements-claims t) (put-elements-at t) put-elements.Post put-elements-Inv-loop put-elements-μ-loop
@@ -113,7 +116,12 @@ put-elements-loop-less t c = search needs
 
 -- src/lib.rt:140:5
 put-elements-loop-again : (t : ℕ) → put-elements-lts.Need-loop-again (put-elements-claims t) (put-elements-at t) put-elements.Post put-elements-Inv-loop put-elements-μ-loop
-put-elements-loop-again t c = ?
+unfolding cellAt
+put-elements-loop-again t c =
+    let s = c .before .before .before .before .before .before .before .before .before .before .before .before .before .before .before .before .before
+        l = c .before .before .before .before .before .before .before .before .before .before
+        r = (rooms (s .args .literal .now) (s .args .binding-cells .now) (s .args .binding-text .now) (s .args .cells .now) (s .args .text .now))
+    in (search needs, omega arith, elements-on (λ (v : Value). shownTo (s .args .levels) r v) r (s .args .space) (c .before .before .before .before .before .before .before .before .cell-at .result) (l .loop .place) (l .loop .left) (l .loop .next, l .loop .out) _ _ (c .before .before .before .before .before .before .before .before .before .loop-test .taken) (c .before .before .before .before .before .before .before .before .cell-at .ensures) (c .before .before .before .before .before .before .put-nested .ensures) (c .before .before .put-separator .ensures) ∙ l .loop .inv .2)
 
 -- src/lib.rt:122:1
 put-elements-same-length : (t : ℕ) → put-elements-lts.Need-same-length (put-elements-claims t) (put-elements-at t) put-elements.Post put-elements-Inv-loop put-elements-μ-loop
@@ -121,7 +129,11 @@ put-elements-same-length t c = search needs
 
 -- src/lib.rt:122:1
 put-elements-returns : (t : ℕ) → put-elements-lts.Need-returns (put-elements-claims t) (put-elements-at t) put-elements.Post put-elements-Inv-loop put-elements-μ-loop
-put-elements-returns t c = ?
+put-elements-returns t c =
+    let s = c .before .before .before .before .before .before .before .before
+        l = c .before
+        r = (rooms (s .args .literal .now) (s .args .binding-cells .now) (s .args .binding-text .now) (s .args .cells .now) (s .args .text .now))
+    in elements-over (λ (v : Value). shownTo (s .args .levels) r v) r (s .args .space) (l .loop .place) (l .loop .left) (l .loop .next, l .loop .out) (c .loop-test .left) ∙ l .loop .inv .2
 
 abbrev put-entries-Inv-loop : put-entries-lts.InvT-loop
 put-entries-Inv-loop literal binding-cells binding-text cells text levels space first length out₀ at next₀ place₀ left₀ t17 out next place left =
@@ -132,7 +144,8 @@ put-entries-μ-loop literal binding-cells binding-text cells text levels space f
 
 -- src/lib.rt:179:5
 put-entries-loop-holds : (t : ℕ) → put-entries-lts.Need-loop-holds (put-entries-claims t) (put-entries-at t) put-entries.Post put-entries-Inv-loop put-entries-μ-loop
-put-entries-loop-holds t c = ?
+put-entries-loop-holds t c =
+    (refl, omega (arith, c .before .before .before .before .before .before .fits .first .fits, c .before .before .before .before .before .before .fits .length .fits), refl)
 
 -- src/lib.rt:180:9
 put-entries-sub-left : (t : ℕ) → put-entries-lts.Need-sub-left (put-entries-claims t) (put-entries-at t) put-entries.Post put-entries-Inv-loop put-entries-μ-loop
@@ -144,7 +157,8 @@ put-entries-cell-at-requires t c κs = search needs
 
 -- src/lib.rt:182:9
 put-entries-put-nested-requires : (t : ℕ) → put-entries-lts.Need-put-nested-requires (put-entries-claims t) (put-entries-at t) put-entries.Post put-entries-Inv-loop put-entries-μ-loop
-put-entries-put-nested-requires t c κs = ?
+put-entries-put-nested-requires t c κs =
+    (omega (arith, c .before .before .before .before .before .before .before .before .before .before .pre .0), tt)
 
 -- src/lib.rt:193:36
 put-entries-slice-aggregate-put-word : (t : ℕ) → put-entries-lts.Need-slice-aggregate-put-word (put-entries-claims t) (put-entries-at t) put-entries.Post put-entries-Inv-loop put-entries-μ-loop
@@ -164,7 +178,8 @@ put-entries-cell-at-requires-2 t c κs = search needs
 
 -- src/lib.rt:195:9
 put-entries-put-nested-requires-2 : (t : ℕ) → put-entries-lts.Need-put-nested-requires-2 (put-entries-claims t) (put-entries-at t) put-entries.Post put-entries-Inv-loop put-entries-μ-loop
-put-entries-put-nested-requires-2 t c κs = ?
+put-entries-put-nested-requires-2 t c κs =
+    (omega (arith, c .before .before .before .before .before .before .before .before .before .before .before .before .before .before .before .before .before .before .before .before .pre .0), tt)
 
 -- src/lib.rt:206:9
 put-entries-put-separator-requires : (t : ℕ) → put-entries-lts.Need-put-separator-requires (put-entries-claims t) (put-entries-at t) put-entries.Post put-entries-Inv-loop put-entries-μ-loop
@@ -180,7 +195,12 @@ put-entries-loop-less t c = search needs
 
 -- src/lib.rt:179:5
 put-entries-loop-again : (t : ℕ) → put-entries-lts.Need-loop-again (put-entries-claims t) (put-entries-at t) put-entries.Post put-entries-Inv-loop put-entries-μ-loop
-put-entries-loop-again t c = ?
+unfolding cellAt
+put-entries-loop-again t c =
+    let s = c .before .before .before .before .before .before .before .before .before .before .before .before .before .before .before .before .before .before .before .before .before .before .before .before .before .before .before
+        l = c .before .before .before .before .before .before .before .before .before .before .before .before .before .before .before .before .before .before .before .before
+        r = (rooms (s .args .literal .now) (s .args .binding-cells .now) (s .args .binding-text .now) (s .args .cells .now) (s .args .text .now))
+    in (search needs, omega arith, entries-on (λ (v : Value). shownTo (s .args .levels) r v) r (s .args .space) (c .before .before .before .before .before .before .before .before .before .before .before .before .before .before .before .before .before .before .cell-at .result) (c .before .before .before .before .before .before .before .before .cell-at2 .result) (l .loop .place) (l .loop .left) (l .loop .next, l .loop .out) _ _ _ _ (c .before .before .before .before .before .before .before .before .before .before .before .before .before .before .before .before .before .before .before .loop-test .taken) (c .before .before .before .before .before .before .before .before .before .before .before .before .before .before .before .before .before .before .cell-at .ensures) (c .before .before .before .before .before .before .before .before .before .before .before .before .before .before .before .before .put-nested .ensures) (c .before .before .before .before .before .before .before .before .before .before .before .put-word .ensures) (c .before .before .before .before .before .before .before .before .cell-at2 .ensures) (c .before .before .before .before .before .before .put-nested2 .ensures) (c .before .before .put-separator .ensures) ∙ l .loop .inv .2)
 
 -- src/lib.rt:161:1
 put-entries-same-length : (t : ℕ) → put-entries-lts.Need-same-length (put-entries-claims t) (put-entries-at t) put-entries.Post put-entries-Inv-loop put-entries-μ-loop
@@ -188,7 +208,11 @@ put-entries-same-length t c = search needs
 
 -- src/lib.rt:161:1
 put-entries-returns : (t : ℕ) → put-entries-lts.Need-returns (put-entries-claims t) (put-entries-at t) put-entries.Post put-entries-Inv-loop put-entries-μ-loop
-put-entries-returns t c = ?
+put-entries-returns t c =
+    let s = c .before .before .before .before .before .before .before .before
+        l = c .before
+        r = (rooms (s .args .literal .now) (s .args .binding-cells .now) (s .args .binding-text .now) (s .args .cells .now) (s .args .text .now))
+    in entries-over (λ (v : Value). shownTo (s .args .levels) r v) r (s .args .space) (l .loop .place) (l .loop .left) (l .loop .next, l .loop .out) (c .loop-test .left) ∙ l .loop .inv .2
 
 -- src/lib.rt:227:9
 put-nested-returns : (t : ℕ) → put-nested-lts.Need-returns (put-nested-claims t) (put-nested-at t) put-nested.Post
@@ -220,7 +244,8 @@ put-nested-put-word-requires t c κs = search needs
 
 -- src/lib.rt:236:17
 put-nested-put-elements-requires : (t : ℕ) → put-nested-lts.Need-put-elements-requires (put-nested-claims t) (put-nested-at t) put-nested.Post
-put-nested-put-elements-requires t c κs = ?
+put-nested-put-elements-requires t c κs =
+    (omega (arith, c .before .before .before .before .before .before .before .before .before .before .before .before .before .before .before .before .before .before .pre .0, c .before .before .before .before .before .before .before .before .before .before .before .if1 .left), tt)
 
 -- src/lib.rt:249:32
 put-nested-slice-aggregate-put-word-2 : (t : ℕ) → put-nested-lts.Need-slice-aggregate-put-word-2 (put-nested-claims t) (put-nested-at t) put-nested.Post
@@ -244,7 +269,8 @@ put-nested-put-word-requires-3 t c κs = search needs
 
 -- src/lib.rt:253:17
 put-nested-put-entries-requires : (t : ℕ) → put-nested-lts.Need-put-entries-requires (put-nested-claims t) (put-nested-at t) put-nested.Post
-put-nested-put-entries-requires t c κs = ?
+put-nested-put-entries-requires t c κs =
+    (omega (arith, c .before .before .before .before .before .before .before .before .before .before .before .before .before .before .before .before .before .before .pre .0, c .before .before .before .before .before .before .before .before .before .before .before .if1 .left), tt)
 
 -- src/lib.rt:266:32
 put-nested-slice-aggregate-put-word-4 : (t : ℕ) → put-nested-lts.Need-slice-aggregate-put-word-4 (put-nested-claims t) (put-nested-at t) put-nested.Post
@@ -276,7 +302,8 @@ put-nested-cell-at-requires t c κs = search needs
 
 -- src/lib.rt:271:13
 put-nested-put-nested-requires : (t : ℕ) → put-nested-lts.Need-put-nested-requires (put-nested-claims t) (put-nested-at t) put-nested.Post
-put-nested-put-nested-requires t c κs = ?
+put-nested-put-nested-requires t c κs =
+    (omega (arith, c .before .before .before .before .before .before .before .before .before .before .before .before .before .before .before .before .before .before .before .pre .0, c .before .before .before .before .before .before .before .before .before .before .before .before .if1 .left), tt)
 
 -- src/lib.rt:283:66
 put-nested-enum-told : (t : ℕ) → put-nested-lts.Need-enum-told (put-nested-claims t) (put-nested-at t) put-nested.Post
@@ -312,7 +339,9 @@ put-nested-same-length-3 t c = search needs
 
 -- src/lib.rt:213:1
 put-nested-returns-5 : (t : ℕ) → put-nested-lts.Need-returns-5 (put-nested-claims t) (put-nested-at t) put-nested.Post
-put-nested-returns-5 t c = search (needs, nested-present)
+unfolding cellAt
+put-nested-returns-5 t c =
+    search (needs, nested-present)
 
 -- src/lib.rt:213:1
 put-nested-same-length-4 : (t : ℕ) → put-nested-lts.Need-same-length-4 (put-nested-claims t) (put-nested-at t) put-nested.Post
