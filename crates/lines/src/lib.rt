@@ -1,5 +1,4 @@
 // The line of an answer.
-use shown::put_value;
 use answers::Answer;
 use machine::outcome::Limit;
 use machine::outcome::Used;
@@ -7,6 +6,7 @@ use pieces::put_number;
 use pieces::put_word;
 use reading::reasons::error_number;
 use rooms::value::Value;
+use shown::put_value;
 
 // So much of a value is shown.
 pub const LONGEST_VALUE: usize = 1000000;

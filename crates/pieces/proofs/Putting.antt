@@ -1,13 +1,13 @@
 -- Text put into memory, a byte or a text after the other. Assumes nothing.
 use Prim.Native.Nat.{ℕ, suc, _+_, _≤_, _<_}
-use mathlib.Core.Path.{_≡_, refl, sym, ap, _∙_}
-use mathlib.Core.Bool.{cond}
+use mathlib.Core.Path.{_≡_, refl, sym, ap, _∙_, subst}
+use mathlib.Core.Bool.{Bool, true, false, cond}
 use mathlib.Core.List.{List, [], _∷_, _++_}
 use native.Mathlib.Numerals.{add-one}
 use lib.Dec.{ltb}
-use lib.ListN.{length, set, getD, drop, drop-of-length-le}
+use lib.ListN.{length, set, length-set, getD, drop, drop-of-length-le}
 use lib.Seq.{drop-cons}
-use borrow.Author.Tests.{lt-ltb, le-ltb}
+use borrow.Author.Tests.{lt-ltb, le-ltb, ltb-true}
 use Rattle.pieces.specs.Page.{Page, put, puts}
 
 -- ---- a byte
@@ -46,6 +46,30 @@ pub puts-full : (s : List ℕ) (at : ℕ) (out : List ℕ) → length out ≤ at
 unfolding puts
 puts-full [] at out h = refl
 puts-full (b ∷ s) at out h = puts-full s at out h ∙ ap (puts s) (put-out b at out h)
+
+-- ---- lengths
+
+put-same : (t : Bool) (b at : ℕ) (out : List ℕ) → length ((cond {A = Page} t (suc at, set out at b) (at, out)) .1) ≡ length out
+put-same true b at out = length-set out at b
+put-same false b at out = refl
+
+pub puts-same : (s : List ℕ) (p : Page) → length (puts s p .1) ≡ length (p .1)
+unfolding put puts
+puts-same [] p = refl
+puts-same (b ∷ s) p = puts-same s (put b p) ∙ put-same (ltb (p .0) (length (p .1))) b (p .0) (p .1)
+
+pub kept-length : (s : List ℕ) (p q : Page) → q ≡ puts s p → length (q .1) ≡ length (p .1)
+kept-length s p q e = ap (λ (x : Page). length (x .1)) e ∙ puts-same s p
+
+put-within : (t : Bool) (b at : ℕ) (out : List ℕ) → ltb at (length out) ≡ t → at ≤ length out → (cond {A = Page} t (suc at, set out at b) (at, out)) .0 ≤ length ((cond {A = Page} t (suc at, set out at b) (at, out)) .1)
+put-within true b at out e h = subst (λ n. suc at ≤ n) (sym (length-set out at b)) (ltb-true at (length out) e)
+put-within false b at out e h = h
+
+-- the next byte never goes beyond the memory's end
+pub puts-within : (s : List ℕ) (p : Page) → p .0 ≤ length (p .1) → puts s p .0 ≤ length (puts s p .1)
+unfolding put puts
+puts-within [] p h = h
+puts-within (b ∷ s) p h = puts-within s (put b p) (put-within (ltb (p .0) (length (p .1))) b (p .0) (p .1) refl h)
 
 -- ---- the turns of a loop over a text
 

@@ -7,7 +7,7 @@ use lib.ListN as Lists
 use Rattle.rooms.specs.declared.value.Value.{Value}
 use Rattle.rooms.specs.Rooms.{rooms, cellAt}
 use Rattle.pieces.specs.Page.{Page, puts}
-use Rattle.pieces.proofs.Putting.{puts-full}
+use Rattle.pieces.proofs.Putting.{puts-full, kept-length}
 use Rattle.shown.specs.Shown.{elementsShown, entriesShown, shownTo}
 use Rattle.shown.proofs.Steps.{elements-over, elements-on, entries-over, entries-on, nested-none, nested-list, nested-map, nested-present, nested-plain}
 use Prim.Native.Nat.{ℕ, _<_}
@@ -118,10 +118,10 @@ put-elements-loop-less t c = search needs
 put-elements-loop-again : (t : ℕ) → put-elements-lts.Need-loop-again (put-elements-claims t) (put-elements-at t) put-elements.Post put-elements-Inv-loop put-elements-μ-loop
 unfolding cellAt
 put-elements-loop-again t c =
-    let s = c .before .before .before .before .before .before .before .before .before .before .before .before .before .before .before .before .before
-        l = c .before .before .before .before .before .before .before .before .before .before
-        r = (rooms (s .args .literal .now) (s .args .binding-cells .now) (s .args .binding-text .now) (s .args .cells .now) (s .args .text .now))
-    in (search needs, omega arith, elements-on (λ (v : Value). shownTo (s .args .levels) r v) r (s .args .space) (c .before .before .before .before .before .before .before .before .cell-at .result) (l .loop .place) (l .loop .left) (l .loop .next, l .loop .out) _ _ (c .before .before .before .before .before .before .before .before .before .loop-test .taken) (c .before .before .before .before .before .before .before .before .cell-at .ensures) (c .before .before .before .before .before .before .put-nested .ensures) (c .before .before .put-separator .ensures) ∙ l .loop .inv .2)
+    let s = c .before .before .before .before .before .before .before .before .before .before .before .before .before .before .before .before .before in
+    let l = c .before .before .before .before .before .before .before .before .before .before in
+    let r = (rooms (s .args .literal .now) (s .args .binding-cells .now) (s .args .binding-text .now) (s .args .cells .now) (s .args .text .now)) in
+    (search needs, omega arith, elements-on (λ (v : Value). shownTo (s .args .levels) r v) r (s .args .space) (c .before .before .before .before .before .before .before .before .cell-at .result) (l .loop .place) (l .loop .left) (l .loop .next, l .loop .out) _ _ (c .before .before .before .before .before .before .before .before .before .loop-test .taken) (c .before .before .before .before .before .before .before .before .cell-at .ensures) (c .before .before .before .before .before .before .put-nested .ensures) (c .before .before .put-separator .ensures) ∙ l .loop .inv .2)
 
 -- src/lib.rt:122:1
 put-elements-same-length : (t : ℕ) → put-elements-lts.Need-same-length (put-elements-claims t) (put-elements-at t) put-elements.Post put-elements-Inv-loop put-elements-μ-loop
@@ -130,10 +130,10 @@ put-elements-same-length t c = search needs
 -- src/lib.rt:122:1
 put-elements-returns : (t : ℕ) → put-elements-lts.Need-returns (put-elements-claims t) (put-elements-at t) put-elements.Post put-elements-Inv-loop put-elements-μ-loop
 put-elements-returns t c =
-    let s = c .before .before .before .before .before .before .before .before
-        l = c .before
-        r = (rooms (s .args .literal .now) (s .args .binding-cells .now) (s .args .binding-text .now) (s .args .cells .now) (s .args .text .now))
-    in elements-over (λ (v : Value). shownTo (s .args .levels) r v) r (s .args .space) (l .loop .place) (l .loop .left) (l .loop .next, l .loop .out) (c .loop-test .left) ∙ l .loop .inv .2
+    let s = c .before .before .before .before .before .before .before .before in
+    let l = c .before in
+    let r = (rooms (s .args .literal .now) (s .args .binding-cells .now) (s .args .binding-text .now) (s .args .cells .now) (s .args .text .now)) in
+    elements-over (λ (v : Value). shownTo (s .args .levels) r v) r (s .args .space) (l .loop .place) (l .loop .left) (l .loop .next, l .loop .out) (c .loop-test .left) ∙ l .loop .inv .2
 
 abbrev put-entries-Inv-loop : put-entries-lts.InvT-loop
 put-entries-Inv-loop literal binding-cells binding-text cells text levels space first length out₀ at next₀ place₀ left₀ t17 out next place left =
@@ -197,10 +197,13 @@ put-entries-loop-less t c = search needs
 put-entries-loop-again : (t : ℕ) → put-entries-lts.Need-loop-again (put-entries-claims t) (put-entries-at t) put-entries.Post put-entries-Inv-loop put-entries-μ-loop
 unfolding cellAt
 put-entries-loop-again t c =
-    let s = c .before .before .before .before .before .before .before .before .before .before .before .before .before .before .before .before .before .before .before .before .before .before .before .before .before .before .before
-        l = c .before .before .before .before .before .before .before .before .before .before .before .before .before .before .before .before .before .before .before .before
-        r = (rooms (s .args .literal .now) (s .args .binding-cells .now) (s .args .binding-text .now) (s .args .cells .now) (s .args .text .now))
-    in (search needs, omega arith, entries-on (λ (v : Value). shownTo (s .args .levels) r v) r (s .args .space) (c .before .before .before .before .before .before .before .before .before .before .before .before .before .before .before .before .before .before .cell-at .result) (c .before .before .before .before .before .before .before .before .cell-at2 .result) (l .loop .place) (l .loop .left) (l .loop .next, l .loop .out) _ _ _ _ (c .before .before .before .before .before .before .before .before .before .before .before .before .before .before .before .before .before .before .before .loop-test .taken) (c .before .before .before .before .before .before .before .before .before .before .before .before .before .before .before .before .before .before .cell-at .ensures) (c .before .before .before .before .before .before .before .before .before .before .before .before .before .before .before .before .put-nested .ensures) (c .before .before .before .before .before .before .before .before .before .before .before .put-word .ensures) (c .before .before .before .before .before .before .before .before .cell-at2 .ensures) (c .before .before .before .before .before .before .put-nested2 .ensures) (c .before .before .put-separator .ensures) ∙ l .loop .inv .2)
+    let s = c .before .before .before .before .before .before .before .before .before .before .before .before .before .before .before .before .before .before .before .before .before .before .before .before .before .before .before in
+    let l = c .before .before .before .before .before .before .before .before .before .before .before .before .before .before .before .before .before .before .before .before in
+    let r = (rooms (s .args .literal .now) (s .args .binding-cells .now) (s .args .binding-text .now) (s .args .cells .now) (s .args .text .now)) in (
+      kept-length _ _ _ (c .before .before .put-separator .ensures) ∙ kept-length _ _ _ (c .before .before .before .before .before .before .put-nested2 .ensures) ∙ kept-length _ _ _ (c .before .before .before .before .before .before .before .before .before .before .before .put-word .ensures) ∙ kept-length _ _ _ (c .before .before .before .before .before .before .before .before .before .before .before .before .before .before .before .before .put-nested .ensures) ∙ l .loop .inv .0,
+      omega (arith, l .loop .inv .1, c .before .before .before .before .before .before .before .before .before .before .before .before .before .before .before .before .before .before .before .loop-test .taken),
+      entries-on (λ (v : Value). shownTo (s .args .levels) r v) r (s .args .space) (c .before .before .before .before .before .before .before .before .before .before .before .before .before .before .before .before .before .before .cell-at .result) (c .before .before .before .before .before .before .before .before .cell-at2 .result) (l .loop .place) (l .loop .left) (l .loop .next, l .loop .out) _ _ _ _ (c .before .before .before .before .before .before .before .before .before .before .before .before .before .before .before .before .before .before .before .loop-test .taken) (c .before .before .before .before .before .before .before .before .before .before .before .before .before .before .before .before .before .before .cell-at .ensures) (c .before .before .before .before .before .before .before .before .before .before .before .before .before .before .before .before .put-nested .ensures) (c .before .before .before .before .before .before .before .before .before .before .before .put-word .ensures) (c .before .before .before .before .before .before .before .before .cell-at2 .ensures) (c .before .before .before .before .before .before .put-nested2 .ensures) (c .before .before .put-separator .ensures) ∙ l .loop .inv .2,
+    )
 
 -- src/lib.rt:161:1
 put-entries-same-length : (t : ℕ) → put-entries-lts.Need-same-length (put-entries-claims t) (put-entries-at t) put-entries.Post put-entries-Inv-loop put-entries-μ-loop
@@ -209,10 +212,10 @@ put-entries-same-length t c = search needs
 -- src/lib.rt:161:1
 put-entries-returns : (t : ℕ) → put-entries-lts.Need-returns (put-entries-claims t) (put-entries-at t) put-entries.Post put-entries-Inv-loop put-entries-μ-loop
 put-entries-returns t c =
-    let s = c .before .before .before .before .before .before .before .before
-        l = c .before
-        r = (rooms (s .args .literal .now) (s .args .binding-cells .now) (s .args .binding-text .now) (s .args .cells .now) (s .args .text .now))
-    in entries-over (λ (v : Value). shownTo (s .args .levels) r v) r (s .args .space) (l .loop .place) (l .loop .left) (l .loop .next, l .loop .out) (c .loop-test .left) ∙ l .loop .inv .2
+    let s = c .before .before .before .before .before .before .before .before in
+    let l = c .before in
+    let r = (rooms (s .args .literal .now) (s .args .binding-cells .now) (s .args .binding-text .now) (s .args .cells .now) (s .args .text .now)) in
+    entries-over (λ (v : Value). shownTo (s .args .levels) r v) r (s .args .space) (l .loop .place) (l .loop .left) (l .loop .next, l .loop .out) (c .loop-test .left) ∙ l .loop .inv .2
 
 -- src/lib.rt:227:9
 put-nested-returns : (t : ℕ) → put-nested-lts.Need-returns (put-nested-claims t) (put-nested-at t) put-nested.Post
