@@ -1,4 +1,13 @@
 // The line of an answer.
+ghost use mathlib.Core.Path.{_≡_};
+ghost use Prim.Native.Nat.{min};
+ghost use Rattle.rooms.specs.Rooms.{rooms};
+ghost use Rattle.reading.specs.Numbers.{limitMeant};
+ghost use Rattle.answers.specs.Meant.{countsIn};
+ghost use Rattle.pieces.specs.Page.{Page, puts};
+ghost use Rattle.shown.specs.Shown.{shownIn};
+ghost use Rattle.lines.specs.Written.{shortened, placed, counted, exhausted};
+ghost use Rattle.lines.specs.Shown.{shownAnswer};
 use answers::Answer;
 use machine::outcome::Limit;
 use machine::outcome::Used;
@@ -17,7 +26,9 @@ const SEEN: usize = 1000001;
 // A value that is cut, that it goes on, and the counts.
 pub const LONGEST_LINE: usize = 1000128;
 
-fn put_counts(out: &mut [u8], at: usize, used: Used) -> usize {
+fn put_counts(out: &mut [u8], at: usize, used: Used) -> usize
+    ensures { λ r. ⌜ _≡_ {A = Page} (r, now (out .exit)) (puts (counted (countsIn used)) (at, now (out .entry))) ⌝ }
+{
     let steps = put_word(out, at, b" steps ");
     let after_steps = put_number(out, steps, used.steps as u64);
     let cells = put_word(out, after_steps, b" cells ");
@@ -27,13 +38,17 @@ fn put_counts(out: &mut [u8], at: usize, used: Used) -> usize {
 }
 
 // A number and the place that it is about.
-fn put_placed(out: &mut [u8], at: usize, number: u8, place: usize) -> usize {
+fn put_placed(out: &mut [u8], at: usize, number: u8, place: usize) -> usize
+    ensures { λ r. ⌜ _≡_ {A = Page} (r, now (out .exit)) (puts (placed number place) (at, now (out .entry))) ⌝ }
+{
     let next = put_number(out, at, number as u64);
     let last = put_word(out, next, b" at ");
     put_number(out, last, place as u64)
 }
 
-fn put_limit(out: &mut [u8], at: usize, limit: Limit) -> usize {
+fn put_limit(out: &mut [u8], at: usize, limit: Limit) -> usize
+    ensures { λ r. ⌜ _≡_ {A = Page} (r, now (out .exit)) (puts (exhausted (limitMeant limit)) (at, now (out .entry))) ⌝ }
+{
     match limit {
         Limit::Steps => put_word(out, at, b"Exhausted Steps"),
         Limit::Cells => put_word(out, at, b"Exhausted Cells"),
@@ -42,7 +57,9 @@ fn put_limit(out: &mut [u8], at: usize, limit: Limit) -> usize {
     }
 }
 
-fn lesser(left: usize, right: usize) -> usize {
+fn lesser(left: usize, right: usize) -> usize
+    ensures { λ r. ⌜ r ≡ min left right ⌝ }
+{
     if left < right { left } else { right }
 }
 
@@ -55,7 +72,9 @@ fn put_cut(
     text: &[u8],
     value: Value,
     out: &mut [u8],
-) -> usize {
+) -> usize
+    ensures { λ r. ⌜ _≡_ {A = Page} (r, now (out .exit)) (puts (shortened (shownIn (rooms (now (literal .entry)) (now («binding_cells» .entry)) (now («binding_text» .entry)) (now (cells .entry)) (now (text .entry))) value)) (0, now (out .entry))) ⌝ }
+{
     let room = lesser(SEEN, out.len());
     let next = put_value(
         literal,
@@ -82,7 +101,9 @@ pub fn put_answer(
     text: &[u8],
     answer: Answer,
     out: &mut [u8],
-) -> usize {
+) -> usize
+    ensures { λ r. ⌜ _≡_ {A = Page} (r, now (out .exit)) (puts (shownAnswer (rooms (now (literal .entry)) (now («binding_cells» .entry)) (now («binding_text» .entry)) (now (cells .entry)) (now (text .entry))) answer) (0, now (out .entry))) ⌝ }
+{
     match answer {
         Answer::Refused(number, place) => {
             let next = put_word(out, 0, b"Refused ");
