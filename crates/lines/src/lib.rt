@@ -1,6 +1,5 @@
 // The line of an answer.
 ghost use mathlib.Core.Path.{_≡_};
-ghost use Prim.Native.Nat.{min};
 ghost use Rattle.rooms.specs.Rooms.{rooms};
 ghost use Rattle.reading.specs.Numbers.{limitMeant};
 ghost use Rattle.answers.specs.Meant.{countsIn};
@@ -57,13 +56,7 @@ fn put_limit(out: &mut [u8], at: usize, limit: Limit) -> usize
     }
 }
 
-fn lesser(left: usize, right: usize) -> usize
-    ensures { λ r. ⌜ r ≡ min left right ⌝ }
-{
-    if left < right { left } else { right }
-}
-
-// The value at the start of `out`, or its first bytes and that it goes on.
+// The value at the start of `out`, or its first bytes and that it goes on. It is put no further than it takes to see which.
 fn put_cut(
     literal: &[u8],
     binding_cells: &[u64],
@@ -75,7 +68,19 @@ fn put_cut(
 ) -> usize
     ensures { λ r. ⌜ _≡_ {A = Page} (r, now (out .exit)) (puts (shortened (shownIn (rooms (now (literal .entry)) (now («binding_cells» .entry)) (now («binding_text» .entry)) (now (cells .entry)) (now (text .entry))) value)) (0, now (out .entry))) ⌝ }
 {
-    let room = lesser(SEEN, out.len());
+    if out.len() < SEEN {
+        return put_value(
+            literal,
+            binding_cells,
+            binding_text,
+            cells,
+            text,
+            value,
+            out,
+            0,
+        );
+    }
+    let room = SEEN;
     let next = put_value(
         literal,
         binding_cells,
