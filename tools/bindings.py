@@ -232,13 +232,29 @@ def byte_digest(data):
     return digest
 
 
+def runs(data):
+    """Runs of one byte, and what lies between them: the pieces of a spelling."""
+    between, at = "", 0
+    while at < len(data):
+        end = at
+        while end < len(data) and data[end] == data[at]:
+            end += 1
+        if end - at > 3:
+            yield from filter(None, (between, f"{data[at]:02x}*{end - at}"))
+            between = ""
+        else:
+            between += data[at:end].hex()
+        at = end
+    yield from filter(None, (between,))
+
+
 def digits(data):
-    """Hexadecimal digits; long runs of one byte, or of one piece of 3 to 22 bytes, are spelled by a count."""
-    for size in (1, *range(3, 23)):
+    """Hexadecimal digits; what is one piece of 3 to 22 bytes again and again, and runs of one byte, are spelled by a count."""
+    for size in range(3, 23):
         piece = data[:size]
-        if len(data) >= 8 * size and data == piece * (len(data) // size):
+        if len(data) >= 8 * size and data == piece * (len(data) // size) and len(set(piece)) > 1:
             return f"{piece.hex()}*{len(data) // size}"
-    return data.hex() or "-"
+    return min("+".join(runs(data)), data.hex(), key=len) or "-"
 
 
 def table_digits(table):
@@ -425,16 +441,12 @@ def wrong_key_cases():
 def damaged():
     """Each reason for which a room is unsound, at each of its cells; and two, of which the first cell is the place."""
     value = mapping((ONE, listing(string("ab"), listing())), (string("k"), mapping((true, byte_string(b"\xff")))))
-    start = Case(26, 12).bring(5, value).bring(6, listing(ONE, listing(TWO)))
-    words, text, used, size = list(start.room.words), bytes(start.room.text), start.room.cells, start.room.bytes
-    slots = {number: slot for number, slot in enumerate(start.room.slots) if slot != NO_VALUE}
 
     def again():
-        case = Case(26, 12).words(0, *words[:2 * used]).text(text[:size]).used(used, size)
-        for number, slot in slots.items():
-            case.slot(number, slot)
-        return case
+        return Case(26, 12).bring(5, value).bring(6, listing(ONE, listing(TWO)))
 
+    start = again()
+    words, slots, used, size = list(start.room.words), list(start.room.slots), start.room.cells, start.room.bytes
     yield again().ask().bring(7, ONE).ask()
     cells = [(words[2 * at], words[2 * at + 1]) for at in range(used)]
     for at, (word, payload) in enumerate(cells):

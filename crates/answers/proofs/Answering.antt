@@ -8,7 +8,7 @@ use native.Mathlib.Omega.{arith}
 use lib.ListN.{length}
 use Rattle.meaning.specs.Limits.{nothingYet, cut, mostSteps}
 use Rattle.meaning.specs.Errors as Errors
-use Rattle.meaning.specs.Errors.{ErrorAt, aBool, anIterable, errorNumber, UnsoundBinding}
+use Rattle.meaning.specs.Errors.{aBool, anIterable, errorNumber}
 use Rattle.meaning.specs.Expr.{Expr}
 use Rattle.meaning.specs.Run.{Trace}
 use Rattle.meaning.specs.Comprehension as Comprehension
@@ -18,8 +18,7 @@ use Rattle.meaning.specs.Meaning.{run}
 use Rattle.meaning.specs.Heads.{Got, got, refused, _>>=_}
 use Rattle.meaning.specs.Table.{readTable}
 use Rattle.meaning.specs.Bindings.{scopeOf}
-use Rattle.meaning.specs.Answer.{Answered, refusal, ran, answerRun, answerRead, answerOf}
-use Rattle.rooms.specs.declared.value.CellSpace.the-variants as Cells
+use Rattle.meaning.specs.Answer.{ran, answerRun, answerRead}
 use Rattle.rooms.specs.declared.scope.Scope.{Scope}
 use Rattle.rooms.specs.Rooms.{Rooms, rooms}
 use Rattle.rooms.specs.Scope.{StandsSlot, StandsScope, slotOf}
@@ -28,19 +27,19 @@ use Rattle.soundness.specs.declared.Bindings.{Bindings}
 use Rattle.soundness.specs.declared.Soundness.{Soundness}
 use Rattle.soundness.specs.declared.Soundness.the-variants.{Sound, Unsound}
 use Rattle.soundness.specs.Sound.{soundOf}
-use Rattle.soundness.specs.Held.{heldScope, roomOf, aliveBelow}
+use Rattle.soundness.specs.Held.{aliveBelow}
 use Rattle.soundness.proofs.SoundScope.{sound-scope, room-scope}
 use Rattle.machine.specs.declared.outcome.Outcome.{Outcome}
 use Rattle.machine.specs.Outcomes.{Res}
-use Rattle.machine.specs.Refines.{usedOf, errorOf, limitOf, countsOf, Below}
+use Rattle.machine.specs.Refines.{errorOf, limitOf, Below}
 use Rattle.machine.specs.Answer.{Reads, Answers, answered}
 use Rattle.machine.proofs.AnyCells.{words-fit}
 use Rattle.machine.proofs.Answering.{table-answers}
-use Rattle.reading.specs.Numbers.{errorMeant, limitMeant}
+use Rattle.reasons.specs.Numbers.{errorMeant, limitMeant}
 use Rattle.answers.specs.declared.Answer.{Answer}
-use Rattle.answers.specs.declared.Answer.the-variants as Answer
-use Rattle.answers.specs.Evaluated.{ifSound, asAnswer, ended, accepted, after, evaluated}
-use Rattle.answers.specs.Meant.{Told, told, toldBy, counted, Lent, Says, limits, bound, meant, Evaluates}
+use Rattle.answers.specs.Evaluated.{ifSound, asAnswer, accepted, after, evaluated}
+use Rattle.answers.proofs.Lending.{Lent}
+use Rattle.answers.specs.Meant.{Told, told, toldBy, Says, limits, bound, meant, Evaluates}
 
 -- ---- errors and limits, there and back
 
@@ -147,3 +146,7 @@ module _ (table : List ℕ) (bindings : Bindings) (steps : ℕ) (lent : Rooms) w
     pub evaluation-answers : Evaluates table bindings steps lent (evaluated table bindings steps lent .0) (evaluated table bindings steps lent .1)
     unfolding evaluated meant
     evaluation-answers = record { exactly = refl; says = got-says (accepted table bindings steps lent) refl }
+
+    -- so whatever equals it is
+    pub evaluates : (answer : Answer) (left : Rooms) → _≡_ {A = Answer × Rooms} (answer, left) (evaluated table bindings steps lent) → Evaluates table bindings steps lent answer left
+    evaluates answer left h = subst (λ (x : Answer × Rooms). Evaluates table bindings steps lent (x .0) (x .1)) (sym h) evaluation-answers

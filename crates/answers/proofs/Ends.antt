@@ -3,17 +3,18 @@ use Prim.Native.Nat.{ℕ}
 use mathlib.Core.Path.{_≡_, refl}
 use mathlib.Core.List.{List}
 use Rattle.rooms.specs.declared.value.Value.{Value}
-use Rattle.rooms.specs.Rooms.{rooms}
-use Rattle.rooms.specs.Building.{cellsCleared, bytesCleared}
+use Rattle.rooms.specs.Rooms.{Rooms, rooms}
+use Rattle.building.specs.Building.{cellsCleared, bytesCleared}
 use Rattle.machine.specs.declared.outcome.Used.{Used}
 use Rattle.machine.specs.declared.outcome.Error.{Error}
 use Rattle.machine.specs.declared.outcome.Limit.{Limit}
 use Rattle.machine.specs.declared.outcome.Outcome.{Outcome}
 use Rattle.machine.specs.declared.outcome.Outcome.the-variants as Outcome
+use Rattle.machine.specs.Outcomes.{Res}
 use Rattle.machine.specs.Answer.{left}
 use Rattle.answers.specs.declared.Answer.{Answer}
 use Rattle.answers.specs.declared.Answer.the-variants as Answer
-use Rattle.answers.specs.Evaluated.{asAnswer, cellsLeft, textLeft}
+use Rattle.answers.specs.Evaluated.{asAnswer, cellsLeft, textLeft, ended}
 
 -- an answer, and what the cells and the text were and are
 abbrev pub Ends : Outcome → Answer → (words wordsLeft bytes bytesLeft : List ℕ) → Type 0
@@ -35,3 +36,8 @@ pub left-rooms : (o : Outcome) (l b t w x : List ℕ) → left o (rooms l b t w 
 left-rooms (Outcome.Value v u) l b t w x = refl
 left-rooms (Outcome.Error e p u) l b t w x = refl
 left-rooms (Outcome.Exhausted y u) l b t w x = refl
+
+-- what a run does, and then its end
+pub run-ends : (m : Res) (o : Outcome) (a : Answer) (l b t w x y z : List ℕ) → _≡_ {A = Res} (o, rooms l b t w y) m → Ends o a w x y z
+    → _≡_ {A = Answer × Rooms} (a, rooms l b t x z) (ended (m .0, left (m .0) (m .1)))
+run-ends m o a l b t w x y z h e = rw (← h, e .0, e .1, e .2, left-rooms o l b t w y) refl

@@ -1,36 +1,60 @@
 -- What the contract of an evaluation promises. Rests on the laws of the definition. Assumes nothing.
--- In order: which answer the definition has; only one answer is right; what a rule does not name; exhaustion; a refusal, an error.
-use Prim.Native.Nat.{ℕ, zero, suc, _+_, _*_, _/_, _<_}
+-- In order: which answer the definition has; only one answer is right; what a rule does not name; exhaustion; a refusal, an error; a value.
+use Prim.Native.Nat.{ℕ, zero, suc, _+_, _*_, _/_, _≤_, _<_}
 use mathlib.Core.Path.{_≡_, refl, sym, ap, _∙_, subst}
 use mathlib.Core.Logic.{_↔_}
-use mathlib.Core.List.{List, []}
+use mathlib.Core.Bool.{Bool, true, false}
+use mathlib.Core.List.{List, _++_}
+use mathlib.Core.Option.{some}
 use native.Mathlib.Omega.{arith}
-use lib.ListN.{length, take, drop, take-append-drop}
-use Rattle.meaning.specs.Limits.{Counts, cut}
-use Rattle.meaning.specs.Errors.{Refusal, UnsoundBinding, Exhausted, refusalNumber}
+use lib.Dec.{ltb, eqb}
+use lib.ListN.{length, getD, take, drop, replicate, take-append-drop}
+use borrow.Author.Tests.{ltb-true, ltb-false, eqb-true, eqb-false}
+use Rattle.meaning.specs.Limits.{Counts}
+use Rattle.meaning.specs.Errors.{Refusal, UnsoundBinding, Exhausted}
 use Rattle.meaning.specs.Expr.{Expr}
 use Rattle.meaning.specs.Limited as Limited
-use Rattle.meaning.specs.Limited.{limited}
-use Rattle.meaning.specs.Listing.{namesOf}
+use Rattle.meaning.specs.Limited.{zeroCell, limited, cleared, roomsAfter}
+use Rattle.meaning.specs.Run.{Trace, Eval}
+use Rattle.meaning.specs.Value.{Value}
+use Rattle.meaning.specs.Comprehension.{Scope}
+use Rattle.meaning.specs.Listing.{Listed, recordsOf, namesIn, namesOf}
 use Rattle.meaning.specs.Meaning.{run}
 use Rattle.meaning.specs.Heads.{Got, got, refused, _>>=_}
 use Rattle.meaning.specs.Table.{readTable}
 use Rattle.meaning.specs.Bindings.{BindingRoom, scopeOf}
 use Rattle.meaning.specs.Answer as Meaning
 use Rattle.meaning.specs.Answer.{Answered, refusal, ran, answerRun, answerRead, answerOf}
+use Rattle.table.specs.declared.Checked.the-variants.{Accepted}
+use Rattle.table.specs.Check.{verdict, checkOf}
+use Rattle.table.specs.Records.{exprOf}
+use Rattle.table.specs.Walk.{Walk}
+use Rattle.table.proofs.Accepted.{accepted as table-accepted}
+use Rattle.table.proofs.Walk.{accepted-walk}
 use Rattle.laws.specs.Names.{Agree, In}
 use Rattle.laws.specs.Charges.{Stops}
 use Rattle.laws.proofs.NamesListed.{names-listed}
 use Rattle.laws.proofs.Bystanders.{same-over-rooms}
+use Rattle.laws.specs.Begins.{Reaches}
 use Rattle.laws.proofs.Exhausted.{exhausted-exactly}
+use Rattle.laws.proofs.Begun.{part-exhausts}
+use Rattle.rooms.specs.declared.value.Value as Machine
 use Rattle.rooms.specs.Rooms.{Rooms, rooms}
+use Rattle.rooms.specs.Value.{nestingOf}
+use Rattle.rooms.specs.Reading.{reading}
 use Rattle.soundness.specs.declared.Bindings.{Bindings}
 use Rattle.soundness.specs.declared.Soundness.the-variants.{Sound, Unsound}
 use Rattle.soundness.specs.Sound.{soundOf}
 use Rattle.soundness.specs.Held.{roomOf}
+use Rattle.machine.specs.declared.outcome.Used.{Used}
+use Rattle.machine.specs.Refines.{countsOf}
+use Rattle.machine.specs.Answer.{CellsHave}
+use Rattle.reading.specs.Shown.{Shows}
+use Rattle.reading.proofs.Showing.{shows}
 use Rattle.answers.specs.declared.Answer.{Answer}
-use Rattle.answers.specs.Evaluated.{accepted, evaluated}
-use Rattle.answers.specs.Meant.{Told, told, toldBy, counted, Says, limits, bound, meant, Evaluates}
+use Rattle.answers.specs.declared.Answer.the-variants as Answer
+use Rattle.answers.specs.Evaluated.{accepted}
+use Rattle.answers.specs.Meant.{Told, told, toldBy, counted, countsIn, Says, limits, bound, meant, Evaluates}
 use Rattle.answers.specs.Alike.{Alike}
 
 -- ---- which answer the definition has
@@ -115,6 +139,21 @@ module _ (table literal cells text : List ℕ) (steps : ℕ) where
         says-alike (meant table others steps (over otherWords otherBytes)) (over words bytes) (over otherWords otherBytes) answer other left leftOther refl refl
         (subst (λ m. Says m (over words bytes) answer left) same-meant (h .says)) (k .says)
 
+  -- under each name that is met where one goes through the table from record to record
+  abbrev pub AgreeWhereMet : BindingRoom → BindingRoom → Type 0
+  AgreeWhereMet room other = (rs : List Listed) → Walk table (length table) 0 rs → Agree (In (namesIn rs)) (scopeOf room) (scopeOf other)
+
+  -- That is where the rule names something.
+  pub met-named : (room other : BindingRoom) → AgreeWhereMet room other → AgreeWhereNamed room other
+  unfolding checkOf
+  met-named room other h e g =
+      let checked : checkOf table literal ≡ Accepted = ap verdict g in
+      let is : exprOf table literal 0 ≡ e = got-same (sym (table-accepted table literal checked .is) ∙ g) in
+      subst (λ x. Agree (In (namesOf x)) (scopeOf room) (scopeOf other)) is (h (recordsOf (exprOf table literal 0)) (accepted-walk table literal checked))
+    where
+      got-same : {x y : Expr} → _≡_ {A = Got Expr} (got x) (got y) → x ≡ y
+      got-same q = cc
+
 -- ---- exhaustion
 
 told-exhausted : (a : Meaning.Answer) (x : Exhausted) (c : Counts) → toldBy a ≡ Told.exhausted x c → a ≡ ran (Limited.exhausted x c)
@@ -124,21 +163,37 @@ told-exhausted (ran (Limited.error e d)) x c h = let z : _≡_ {A = ℕ} 0 1 = c
 told-exhausted (ran (Limited.exhausted y d)) x c h = cc
 
 module _ (table : List ℕ) (bindings : Bindings) (steps : ℕ) (lent : Rooms) (answer : Answer) (left : Rooms)
-    (h : Evaluates table bindings steps lent answer left) where
+    (h : Evaluates table bindings steps lent answer left) (e : Expr) (g : accepted table bindings steps lent ≡ got e) where
+  abbrev under : Counts
+  under = limits table bindings steps lent
+
+  -- the rule, over the bindings that the room holds
+  abbrev ruled : Eval Value
+  ruled = run e (scopeOf (bound table bindings steps lent))
+
+  meant-ran : meant table bindings steps lent .answer ≡ ran (limited under ruled)
+  unfolding meant answerRead answerRun
+  meant-ran = rw g
+
+  -- What the definition's run comes to is what is told, so that every law about runs under limits is one about answers.
+  pub told-run : told left answer ≡ toldBy (ran (limited under ruled))
+  told-run = h .says .tells ∙ ap toldBy meant-ran
+
   -- Exhaustion comes exactly when the definition's next charge would pass a limit: some first charges of the rule all fit and add up to the
   -- counts, and the next one would pass.
-  pub exhaustion-exactly : (e : Expr) → accepted table bindings steps lent ≡ got e → (x : Exhausted) (c : Counts)
-      → (told left answer ≡ Told.exhausted x c) ↔ Stops (limits table bindings steps lent) (run e (scopeOf (bound table bindings steps lent)) .0) x c
-  unfolding meant answerRead answerRun
-  exhaustion-exactly e g x c =
-      let s = exhausted-exactly (limits table bindings steps lent) (run e (scopeOf (bound table bindings steps lent))) x c in
-      let m : meant table bindings steps lent .answer ≡ ran (limited (limits table bindings steps lent) (run e (scopeOf (bound table bindings steps lent)))) = rw g in (
-        λ t. s .0 (ran-same (sym m ∙ told-exhausted (meant table bindings steps lent .answer) x c (sym (h .says .tells) ∙ t))),
-        λ t. h .says .tells ∙ ap toldBy m ∙ ap (λ o. toldBy (ran o)) (s .1 t),
-      )
+  pub exhaustion-exactly : (x : Exhausted) (c : Counts) → (told left answer ≡ Told.exhausted x c) ↔ Stops under (ruled .0) x c
+  exhaustion-exactly x c =
+      let s = exhausted-exactly under ruled x c in
+      (λ t. s .0 (ran-same (told-exhausted (ran (limited under ruled)) x c (sym told-run ∙ t))), λ t. told-run ∙ ap (λ o. toldBy (ran o)) (s .1 t))
     where
       ran-same : {o p : Limited.Outcome} → _≡_ {A = Meaning.Answer} (ran o) (ran p) → o ≡ p
       ran-same q = cc
+
+  -- Nothing in a rule turns exhaustion into another answer: where a part that the rule begins, at any depth, is exhausted, so is the
+  -- evaluation, of the same limit and with the same counts.
+  pub exhaustion-kept : {f : Expr} {t : Scope} {before : Trace} → Reaches e (scopeOf (bound table bindings steps lent)) before f t
+      → (x : Exhausted) (c : Counts) → Stops under (before ++ run f t .0) x c → told left answer ≡ Told.exhausted x c
+  exhaustion-kept r x c s = told-run ∙ ap (λ o. toldBy (ran o)) (part-exhausts r under c x s)
 
 -- ---- a refusal, an error, exhaustion
 
@@ -156,3 +211,79 @@ refusal-changes-nothing m lent answer left h number place t =
     let c = (rw z at (h .cellsAbove)) in
     let b = (rw z at (h .bytesAbove)) in
     rw (← h .literal, ← h .bindingCells, ← h .bindingText, ← c, ← b) refl
+
+-- the words of cells that are zero
+zero-words : (q : Rooms) (n a i : ℕ) → CellsHave q a (replicate n zeroCell) → a * 2 ≤ i → i < (a + n) * 2 → getD (q .cells) i 0 ≡ 0
+zero-words q zero a i h l m = absurd (omega arith)
+zero-words q (suc n) a i h l m = by-place (ltb i (a * 2 + 2)) refl (eqb i (a * 2)) refl (λ k. zero-words q n (suc a) i (h .1) k (omega arith))
+  where
+    by-place : (c : Bool) → ltb i (a * 2 + 2) ≡ c → (d : Bool) → eqb i (a * 2) ≡ d → (suc a * 2 ≤ i → getD (q .cells) i 0 ≡ 0) → getD (q .cells) i 0 ≡ 0
+    by-place true e true f later = rw (eqb-true i (a * 2) f) (h .0 .0)
+    by-place true e false f later = let j : i ≡ a * 2 + 1 = omega (arith, ltb-true i (a * 2 + 2) e, eqb-false i (a * 2) f) in rw j (h .0 .1)
+    by-place false e d f later = later (omega (arith, ltb-false i (a * 2 + 2) e))
+
+abbrev NoValue : Limited.Outcome → Type 0
+NoValue (Limited.value v c) = ⊥
+NoValue (Limited.error e c) = Unit {0}
+NoValue (Limited.exhausted x c) = Unit {0}
+
+cleared-after : (t : Trace) (o : Limited.Outcome) → NoValue o → roomsAfter t o ≡ cleared (countsOf o)
+unfolding roomsAfter
+cleared-after t (Limited.value v c) h = absurd h
+cleared-after t (Limited.error e c) h = refl
+cleared-after t (Limited.exhausted x c) h = refl
+
+-- an answer without a value, of a rule that ran
+abbrev pub WithoutValue : Told → Counts → Type 0
+WithoutValue (Told.refused number place) c = ⊥
+WithoutValue (Told.value v d) c = ⊥
+WithoutValue (Told.error number place d) c = d ≡ c
+WithoutValue (Told.exhausted x d) c = d ≡ c
+
+told-counts : (a : Meaning.Answer) (c : Counts) → WithoutValue (toldBy a) c → (o : Limited.Outcome) × (a ≡ ran o) × NoValue o × (countsOf o ≡ c)
+told-counts (refusal why place) c h = absurd h
+told-counts (ran (Limited.value v d)) c h = absurd h
+told-counts (ran (Limited.error e d)) c h = (Limited.error e d, refl, tt, h)
+told-counts (ran (Limited.exhausted x d)) c h = (Limited.exhausted x d, refl, tt, h)
+
+module _ (table : List ℕ) (bindings : Bindings) (steps : ℕ) (lent : Rooms) (answer : Answer) (left : Rooms)
+    (h : Evaluates table bindings steps lent answer left) where
+  meant-cleared : (o : Limited.Outcome) → meant table bindings steps lent .answer ≡ ran o → NoValue o → meant table bindings steps lent .rooms ≡ cleared (countsOf o)
+  unfolding meant answerRead answerRun
+  meant-cleared o e none = by-read (accepted table bindings steps lent) e
+    where
+      by-read : (g : Got Expr) → answerRead (limits table bindings steps lent) (scopeOf (bound table bindings steps lent)) g .answer ≡ ran o
+          → answerRead (limits table bindings steps lent) (scopeOf (bound table bindings steps lent)) g .rooms ≡ cleared (countsOf o)
+      by-read (got e) f = let same : limited (limits table bindings steps lent) (run e (scopeOf (bound table bindings steps lent))) ≡ o = cc in rw same (cleared-after _ o none)
+      by-read (refused why place) f = let z : _≡_ {A = ℕ} 0 1 = cc in absurd (omega arith)
+
+  -- An error or exhaustion clears what it charged: every word of the cells that were counted, and every byte, is zero. (What is above them is
+  -- as it was lent: `cellsAbove`, `bytesAbove` of the contract.)
+  pub charged-cleared : (c : Counts) → WithoutValue (told left answer) c
+      → ((i : ℕ) → i < c .cells * 2 → getD (left .cells) i 0 ≡ 0) × (take (c .bytes) (left .text) ≡ replicate (c .bytes) 0)
+  unfolding cleared
+  charged-cleared c w =
+      let o = told-counts (meant table bindings steps lent .answer) c (subst (λ t. WithoutValue t c) (h .says .tells) w) in
+      let m = meant-cleared (o .0) (o .1) (o .2) in
+      let same : counted (meant table bindings steps lent .answer) ≡ c = ap counted (o .1) ∙ o .3 in
+      let cells = (rw (m, o .3) at (h .says .cells)) in (
+        λ i l. zero-words left (c .cells) 0 i cells (omega arith) (omega arith),
+        ap (λ (d : Counts). take (d .bytes) (left .text)) (sym same)
+            ∙ h .says .bytes
+            ∙ ap (λ (q : Limited.Rooms). q .bytes) m
+            ∙ ap (λ (d : Counts). replicate (d .bytes) 0) (o .3),
+      )
+
+-- ---- a value
+
+-- A value can be read out by the readers: they show the definition's value, part by part.
+pub value-shown : (m : Answered) (lent left : Rooms) (x : Machine.Value) (u : Used) → Says m lent (Answer.Value x u) left
+    → (v : Value) × (c : Counts) × (m .answer ≡ ran (Limited.value v c)) × Shows (nestingOf x) left x v
+unfolding reading
+value-shown m lent left x u h = by-answer (m .answer) (h .tells)
+  where
+    by-answer : (a : Meaning.Answer) → Told.value (reading left x) (countsIn u) ≡ toldBy a → (v : Value) × (c : Counts) × (a ≡ ran (Limited.value v c)) × Shows (nestingOf x) left x v
+    by-answer (refusal why place) e = let z : _≡_ {A = ℕ} 0 1 = cc in absurd (omega arith)
+    by-answer (ran (Limited.value v c)) e = let read : reading left x ≡ some v = cc in (v, c, refl, shows (nestingOf x) left x v read)
+    by-answer (ran (Limited.error v c)) e = let z : _≡_ {A = ℕ} 0 1 = cc in absurd (omega arith)
+    by-answer (ran (Limited.exhausted y c)) e = let z : _≡_ {A = ℕ} 0 1 = cc in absurd (omega arith)

@@ -1,5 +1,5 @@
 -- When two evaluations come to the same: the answers tell the same, and the evaluation rooms that they leave hold the same.
-use Prim.Native.Nat.{ℕ, _*_}
+use Prim.Native.Nat.{_*_}
 use mathlib.Core.Path.{_≡_}
 use mathlib.Core.List.{List}
 use lib.ListN.{length, drop}

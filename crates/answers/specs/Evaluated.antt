@@ -8,7 +8,7 @@ use Rattle.meaning.specs.Expr.{Expr}
 use Rattle.meaning.specs.Heads.{Got, got, refused, _>>=_}
 use Rattle.meaning.specs.Table.{readTable}
 use Rattle.rooms.specs.Rooms.{Rooms}
-use Rattle.rooms.specs.Building.{cellsCleared, bytesCleared}
+use Rattle.building.specs.Building.{cellsCleared, bytesCleared}
 use Rattle.soundness.specs.declared.Bindings.{Bindings}
 use Rattle.soundness.specs.declared.Soundness.{Soundness}
 use Rattle.soundness.specs.declared.Soundness.the-variants.{Sound, Unsound}

@@ -1,27 +1,24 @@
 -- What the definition says of an evaluation, and what an answer and the rooms that it leaves must be for that.
-use Prim.Native.Nat.{ℕ, _*_, _/_, _^_, _<_}
+use Prim.Native.Nat.{ℕ, _*_, _/_}
 use mathlib.Core.Path.{_≡_}
 use mathlib.Core.List.{List}
 use mathlib.Core.Option.{Option, some}
-use lib.ListN.{length, getD, take, drop}
-use Rattle.meaning.specs.Limits.{Counts, nothingYet, cut, names}
+use lib.ListN.{length, take, drop}
+use Rattle.meaning.specs.Limits.{Counts, nothingYet, cut}
 use Rattle.meaning.specs.Errors.{Exhausted, errorNumber, refusalNumber}
 use Rattle.meaning.specs.Value as Value
 use Rattle.meaning.specs.Limited as Limited
 use Rattle.meaning.specs.Bindings.{BindingRoom, scopeOf}
 use Rattle.meaning.specs.Answer as Meaning
 use Rattle.meaning.specs.Answer.{Answered, refusal, ran, answerRead}
-use Rattle.meaning.specs.WellFormed.{AllBytes}
-use Rattle.rooms.specs.Cells.{Fits}
 use Rattle.rooms.specs.Rooms.{Rooms}
 use Rattle.rooms.specs.Reading.{reading}
-use Rattle.rooms.specs.Scope.{slotOf}
 use Rattle.soundness.specs.declared.Bindings.{Bindings}
 use Rattle.soundness.specs.Held.{roomOf}
 use Rattle.machine.specs.declared.outcome.Used.{Used}
 use Rattle.machine.specs.Refines.{countsOf}
 use Rattle.machine.specs.Answer.{CellsHave}
-use Rattle.reading.specs.Numbers.{errorMeant, limitMeant}
+use Rattle.reasons.specs.Numbers.{errorMeant, limitMeant}
 use Rattle.answers.specs.declared.Answer.{Answer}
 use Rattle.answers.specs.declared.Answer.the-variants as Answer
 use Rattle.answers.specs.Evaluated.{accepted, evaluated}
@@ -93,13 +90,3 @@ module _ (table : List ℕ) (bindings : Bindings) (steps : ℕ) (lent : Rooms) w
   pub record Evaluates (answer : Answer) (left : Rooms) : Type 0 where
     pub exactly : _≡_ {A = Answer × Rooms} (answer, left) (evaluated table bindings steps lent)
     pub says : Says meant lent answer left
-
--- ---- what can be lent
-
--- of whatever content: bytes, words of 64 bits, and a slot for each name
-pub record Lent (table : List ℕ) (bindings : Bindings) (lent : Rooms) : Type 0 where
-  pub tableBytes : AllBytes table
-  pub words : (i : ℕ) → getD (lent .cells) i 0 < 2 ^ 64
-  pub bindingWords : (i : ℕ) → getD (lent .bindingCells) i 0 < 2 ^ 64
-  pub slots : length (bindings .scope .slots) ≡ names
-  pub values : (n : ℕ) → Fits (slotOf (bindings .scope) n)

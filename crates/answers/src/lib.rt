@@ -3,13 +3,16 @@ ghost use mathlib.Core.Path.{_≡_};
 ghost use Prim.Native.Nat.{min};
 ghost use Rattle.meaning.specs.Limits.{mostSteps};
 ghost use Rattle.answers.specs.Evaluated.{asAnswer, cellsLeft, textLeft};
+use building::clear_cells;
+use building::clear_text;
 use machine::outcome::Error;
 use machine::outcome::Limit;
 use machine::outcome::Outcome;
 use machine::outcome::Used;
-use rooms::building::clear_cells;
-use rooms::building::clear_text;
 use rooms::value::Value;
+
+// The refusal of a binding room.
+pub const UNSOUND_BINDING: u8 = 8;
 
 const MOST_STEPS: usize = 1000000;
 

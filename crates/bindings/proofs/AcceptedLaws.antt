@@ -26,7 +26,7 @@ use Rattle.table.specs.Records.{exprOf, partOf, Sound, SoundPart}
 use Rattle.table.proofs.Accepted.{AcceptedTable}
 use Rattle.table.proofs.Accepted as table
 use Rattle.rooms.specs.declared.value.Value.{Value}
-use Rattle.rooms.specs.Building.{cellRoom, textRoom}
+use Rattle.building.specs.Building.{cellRoom, textRoom}
 use Rattle.rooms.specs.Scope.{slotOf, stored}
 use Rattle.soundness.specs.declared.Bindings.{Bindings}
 use Rattle.soundness.specs.declared.Soundness.{Soundness}

@@ -7,7 +7,7 @@ use native.Mathlib.Omega.{arith}
 use lib.ListN.{length, getD}
 use Rattle.rooms.specs.declared.value.Value.{Value}
 use Rattle.rooms.specs.Value.{plainOf}
-use Rattle.comparing.specs.Equality.{seenOf, sameSeen}
+use Rattle.comparing.specs.Seen.{seenOf, sameSeen}
 use Rattle.meaning.specs.Expr.{Elements, noElements, Pairs, noPairs}
 use Rattle.meaning.specs.Table.{Part, addElement, addPair}
 use Rattle.meaning.specs.Spelling.{Literal, literalsOf, literalPairsOf, literalsNesting, literalPairsNesting}

@@ -16,7 +16,7 @@ use Rattle.table.specs.Records.{exprOf, Sound}
 use Rattle.rooms.specs.declared.value.Value.{Value}
 use Rattle.rooms.specs.declared.value.Value.the-variants as Value
 use Rattle.rooms.specs.Value.{plainOf}
-use Rattle.comparing.specs.Equality.{seenOf, seenScalar, seenOther, sameSeen}
+use Rattle.comparing.specs.Seen.{seenOf, seenScalar, seenOther, sameSeen}
 use Rattle.soundness.specs.Keys.{isKey}
 use Rattle.bindings.specs.declared.judging.Fault.{Fault}
 use Rattle.bindings.specs.declared.judging.Fault.the-variants.{At, Nowhere}

@@ -23,7 +23,7 @@ use Rattle.rooms.specs.declared.value.TextSpace.the-variants as Text
 use Rattle.rooms.specs.declared.value.CellSpace.the-variants as Cells
 use Rattle.rooms.specs.Value.{nestingOf}
 use Rattle.rooms.specs.Cells.{writtenIn}
-use Rattle.rooms.specs.Building.{pasted}
+use Rattle.building.specs.Building.{pasted}
 use Rattle.rooms.proofs.CellLaws.{written-length}
 use Rattle.bindings.specs.Literals.{literalIn, literalsIn, literalPairsIn, partLiteral, literalValue, textLength, textFirst, movedTo, rowBytes, entryBytes, rowLiterals, Operands, Entries}
 use Rattle.bindings.specs.Judging.{cellsFor, cellsAmong, cellsOver, bytesFor, bytesAmong, bytesOver}

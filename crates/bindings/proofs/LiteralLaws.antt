@@ -35,10 +35,10 @@ use Rattle.rooms.specs.declared.value.Value.{Value}
 use Rattle.rooms.specs.declared.value.Value.the-variants as Value
 use Rattle.rooms.specs.declared.value.TextSpace.the-variants as Text
 use Rattle.rooms.specs.Value.{plainOf, doubleValue}
-use Rattle.comparing.specs.Equality.{seenOf, seenScalar}
+use Rattle.comparing.specs.Seen.{seenOf, seenScalar}
 use Rattle.soundness.specs.Keys.{isKey}
 use Rattle.soundness.specs.Fits.{isAbsent}
-use Rattle.rooms.specs.Building.{pasted}
+use Rattle.building.specs.Building.{pasted}
 use Rattle.bindings.specs.Literals.{literalIn, literalValue, textLength, textFirst, movedTo}
 use Rattle.bindings.specs.Laying.{Room, room, typed, laidScalar}
 

@@ -11,7 +11,7 @@ use Rattle.meaning.specs.Table.{readTable}
 use Rattle.meaning.specs.Bindings.{cellsOf, bytesOf}
 use Rattle.meaning.specs.Spelling.{Literal, literalOf, spelledRoot}
 use Rattle.rooms.specs.declared.value.Value.{Value}
-use Rattle.rooms.specs.Building.{cellRoom, textRoom}
+use Rattle.building.specs.Building.{cellRoom, textRoom}
 use Rattle.rooms.specs.Scope.{emptySlots, slotOf, stored}
 use Rattle.soundness.specs.declared.Bindings.{Bindings}
 use Rattle.soundness.specs.declared.Soundness.{Soundness}

@@ -18,7 +18,7 @@ use Rattle.table.specs.Shapes.{isSome}
 use Rattle.layout.specs.Layout.{after}
 use Rattle.rooms.specs.declared.value.Value.{Value}
 use Rattle.rooms.specs.Value.{plainOf}
-use Rattle.comparing.specs.Equality.{seenOf, sameSeen}
+use Rattle.comparing.specs.Seen.{seenOf, sameSeen}
 use Rattle.soundness.specs.Fits.{isAbsent}
 
 abbrev pub firstOf : Fault → Fault → Fault

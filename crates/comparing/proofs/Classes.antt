@@ -1,7 +1,6 @@
--- What an arm for all other kinds knows: which variants are left. Then a scalar of another class is neither equal nor in an order, and a
--- value has no size and is no index. Assumes nothing.
+-- What an arm for all other kinds knows: which variants are left. Then a scalar of another class is not equal. Assumes nothing.
 use Prim.Native.Nat.{ℕ}
-use mathlib.Core.Path.{_≡_, refl, sym, ap, _∙_, subst}
+use mathlib.Core.Path.{_≡_, refl, ap, _∙_, subst}
 use mathlib.Core.Bool.{Bool, true, false, _||_, cond, true≢false}
 use mathlib.Core.List.{List, [], _∷_}
 use lib.Dec.{eqb}
@@ -13,23 +12,11 @@ use Rattle.meaning.specs.Value.{Scalar, null, bool, string, bytes}
 use Rattle.meaning.specs.Comparison.{rank}
 use Rattle.rooms.specs.declared.value.Plain.{Plain}
 use Rattle.rooms.specs.declared.value.Plain.the-variants as Plain
-use Rattle.rooms.specs.declared.value.Value.{Value}
-use Rattle.rooms.specs.declared.value.Value.the-variants as Value
 use Rattle.rooms.proofs.value.Plain as PlainType
-use Rattle.rooms.proofs.value.Value as ValueType
 use Rattle.rooms.specs.Rooms.{part, textOf}
-use Rattle.comparing.specs.declared.order.Compared.{Compared}
-use Rattle.comparing.specs.declared.order.Compared.the-variants as Compared
-use Rattle.comparing.specs.declared.sizes.Size.the-variants as Size
-use Rattle.comparing.specs.declared.sizes.Position.the-variants as Position
-use Rattle.comparing.specs.Equality.{numberScalar, seenScalar, seenNone, seenOf, sameSeen}
-use Rattle.comparing.specs.Order.{orderSeen, comparedOf}
-use Rattle.comparing.specs.Sizes.{sizeOf, positionOf}
-use Rattle.rooms.proofs.Variants.{left-out, no-tag}
+use Rattle.comparing.specs.Seen.{numberScalar, seenScalar, seenNone, seenOf, sameSeen}
+use Rattle.rooms.proofs.Variants.{left-out}
 use Rattle.comparing.proofs.ScalarLaws.{apart, apart-number, number-class}
-use Rattle.comparing.proofs.OrderMeaning.{no-order, no-order-number}
-
--- ---- values without parts
 
 -- the class of what is seen; of no scalar's where it is none
 abbrev pub classOf : Plain → ℕ
@@ -89,57 +76,5 @@ module _ (l b t : List ℕ) where
   none-unlike-seen Plain.OptionalNone e = absurd (true≢false e)
   none-unlike-seen Plain.Other e = refl
 
-  pub no-order-seen : (x : Scalar) (p : Plain) → eqb (rank x .class) (classOf p) ≡ false → Compared.Unlike ≡ comparedOf (orderSeen (seenScalar x) (seenOf l b t p))
-  unfolding rank
-  no-order-seen x Plain.Null e = no-order x null e
-  no-order-seen x (Plain.Bool y) e = no-order x (bool y) e
-  no-order-seen x (Plain.Number n) e = no-order-number x n e
-  no-order-seen x (Plain.String s a n) e = no-order x (string (part (textOf l b t s) a n)) e
-  no-order-seen x (Plain.Bytes s a n) e = no-order x (bytes (part (textOf l b t s) a n)) e
-  no-order-seen x Plain.OptionalNone e = refl
-  no-order-seen x Plain.Other e = refl
-
   pub number-unlike-seen : (x : Number) (p : Plain) → eqb 2 (classOf p) ≡ false → false ≡ sameSeen (seenScalar (numberScalar x)) (seenOf l b t p)
   number-unlike-seen x p e = unlike-seen (numberScalar x) p (rw (number-class x) e)
-
-  pub number-no-order-seen : (x : Number) (p : Plain) → eqb 2 (classOf p) ≡ false → Compared.Unlike ≡ comparedOf (orderSeen (seenScalar (numberScalar x)) (seenOf l b t p))
-  number-no-order-seen x p e = no-order-seen (numberScalar x) p (rw (number-class x) e)
-
--- ---- size and index
-
--- the variants without a size, and those that are no index
-abbrev unsized : List ℕ
-unsized = 0 ∷ 1 ∷ 2 ∷ 3 ∷ 4 ∷ 5 ∷ 10 ∷ 11 ∷ 12 ∷ []
-
-abbrev unsuited : List ℕ
-unsuited = 0 ∷ 1 ∷ 4 ∷ 5 ∷ 6 ∷ 7 ∷ 8 ∷ 9 ∷ 10 ∷ 11 ∷ 12 ∷ []
-
-pub no-size : (l b t : List ℕ) (v : Value) → OneOf unsized (tagOf ValueType.the-type v) → Size.Unsized ≡ sizeOf l b t v
-no-size l b t Value.Null h = refl
-no-size l b t (Value.Bool x) h = refl
-no-size l b t (Value.Int z) h = refl
-no-size l b t (Value.Uint n) h = refl
-no-size l b t (Value.Double x) h = refl
-no-size l b t (Value.Nan x) h = refl
-no-size l b t (Value.String s a n) h = absurd (no-tag unsized 6 refl h)
-no-size l b t (Value.Bytes s a n) h = absurd (no-tag unsized 7 refl h)
-no-size l b t (Value.List m s a n) h = absurd (no-tag unsized 8 refl h)
-no-size l b t (Value.Map m s a n) h = absurd (no-tag unsized 9 refl h)
-no-size l b t Value.OptionalNone h = refl
-no-size l b t (Value.OptionalOf m s a) h = refl
-no-size l b t Value.Absent h = refl
-
-pub no-index : (v : Value) (n : ℕ) → OneOf unsuited (tagOf ValueType.the-type v) → Position.Unsuited ≡ positionOf v n
-no-index Value.Null n h = refl
-no-index (Value.Bool x) n h = refl
-no-index (Value.Int z) n h = absurd (no-tag unsuited 2 refl h)
-no-index (Value.Uint i) n h = absurd (no-tag unsuited 3 refl h)
-no-index (Value.Double x) n h = refl
-no-index (Value.Nan x) n h = refl
-no-index (Value.String s a m) n h = refl
-no-index (Value.Bytes s a m) n h = refl
-no-index (Value.List k s a m) n h = refl
-no-index (Value.Map k s a m) n h = refl
-no-index Value.OptionalNone n h = refl
-no-index (Value.OptionalOf k s a) n h = refl
-no-index Value.Absent n h = refl

@@ -16,7 +16,7 @@ use Rattle.text.specs.declared.bytes.TextOrder.the-variants as TextOrder
 use Rattle.text.specs.Bytes as Bytes
 use Rattle.meaning.specs.Value.{Scalar, null, bool, int, uint, double, string, bytes}
 use Rattle.meaning.specs.Comparison.{rank, textOrder, thenText, rankOrder, sameClass, scalarEqual}
-use Rattle.comparing.specs.Equality.{numberScalar}
+use Rattle.comparing.specs.Seen.{numberScalar}
 
 pub then-equal : (o : Order) → thenText o TextOrder.Equal ≡ o
 unfolding thenText textOrder

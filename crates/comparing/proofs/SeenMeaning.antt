@@ -13,7 +13,7 @@ use Rattle.rooms.specs.declared.value.Parts.the-variants as Parts
 use Rattle.rooms.specs.Value.{partsOf, doubleValue}
 use Rattle.rooms.specs.Rooms.{Rooms}
 use Rattle.rooms.specs.Stands.{Alive, StandsScalar, Stands}
-use Rattle.comparing.specs.Equality.{Seen, seenScalar, seenNone, seenOther, sameSeen, seenIn}
+use Rattle.comparing.specs.Seen.{Seen, seenScalar, seenNone, seenOther, sameSeen, seenIn}
 
 abbrev pub seenValue : Meaning.Value → Seen
 seenValue (scalar x) = seenScalar x

@@ -1,4 +1,3 @@
--- What the contracts cite: equality and look-up with their counts (`Equality`), order (`Order`), size and index (`Sizes`).
-pub mod Equality
-pub mod Order
-pub mod Sizes
+-- What the contracts cite: two values without parts (`Seen`), and the look-up of a key with its count of pairs (`LookUp`).
+pub mod LookUp
+pub mod Seen

@@ -1,7 +1,3 @@
-// What compares values where they lie: equality with its count of pairs, look-up, order, size and index.
-pub mod equality;
+// What compares values without parts where they lie, and looks a key up among a map's entries.
 pub mod lookup;
-pub mod order;
 pub mod plain;
-pub mod sizes;
-pub mod texts;

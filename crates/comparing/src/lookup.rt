@@ -1,7 +1,7 @@
 // The look-up of a key among a map's entries, with a count of the pairs compared, which stops at a limit.
 ghost use mathlib.Core.Path.{_≡_};
 ghost use Rattle.rooms.specs.Rooms.{rooms};
-ghost use Rattle.comparing.specs.Equality.{findIn};
+ghost use Rattle.comparing.specs.LookUp.{findIn};
 use crate::plain::plain_equal;
 use rooms::cells::cell_at;
 use rooms::value::CellSpace;

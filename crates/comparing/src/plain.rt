@@ -7,13 +7,13 @@ ghost use Rattle.meaning.specs.Value.{null, bool, string, bytes};
 ghost use Rattle.meaning.specs.Comparison.{textOrder};
 ghost use Rattle.rooms.specs.Value.{plainOf};
 ghost use Rattle.rooms.specs.Rooms.{part, textOf};
-ghost use Rattle.comparing.specs.Equality.{seenScalar, seenNone, numberScalar, seenOf, sameSeen};
-use crate::texts::parts_compare;
+ghost use Rattle.comparing.specs.Seen.{seenScalar, seenNone, numberScalar, seenOf, sameSeen};
 use numbers::order::Number;
 use rooms::value::Plain;
 use rooms::value::TextSpace;
 use rooms::value::Value;
 use rooms::value::plain_of;
+use spans::parts_compare;
 use text::bytes::TextOrder;
 
 fn same_null(other: Plain) -> bool

@@ -9,7 +9,7 @@ use Rattle.machine.specs.declared.outcome.Used.{Used}
 use Rattle.machine.specs.declared.outcome.Error.{Error}
 use Rattle.machine.specs.declared.outcome.Limit.{Limit}
 use Rattle.machine.specs.declared.outcome.Limit.the-variants as Limit
-use Rattle.reading.specs.Numbers.{errorMeant, limitMeant}
+use Rattle.reasons.specs.Numbers.{errorMeant, limitMeant}
 use Rattle.answers.specs.declared.Answer.{Answer}
 use Rattle.answers.specs.declared.Answer.the-variants as Answer
 use Rattle.answers.specs.Meant.{countsIn}

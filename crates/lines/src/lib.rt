@@ -1,7 +1,7 @@
 // The line of an answer.
 ghost use mathlib.Core.Path.{_≡_};
 ghost use Rattle.rooms.specs.Rooms.{rooms};
-ghost use Rattle.reading.specs.Numbers.{limitMeant};
+ghost use Rattle.reasons.specs.Numbers.{limitMeant};
 ghost use Rattle.answers.specs.Meant.{countsIn};
 ghost use Rattle.pieces.specs.Page.{Page, puts};
 ghost use Rattle.shown.specs.Shown.{shownIn};
@@ -12,7 +12,7 @@ use machine::outcome::Limit;
 use machine::outcome::Used;
 use pieces::put_number;
 use pieces::put_word;
-use reading::reasons::error_number;
+use reasons::error_number;
 use rooms::value::Value;
 use shown::put_value;
 

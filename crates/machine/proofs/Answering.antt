@@ -25,9 +25,9 @@ use Rattle.rooms.specs.declared.scope.Scope.{Scope}
 use Rattle.rooms.specs.Rooms.{Rooms, cellAt}
 use Rattle.rooms.specs.Stands.{Alive, StandsCells, Stands}
 use Rattle.rooms.specs.Scope.{StandsScope}
-use Rattle.rooms.specs.Building.{zeroed, cellsCleared, bytesCleared}
+use Rattle.building.specs.Building.{zeroed, cellsCleared, bytesCleared}
 use Rattle.rooms.proofs.ReadBack.{reads}
-use Rattle.rooms.proofs.Zeroed.{zeroed-length, cleared-words, cleared-bytes}
+use Rattle.building.proofs.Zeroed.{zeroed-length, cleared-words, cleared-bytes}
 use Rattle.machine.specs.declared.outcome.Outcome.{Outcome}
 use Rattle.machine.specs.declared.outcome.Outcome.the-variants as Outcome
 use Rattle.machine.specs.Machine.{machine}

@@ -18,12 +18,12 @@ use Rattle.meaning.specs.Limited as Limited
 use Rattle.meaning.specs.Limited.{spend, onward, make, ended, outcome, cellsBuilt, textBuilt, charge, fits, through, stopped}
 use Rattle.rooms.specs.declared.value.Value.{Value}
 use Rattle.rooms.specs.declared.value.CellSpace.the-variants as Cells
-use Rattle.rooms.specs.declared.building.Taken.the-variants as Taken
+use Rattle.building.specs.declared.Taken.the-variants as Taken
 use Rattle.rooms.specs.declared.scope.Scope.{Scope}
 use Rattle.rooms.specs.Rooms.{Rooms, part}
 use Rattle.rooms.specs.Stands.{Alive, Stands, StandsCells, Holds}
-use Rattle.rooms.specs.Building.{cellRoom, textRoom, takenOf, cellsTaken}
-use Rattle.rooms.proofs.BuildingSteps.{cells-kept}
+use Rattle.building.specs.Building.{cellRoom, textRoom, takenOf, cellsTaken}
+use Rattle.building.proofs.BuildingSteps.{cells-kept}
 use Rattle.machine.specs.declared.outcome.Used.{Used}
 use Rattle.machine.specs.declared.outcome.Limit.the-variants as Limit
 use Rattle.machine.specs.declared.outcome.Outcome.{Outcome}

@@ -19,9 +19,9 @@ use Rattle.rooms.specs.declared.value.Value.{Value}
 use Rattle.rooms.specs.declared.scope.Scope.{Scope}
 use Rattle.rooms.specs.Rooms.{Rooms}
 use Rattle.rooms.specs.Stands.{Alive, Stands, Holds}
-use Rattle.comparing.specs.Equality.{Seen, seenScalar, seenNone, seenOther, seenIn}
-use Rattle.comparing.specs.Order.{orderSeen, comparedOf}
-use Rattle.comparing.proofs.EqualMeaning.{equal-pairs}
+use Rattle.comparing.specs.Seen.{Seen, seenScalar, seenNone, seenOther, seenIn}
+use Rattle.ordering.specs.Order.{orderSeen, comparedOf}
+use Rattle.equality.proofs.EqualMeaning.{equal-pairs}
 use Rattle.machine.specs.declared.outcome.Used.{Used}
 use Rattle.machine.specs.Outcomes.{Res, Does, truthOut, withValue}
 use Rattle.machine.specs.Comparison.{equalOut, comparedOut, compareOut}

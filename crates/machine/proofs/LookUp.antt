@@ -24,16 +24,16 @@ use Rattle.rooms.specs.declared.value.Value.the-variants as Value
 use Rattle.rooms.specs.declared.value.CellSpace.{CellSpace}
 use Rattle.rooms.specs.declared.value.Parts.{Parts}
 use Rattle.rooms.specs.declared.value.Parts.the-variants as Parts
-use Rattle.comparing.specs.declared.sizes.Position.{Position}
-use Rattle.comparing.specs.declared.sizes.Position.the-variants as Position
+use Rattle.sizes.specs.declared.Position.{Position}
+use Rattle.sizes.specs.declared.Position.the-variants as Position
 use Rattle.rooms.specs.declared.scope.Scope.{Scope}
 use Rattle.rooms.specs.Value.{partsOf, doubleValue}
 use Rattle.rooms.specs.Rooms.{Rooms, cellAt}
 use Rattle.rooms.specs.Stands.{Alive, StandsScalar, Stands, StandsCells, StandsEntries, Holds}
-use Rattle.comparing.specs.Equality.{findIn}
-use Rattle.comparing.specs.Sizes.{insideInt}
-use Rattle.comparing.specs.Sizes as Positions
-use Rattle.comparing.proofs.EqualMeaning.{find-ok, among-ok}
+use Rattle.comparing.specs.LookUp.{findIn}
+use Rattle.sizes.specs.Sizes.{insideInt}
+use Rattle.sizes.specs.Sizes as Positions
+use Rattle.equality.proofs.EqualMeaning.{find-ok, among-ok}
 use Rattle.machine.specs.declared.outcome.Outcome.{Outcome}
 use Rattle.machine.specs.declared.outcome.Outcome.the-variants as Outcome
 use Rattle.machine.specs.declared.outcome.Error.the-variants as Error
@@ -47,7 +47,7 @@ use Rattle.machine.proofs.Steps.{pairs-then, found-then}
 use Rattle.machine.proofs.Seen.{held-none, scalar-parts, Probe, probe-view}
 use Rattle.machine.proofs.Logic.{truth-now}
 use Rattle.machine.proofs.Building.{present-says}
-use Rattle.comparing.proofs.SizeMeaning.{nth-stands}
+use Rattle.sizes.proofs.SizeMeaning.{nth-stands}
 
 none≢some : {v : Meaning.Value} → _≡_ {A = Option Meaning.Value} none (some v) → ⊥
 none≢some e = let z : _≡_ {A = ℕ} 0 1 = cc in omega arith

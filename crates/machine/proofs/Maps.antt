@@ -28,10 +28,10 @@ use Rattle.rooms.specs.declared.scope.Scope.{Scope}
 use Rattle.rooms.specs.Value.{nestingOf}
 use Rattle.rooms.specs.Rooms.{Rooms, cellAt}
 use Rattle.rooms.specs.Stands.{Alive, Stands, StandsCells, StandsEntries, Holds}
-use Rattle.comparing.specs.Equality.{findIn}
+use Rattle.comparing.specs.LookUp.{findIn}
 use Rattle.rooms.proofs.Frame.{frame-entries, scalar-frame, holds-frame}
 use Rattle.rooms.proofs.CellLaws.{written-length}
-use Rattle.comparing.proofs.EqualMeaning.{FoundIs, Finds, find-ok}
+use Rattle.equality.proofs.EqualMeaning.{FoundIs, Finds, find-ok}
 use Rattle.machine.specs.declared.outcome.Used.{Used}
 use Rattle.machine.specs.declared.outcome.Error.the-variants as Error
 use Rattle.machine.specs.declared.outcome.Outcome.{Outcome}

@@ -10,7 +10,7 @@ use Rattle.rooms.specs.declared.value.TextSpace.{TextSpace}
 use Rattle.rooms.specs.declared.value.TextSpace.the-variants as Text
 use Rattle.rooms.specs.Rooms.{Rooms, part, textOf, cellAt}
 use Rattle.rooms.specs.Stands.{Alive, Within, TextAt}
-use Rattle.rooms.specs.Building.{pasted}
+use Rattle.building.specs.Building.{pasted}
 use Rattle.rooms.proofs.Frame.{part-same, text-frame}
 use Rattle.machine.specs.Outcomes.{withText}
 use Rattle.machine.specs.Numbers.{bothTexts}

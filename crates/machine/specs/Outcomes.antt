@@ -8,13 +8,13 @@ use Rattle.meaning.specs.Limits.{deepestValue}
 use Rattle.rooms.specs.declared.value.Value.{Value}
 use Rattle.rooms.specs.declared.value.Value.the-variants as Value
 use Rattle.rooms.specs.declared.value.CellSpace.the-variants as Cells
-use Rattle.rooms.specs.declared.building.Taken.{Taken}
-use Rattle.rooms.specs.declared.building.Taken.the-variants as Taken
+use Rattle.building.specs.declared.Taken.{Taken}
+use Rattle.building.specs.declared.Taken.the-variants as Taken
 use Rattle.rooms.specs.declared.scope.Scope.{Scope}
 use Rattle.rooms.specs.Value.{nestingOf}
 use Rattle.rooms.specs.Cells.{writtenIn}
 use Rattle.rooms.specs.Rooms.{Rooms, rooms}
-use Rattle.rooms.specs.Building.{cellRoom, takenOf, cellsTaken}
+use Rattle.building.specs.Building.{cellRoom, takenOf, cellsTaken}
 use Rattle.machine.specs.declared.outcome.Used.{Used}
 use Rattle.machine.specs.declared.outcome.Error.{Error}
 use Rattle.machine.specs.declared.outcome.Error.the-variants as Error

@@ -21,7 +21,7 @@ use Rattle.rooms.specs.Cells.{Fits}
 use Rattle.rooms.specs.Rooms.{Rooms, cellAt, part}
 use Rattle.rooms.specs.Scope.{StandsScope}
 use Rattle.rooms.specs.Stands.{Alive, StandsCells, Holds}
-use Rattle.rooms.specs.Building.{cellRoom, textRoom}
+use Rattle.building.specs.Building.{cellRoom, textRoom}
 use Rattle.machine.specs.declared.outcome.Used.{Used}
 use Rattle.machine.specs.declared.outcome.Error.{Error}
 use Rattle.machine.specs.declared.outcome.Error.the-variants as Error

@@ -1,2 +1,3 @@
--- What the contracts cite: the numbers that errors and limits are known by (`Numbers`).
-pub mod Numbers
+-- What the contracts cite: what is read off a value (`Values`). What the readers show of a value (`Shown`).
+pub mod Values
+pub mod Shown

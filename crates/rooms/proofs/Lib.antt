@@ -1,16 +1,11 @@
 -- Laws. CellLaws: a cell gives back what was written; CellCopies: a copy of a cell is that cell. Frame: rooms that agree on what a value
 -- reaches hold the same value. ReadBack: what stands for a value reads as it. Built, Copied, Pasted: what is built stands, and touches no
 -- other value; Zeroed: clearing. Scopes: what a scope stands for. The others are steps to those.
-pub mod BuildingSteps
-pub mod Built
 pub mod CellCopies
 pub mod CellLaws
-pub mod Copied
 pub mod Depths
 pub mod Frame
-pub mod Pasted
 pub mod ReadBack
 pub mod Scopes
 pub mod Variants
 pub mod Words
-pub mod Zeroed

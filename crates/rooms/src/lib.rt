@@ -1,5 +1,4 @@
 // Values in lent memory: what a value is, how it lies in a cell, and what is done with it there.
-pub mod building;
 pub mod cells;
 pub mod scope;
 pub mod value;

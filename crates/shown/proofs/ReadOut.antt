@@ -13,7 +13,7 @@ use Rattle.rooms.specs.declared.value.CellSpace.{CellSpace}
 use Rattle.rooms.specs.Value.{partsOf, nestingOf}
 use Rattle.rooms.specs.Rooms.{Rooms, cellAt}
 use Rattle.rooms.specs.Reading.{Reader, elementsIn, entriesIn, readBy, readTo, reading}
-use Rattle.comparing.specs.Equality.{seenIn}
+use Rattle.comparing.specs.Seen.{seenIn}
 use Rattle.pieces.specs.Spelled.{ascii}
 use Rattle.shown.specs.Written.{writtenScalar, separator, written, writtenValues, writtenEntries}
 use Rattle.shown.specs.Shown.{Show, elementsShown, entriesShown, partsShown, shownTo, shownIn}

@@ -22,7 +22,7 @@ use Rattle.rooms.specs.declared.value.Parts.the-variants as Parts
 use Rattle.rooms.specs.declared.value.CellSpace.{CellSpace}
 use Rattle.rooms.specs.Value.{partsOf, plainOf, nestingOf}
 use Rattle.rooms.specs.Rooms.{Rooms, cellAt, part, textOf}
-use Rattle.comparing.specs.Equality.{numberScalar, seenOf, seenIn}
+use Rattle.comparing.specs.Seen.{numberScalar, seenOf, seenIn}
 use Rattle.pieces.specs.Page.{Page, puts}
 use Rattle.pieces.specs.Spelled.{ascii, hexadecimal, decimal, signed, quoted}
 use Rattle.pieces.proofs.Putting.{puts-none, puts-joined, puts-two, puts-three}

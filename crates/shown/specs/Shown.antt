@@ -9,7 +9,7 @@ use Rattle.rooms.specs.declared.value.Parts.the-variants as Parts
 use Rattle.rooms.specs.declared.value.CellSpace.{CellSpace}
 use Rattle.rooms.specs.Value.{partsOf, nestingOf}
 use Rattle.rooms.specs.Rooms.{Rooms, cellAt}
-use Rattle.comparing.specs.Equality.{Seen, seenScalar, seenNone, seenOther, seenIn}
+use Rattle.comparing.specs.Seen.{Seen, seenScalar, seenNone, seenOther, seenIn}
 use Rattle.pieces.specs.Spelled.{ascii}
 use Rattle.shown.specs.Written.{writtenScalar, separator}
 

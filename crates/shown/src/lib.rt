@@ -1,11 +1,11 @@
 // A value as text, put into lent memory. Parts that stand in it many times are put each time, up to where the memory ends.
-use comparing::texts::part;
 use numbers::double::to_bits;
 use numbers::order::Number;
+use spans::part;
 ghost use mathlib.Core.Path.{_≡_};
 ghost use Rattle.rooms.specs.Rooms.{rooms, part, textOf};
 ghost use Rattle.meaning.specs.Value.{bool};
-ghost use Rattle.comparing.specs.Equality.{numberScalar, seenOf};
+ghost use Rattle.comparing.specs.Seen.{numberScalar, seenOf};
 ghost use Rattle.pieces.specs.Page.{Page, puts};
 ghost use Rattle.pieces.specs.Spelled.{quoted};
 ghost use Rattle.shown.specs.Written.{writtenScalar, separator};

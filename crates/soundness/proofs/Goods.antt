@@ -5,7 +5,7 @@ use mathlib.Core.List.{List, []}
 use mathlib.Core.Bool.{Bool, true, false, not, _&&_, _||_, cond}
 use native.Mathlib.Omega.{arith}
 use lib.Dec.{leb, eqb, ltb}
-use borrow.Author.Tests.{leb-true, eqb-true, eqb-false, ltb-false}
+use borrow.Author.Tests.{le-leb, leb-true, le-ltb, eqb-true, eqb-false, ltb-false}
 use Rattle.text.specs.Utf8.{wellFormed}
 use Rattle.rooms.specs.declared.value.Value.{Value}
 use Rattle.rooms.specs.declared.value.Value.the-variants as Value
@@ -17,7 +17,7 @@ use Rattle.rooms.specs.declared.scope.Scope.{Scope}
 use Rattle.rooms.specs.Value.{nestingOf}
 use Rattle.rooms.specs.Cells.{cellIn}
 use Rattle.rooms.specs.Rooms.{part}
-use Rattle.rooms.specs.Building.{cellRoom, textRoom}
+use Rattle.building.specs.Building.{cellRoom, textRoom}
 use Rattle.rooms.specs.Scope.{slotOf}
 use Rattle.soundness.specs.declared.Bindings.{Bindings}
 use Rattle.soundness.specs.declared.Soundness.{Soundness}
@@ -152,6 +152,35 @@ sound-room w t b s = by-tests (ltb bad used) refl (leb (b .cells) (cellRoom w) &
           cells = λ j k. rw (u, v) at (all-good w t used bytes 0 used (omega (arith, ltb-false bad used e)) j (omega arith) (omega (arith, k, u)));
           slots = λ n k. rw (u, v) at (slots-good w t used bytes (b .scope) 0 128 (i .1) n (omega arith) (omega (arith, k)));
         }
+
+-- ---- and the other way
+
+module _ (w t : List ℕ) (used bytes : ℕ) where
+  none-bad : (i n : ℕ) → ((j : ℕ) → i ≤ j → j < i + n → cellFits w t used bytes j ≡ true) → firstBad w t used bytes i n ≡ i + n
+  unfolding firstBad
+  none-bad i zero h = omega arith
+  none-bad i (suc n) h = rw (h i (omega arith) (omega arith)) (none-bad (suc i) n (λ j a b. h j (omega arith) (omega arith)) ∙ further i n)
+    where
+      further : (i n : ℕ) → suc i + n ≡ i + suc n
+      further i n = omega arith
+
+  all-slots : (s : Scope) (i n : ℕ) → ((j : ℕ) → i ≤ j → j < i + n → slotFits w t used bytes (slotOf s j) ≡ true) → slotsFit w t used bytes s i n ≡ true
+  unfolding slotsFit
+  all-slots s i zero h = refl
+  all-slots s i (suc n) h = rw (h i (omega arith) (omega arith)) (all-slots s (suc i) n (λ j a b. h j (omega arith) (omega arith)))
+
+-- A room with good cells, slots and used counts is sound.
+pub room-sound : (w t : List ℕ) (b : Bindings) → SoundRoom w t b → soundOf w t b ≡ Sound
+unfolding soundOf cellFits
+room-sound w t b r =
+    let u : usedCells w t b ≡ b .cells = omega (arith, r .cellsIn) in
+    let v : usedBytes w t b ≡ b .bytes = omega (arith, r .bytesIn) in
+    let i : firstBad w t (b .cells) (b .bytes) 0 (b .cells) ≡ b .cells = none-bad w t (b .cells) (b .bytes) 0 (b .cells) (λ j a c. r .cells j (omega (arith, c))) ∙ from-nothing (b .cells) in
+    let s = all-slots w t (b .cells) (b .bytes) (b .scope) 0 128 (λ j a c. r .slots j (omega (arith, c))) in
+    rw (u, v, i, le-ltb (b .cells) (b .cells) (omega arith), le-leb (b .cells) (cellRoom w) (r .cellsIn), le-leb (b .bytes) (textRoom t) (r .bytesIn), s)
+  where
+    from-nothing : (n : ℕ) → 0 + n ≡ n
+    from-nothing n = omega arith
 
 -- nothing that fits nests too deep
 pub fits-nesting : (w t : List ℕ) (used bytes least : ℕ) (v : Value) → valueFits w t used bytes least v ≡ true → nestingOf v ≤ 32

@@ -36,7 +36,7 @@ use Rattle.soundness.proofs.HeldLaws.{HeldBy, held}
 
 -- ---- what is read of a name without a value
 
-absent-is : (v : Value) → isAbsent v ≡ true → v ≡ Value.Absent
+pub absent-is : (v : Value) → isAbsent v ≡ true → v ≡ Value.Absent
 absent-is Value.Null e = let z : _≡_ {A = ℕ} 0 1 = cc in absurd (omega arith)
 absent-is (Value.Bool b) e = let z : _≡_ {A = ℕ} 0 1 = cc in absurd (omega arith)
 absent-is (Value.Int n) e = let z : _≡_ {A = ℕ} 0 1 = cc in absurd (omega arith)
@@ -51,7 +51,7 @@ absent-is Value.OptionalNone e = let z : _≡_ {A = ℕ} 0 1 = cc in absurd (ome
 absent-is (Value.OptionalOf d s a) e = let z : _≡_ {A = ℕ} 0 1 = cc in absurd (omega arith)
 absent-is Value.Absent e = refl
 
-beyond : (w t : List ℕ) (b : Bindings) (n : ℕ) → slotOf (b .scope) n ≡ Value.Absent → heldScope w t b n ≡ none
+pub beyond : (w t : List ℕ) (b : Bindings) (n : ℕ) → slotOf (b .scope) n ≡ Value.Absent → heldScope w t b n ≡ none
 unfolding heldScope reading readTo
 beyond w t b n e = rw e
 
@@ -64,7 +64,7 @@ module _ (w t : List ℕ) (b : Bindings) (s : soundOf w t b ≡ Sound) where
   fits-held v least e =
       held w t (b .cells) (b .bytes) (omega (arith, room .bytesIn)) (room .cells) 33 v least (omega (arith, fits-nesting w t (b .cells) (b .bytes) least v e)) e
 
-  held-read : (n : ℕ) → (h : HeldBy w t (b .cells) (b .bytes) (slotOf (b .scope) n)) → heldScope w t b n ≡ some (h .value)
+  pub held-read : (n : ℕ) → (h : HeldBy w t (b .cells) (b .bytes) (slotOf (b .scope) n)) → heldScope w t b n ≡ some (h .value)
   unfolding heldScope
   held-read n h = reads (aliveBelow (b .cells)) (bindingRooms w t) (h .value) (slotOf (b .scope) n) (h .stands [] [] [])
 

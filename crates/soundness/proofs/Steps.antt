@@ -12,7 +12,7 @@ use Rattle.rooms.specs.declared.value.CellSpace.the-variants as Cells
 use Rattle.rooms.specs.declared.scope.Scope.{Scope}
 use Rattle.rooms.specs.Scope.{slotOf}
 use Rattle.rooms.specs.Value.{nestingOf}
-use Rattle.rooms.specs.Building.{cellRoom, textRoom}
+use Rattle.building.specs.Building.{cellRoom, textRoom}
 use Rattle.rooms.specs.Cells.{cellIn}
 use Rattle.soundness.specs.Keys.{isKey, match, repeatedIn, keysFit}
 use Rattle.soundness.specs.Fits.{deepestIn, rowFits, valueFits, slotFits}

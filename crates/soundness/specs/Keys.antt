@@ -6,7 +6,7 @@ use Rattle.rooms.specs.declared.value.Value.{Value}
 use Rattle.rooms.specs.declared.value.Value.the-variants as Value
 use Rattle.rooms.specs.Value.{plainOf}
 use Rattle.rooms.specs.Cells.{cellIn}
-use Rattle.comparing.specs.Equality.{seenOf, sameSeen}
+use Rattle.comparing.specs.Seen.{seenOf, sameSeen}
 
 -- of the kind of a key
 abbrev pub isKey : Value → Bool

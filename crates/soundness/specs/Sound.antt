@@ -7,7 +7,7 @@ use lib.ListN.{take}
 use Rattle.rooms.specs.declared.value.Value.{Value}
 use Rattle.rooms.specs.declared.scope.Slot.{Slot}
 use Rattle.rooms.specs.Cells.{cellIn}
-use Rattle.rooms.specs.Building.{cellRoom, textRoom}
+use Rattle.building.specs.Building.{cellRoom, textRoom}
 use Rattle.rooms.specs.Scope.{slotOf}
 use Rattle.rooms.specs.declared.scope.Scope.{Scope}
 use Rattle.soundness.specs.declared.Bindings.{Bindings}

@@ -2,8 +2,8 @@
 ghost use mathlib.Core.Path.{_≡_};
 ghost use Prim.Native.Nat.{min, _<_};
 ghost use Rattle.soundness.specs.Sound.{firstBad, slotsFit, soundOf};
-use rooms::building::cell_room;
-use rooms::building::text_room;
+use building::cell_room;
+use building::text_room;
 use rooms::cells::read_cell;
 use rooms::scope::NAMES;
 use rooms::scope::Scope;

@@ -4,12 +4,12 @@ ghost use mathlib.Core.Path.{_≡_};
 ghost use Prim.Native.Nat.{_+_, _<_, max};
 ghost use Rattle.soundness.specs.Fits.{deepestIn, rowFits, spanFits, stringFits, mapFits, valueFits, isAbsent, slotFits};
 use crate::keys::keys_fit;
-use comparing::texts::part;
 use rooms::cells::read_cell;
 use rooms::value::CellSpace;
 use rooms::value::TextSpace;
 use rooms::value::Value;
 use rooms::value::nesting_of;
+use spans::part;
 
 const DEEPEST: u8 = 32;
 

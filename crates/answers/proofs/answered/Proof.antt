@@ -1,65 +1,48 @@
+-- `answered` meets its contract. Assumes nothing.
 use Rattle.answers.proofs.Ends.{value-ends, error-ends, exhaustion-ends}
 use borrow.Author.Needs.{needs}
 use Rattle.answers.proofs.answered.Statement.{statement}
 use Rattle.answers.proofs.answered.Tie as tie
-use Rattle.answers.proofs.answered.Reads as reads
-use Rattle.answers.proofs.answered.Lts as lts
-use Rattle.rooms.proofs.building.clear_cells.Reads as clear-cells-reads
-use Rattle.rooms.proofs.building.clear_text.Reads as clear-text-reads
 
--- src/lib.rt:42:24
 enum-known-outcome : tie.Need-enum-known-outcome
 enum-known-outcome c = search needs
 
--- src/lib.rt:43:24
 enum-known-outcome-2 : tie.Need-enum-known-outcome-2
 enum-known-outcome-2 c = search needs
 
--- src/lib.rt:44:13
 clear-cells-requires : tie.Need-clear-cells-requires
 clear-cells-requires c κs = search needs
 
--- src/lib.rt:45:13
 clear-text-requires : tie.Need-clear-text-requires
 clear-text-requires c κs = search needs
 
--- src/lib.rt:48:28
 enum-known-outcome-3 : tie.Need-enum-known-outcome-3
 enum-known-outcome-3 c = search needs
 
--- src/lib.rt:49:13
 clear-cells-requires-2 : tie.Need-clear-cells-requires-2
 clear-cells-requires-2 c κs = search needs
 
--- src/lib.rt:50:13
 clear-text-requires-2 : tie.Need-clear-text-requires-2
 clear-text-requires-2 c κs = search needs
 
--- src/lib.rt:38:1
 returns : tie.Need-returns
 returns c = let given = c .before .before .before .before .before .args in value-ends (given .outcome) (c .before .outcome .given .0 .0) (c .before .outcome .given .0 .1 .0) (given .cells .now) (given .text .now) (c .before .outcome .given .1)
 
--- src/lib.rt:38:1
 same-length : tie.Need-same-length
 same-length c = search needs
 
--- src/lib.rt:38:1
 same-length-2 : tie.Need-same-length-2
 same-length-2 c = search needs
 
--- src/lib.rt:38:1
 returns-2 : tie.Need-returns-2
 returns-2 c = let given = c .before .before .before .before .before .before .before .before .before .before .before .before .before .args in error-ends (given .outcome) (c .before .before .before .before .before .before .before .before .before .outcome2 .given .0 .0) (c .before .before .before .before .before .before .before .before .before .outcome2 .given .0 .1 .0) (c .before .before .before .before .before .before .before .before .before .outcome2 .given .0 .1 .1 .0) (given .cells .now) _ (given .text .now) _ (c .before .before .before .before .before .before .before .before .before .outcome2 .given .1) (c .before .before .before .before .before .before .clear-cells .ensures) (c .before .before .clear-text .ensures)
 
--- src/lib.rt:38:1
 same-length-3 : tie.Need-same-length-3
 same-length-3 c = search needs
 
--- src/lib.rt:38:1
 same-length-4 : tie.Need-same-length-4
 same-length-4 c = search needs
 
--- src/lib.rt:38:1
 returns-3 : tie.Need-returns-3
 returns-3 c = let given = c .before .before .before .before .before .before .before .before .before .before .before .before .before .args in exhaustion-ends (given .outcome) (c .before .before .before .before .before .before .before .before .before .outcome3 .given .0 .0) (c .before .before .before .before .before .before .before .before .before .outcome3 .given .0 .1 .0) (given .cells .now) _ (given .text .now) _ (c .before .before .before .before .before .before .before .before .before .outcome3 .given .1) (c .before .before .before .before .before .before .clear-cells2 .ensures) (c .before .before .clear-text2 .ensures)
 

@@ -8,8 +8,8 @@ use Rattle.bindings.proofs.judge_all.Tie as tie
 use Rattle.bindings.proofs.judge_all.Reads as reads
 use Rattle.bindings.proofs.judge_all.Lts as lts
 use Rattle.bindings.proofs.judge_table.Reads as judge-table-reads
-use Rattle.rooms.proofs.building.cell_room.Reads as cell-room-reads
-use Rattle.rooms.proofs.building.text_room.Reads as text-room-reads
+use Rattle.building.proofs.cell_room.Reads as cell-room-reads
+use Rattle.building.proofs.text_room.Reads as text-room-reads
 use Rattle.rooms.proofs.scope.Scope.value_of.Reads as value-of-reads
 use Rattle.soundness.proofs.sound.Reads as sound-reads
 use Rattle.soundness.proofs.values.is_absent.Reads as is-absent-reads

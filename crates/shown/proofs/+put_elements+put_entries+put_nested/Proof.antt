@@ -84,37 +84,29 @@ put-elements-Inv-loop literal binding-cells binding-text cells text levels space
 abbrev put-elements-μ-loop : put-elements-lts.MeasureT-loop
 put-elements-μ-loop literal binding-cells binding-text cells text levels space first length out₀ at next₀ place₀ left₀ out next place left = left
 
--- src/lib.rt:140:5
 put-elements-loop-holds : (t : ℕ) → put-elements-lts.Need-loop-holds (put-elements-claims t) (put-elements-at t) put-elements.Post put-elements-Inv-loop put-elements-μ-loop
 put-elements-loop-holds t c =
     (refl, omega (arith, c .before .before .before .before .before .before .fits .first .fits, c .before .before .before .before .before .before .fits .length .fits), refl)
 
--- src/lib.rt:141:9
 put-elements-sub-left : (t : ℕ) → put-elements-lts.Need-sub-left (put-elements-claims t) (put-elements-at t) put-elements.Post put-elements-Inv-loop put-elements-μ-loop
 put-elements-sub-left t c = search needs
 
--- src/lib.rt:142:13
 put-elements-cell-at-requires : (t : ℕ) → put-elements-lts.Need-cell-at-requires (put-elements-claims t) (put-elements-at t) put-elements.Post put-elements-Inv-loop put-elements-μ-loop
 put-elements-cell-at-requires t c κs = search needs
 
--- src/lib.rt:143:9
 put-elements-put-nested-requires : (t : ℕ) → put-elements-lts.Need-put-nested-requires (put-elements-claims t) (put-elements-at t) put-elements.Post put-elements-Inv-loop put-elements-μ-loop
 put-elements-put-nested-requires t c κs =
     (omega (arith, c .before .before .before .before .before .before .before .before .before .before .pre .0), tt)
 
--- src/lib.rt:154:9
 put-elements-put-separator-requires : (t : ℕ) → put-elements-lts.Need-put-separator-requires (put-elements-claims t) (put-elements-at t) put-elements.Post put-elements-Inv-loop put-elements-μ-loop
 put-elements-put-separator-requires t c κs = search needs
 
--- src/lib.rt:155:9
 put-elements-add-place : (t : ℕ) → put-elements-lts.Need-add-place (put-elements-claims t) (put-elements-at t) put-elements.Post put-elements-Inv-loop put-elements-μ-loop
 put-elements-add-place t c = search needs
 
--- src/lib.rt:140:5
 put-elements-loop-less : (t : ℕ) → put-elements-lts.Need-loop-less (put-elements-claims t) (put-elements-at t) put-elements.Post put-elements-Inv-loop put-elements-μ-loop
 put-elements-loop-less t c = search needs
 
--- src/lib.rt:140:5
 put-elements-loop-again : (t : ℕ) → put-elements-lts.Need-loop-again (put-elements-claims t) (put-elements-at t) put-elements.Post put-elements-Inv-loop put-elements-μ-loop
 unfolding cellAt
 put-elements-loop-again t c =
@@ -123,11 +115,9 @@ put-elements-loop-again t c =
     let r = (rooms (s .args .literal .now) (s .args .binding-cells .now) (s .args .binding-text .now) (s .args .cells .now) (s .args .text .now)) in
     (search needs, omega arith, elements-on (λ (v : Value). shownTo (s .args .levels) r v) r (s .args .space) (c .before .before .before .before .before .before .before .before .cell-at .result) (l .loop .place) (l .loop .left) (l .loop .next, l .loop .out) _ _ (c .before .before .before .before .before .before .before .before .before .loop-test .taken) (c .before .before .before .before .before .before .before .before .cell-at .ensures) (c .before .before .before .before .before .before .put-nested .ensures) (c .before .before .put-separator .ensures) ∙ l .loop .inv .2)
 
--- src/lib.rt:122:1
 put-elements-same-length : (t : ℕ) → put-elements-lts.Need-same-length (put-elements-claims t) (put-elements-at t) put-elements.Post put-elements-Inv-loop put-elements-μ-loop
 put-elements-same-length t c = search needs
 
--- src/lib.rt:122:1
 put-elements-returns : (t : ℕ) → put-elements-lts.Need-returns (put-elements-claims t) (put-elements-at t) put-elements.Post put-elements-Inv-loop put-elements-μ-loop
 put-elements-returns t c =
     let s = c .before .before .before .before .before .before .before .before in
@@ -142,58 +132,45 @@ put-entries-Inv-loop literal binding-cells binding-text cells text levels space 
 abbrev put-entries-μ-loop : put-entries-lts.MeasureT-loop
 put-entries-μ-loop literal binding-cells binding-text cells text levels space first length out₀ at next₀ place₀ left₀ t17 out next place left = left
 
--- src/lib.rt:179:5
 put-entries-loop-holds : (t : ℕ) → put-entries-lts.Need-loop-holds (put-entries-claims t) (put-entries-at t) put-entries.Post put-entries-Inv-loop put-entries-μ-loop
 put-entries-loop-holds t c =
     (refl, omega (arith, c .before .before .before .before .before .before .fits .first .fits, c .before .before .before .before .before .before .fits .length .fits), refl)
 
--- src/lib.rt:180:9
 put-entries-sub-left : (t : ℕ) → put-entries-lts.Need-sub-left (put-entries-claims t) (put-entries-at t) put-entries.Post put-entries-Inv-loop put-entries-μ-loop
 put-entries-sub-left t c = search needs
 
--- src/lib.rt:181:13
 put-entries-cell-at-requires : (t : ℕ) → put-entries-lts.Need-cell-at-requires (put-entries-claims t) (put-entries-at t) put-entries.Post put-entries-Inv-loop put-entries-μ-loop
 put-entries-cell-at-requires t c κs = search needs
 
--- src/lib.rt:182:9
 put-entries-put-nested-requires : (t : ℕ) → put-entries-lts.Need-put-nested-requires (put-entries-claims t) (put-entries-at t) put-entries.Post put-entries-Inv-loop put-entries-μ-loop
 put-entries-put-nested-requires t c κs =
     (omega (arith, c .before .before .before .before .before .before .before .before .before .before .pre .0), tt)
 
--- src/lib.rt:193:36
 put-entries-slice-aggregate-put-word : (t : ℕ) → put-entries-lts.Need-slice-aggregate-put-word (put-entries-claims t) (put-entries-at t) put-entries.Post put-entries-Inv-loop put-entries-μ-loop
 put-entries-slice-aggregate-put-word t c = search needs
 
--- src/lib.rt:193:9
 put-entries-put-word-requires : (t : ℕ) → put-entries-lts.Need-put-word-requires (put-entries-claims t) (put-entries-at t) put-entries.Post put-entries-Inv-loop put-entries-μ-loop
 put-entries-put-word-requires t c κs = search needs
 
--- src/lib.rt:194:58
 put-entries-add-cell-at : (t : ℕ) → put-entries-lts.Need-add-cell-at (put-entries-claims t) (put-entries-at t) put-entries.Post put-entries-Inv-loop put-entries-μ-loop
 put-entries-add-cell-at t c = search needs
 
--- src/lib.rt:194:13
 put-entries-cell-at-requires-2 : (t : ℕ) → put-entries-lts.Need-cell-at-requires-2 (put-entries-claims t) (put-entries-at t) put-entries.Post put-entries-Inv-loop put-entries-μ-loop
 put-entries-cell-at-requires-2 t c κs = search needs
 
--- src/lib.rt:195:9
 put-entries-put-nested-requires-2 : (t : ℕ) → put-entries-lts.Need-put-nested-requires-2 (put-entries-claims t) (put-entries-at t) put-entries.Post put-entries-Inv-loop put-entries-μ-loop
 put-entries-put-nested-requires-2 t c κs =
     (omega (arith, c .before .before .before .before .before .before .before .before .before .before .before .before .before .before .before .before .before .before .before .before .pre .0), tt)
 
--- src/lib.rt:206:9
 put-entries-put-separator-requires : (t : ℕ) → put-entries-lts.Need-put-separator-requires (put-entries-claims t) (put-entries-at t) put-entries.Post put-entries-Inv-loop put-entries-μ-loop
 put-entries-put-separator-requires t c κs = search needs
 
--- src/lib.rt:207:9
 put-entries-add-place : (t : ℕ) → put-entries-lts.Need-add-place (put-entries-claims t) (put-entries-at t) put-entries.Post put-entries-Inv-loop put-entries-μ-loop
 put-entries-add-place t c = search needs
 
--- src/lib.rt:179:5
 put-entries-loop-less : (t : ℕ) → put-entries-lts.Need-loop-less (put-entries-claims t) (put-entries-at t) put-entries.Post put-entries-Inv-loop put-entries-μ-loop
 put-entries-loop-less t c = search needs
 
--- src/lib.rt:179:5
 put-entries-loop-again : (t : ℕ) → put-entries-lts.Need-loop-again (put-entries-claims t) (put-entries-at t) put-entries.Post put-entries-Inv-loop put-entries-μ-loop
 unfolding cellAt
 put-entries-loop-again t c =
@@ -205,11 +182,9 @@ put-entries-loop-again t c =
       entries-on (λ (v : Value). shownTo (s .args .levels) r v) r (s .args .space) (c .before .before .before .before .before .before .before .before .before .before .before .before .before .before .before .before .before .before .cell-at .result) (c .before .before .before .before .before .before .before .before .cell-at2 .result) (l .loop .place) (l .loop .left) (l .loop .next, l .loop .out) _ _ _ _ (c .before .before .before .before .before .before .before .before .before .before .before .before .before .before .before .before .before .before .before .loop-test .taken) (c .before .before .before .before .before .before .before .before .before .before .before .before .before .before .before .before .before .before .cell-at .ensures) (c .before .before .before .before .before .before .before .before .before .before .before .before .before .before .before .before .put-nested .ensures) (c .before .before .before .before .before .before .before .before .before .before .before .put-word .ensures) (c .before .before .before .before .before .before .before .before .cell-at2 .ensures) (c .before .before .before .before .before .before .put-nested2 .ensures) (c .before .before .put-separator .ensures) ∙ l .loop .inv .2,
     )
 
--- src/lib.rt:161:1
 put-entries-same-length : (t : ℕ) → put-entries-lts.Need-same-length (put-entries-claims t) (put-entries-at t) put-entries.Post put-entries-Inv-loop put-entries-μ-loop
 put-entries-same-length t c = search needs
 
--- src/lib.rt:161:1
 put-entries-returns : (t : ℕ) → put-entries-lts.Need-returns (put-entries-claims t) (put-entries-at t) put-entries.Post put-entries-Inv-loop put-entries-μ-loop
 put-entries-returns t c =
     let s = c .before .before .before .before .before .before .before .before in
@@ -217,140 +192,107 @@ put-entries-returns t c =
     let r = (rooms (s .args .literal .now) (s .args .binding-cells .now) (s .args .binding-text .now) (s .args .cells .now) (s .args .text .now)) in
     entries-over (λ (v : Value). shownTo (s .args .levels) r v) r (s .args .space) (l .loop .place) (l .loop .left) (l .loop .next, l .loop .out) (c .loop-test .left) ∙ l .loop .inv .2
 
--- src/lib.rt:227:9
 put-nested-returns : (t : ℕ) → put-nested-lts.Need-returns (put-nested-claims t) (put-nested-at t) put-nested.Post
 put-nested-returns t c = search (needs, nested-none)
 
--- src/lib.rt:230:9
 put-nested-returns-2 : (t : ℕ) → put-nested-lts.Need-returns-2 (put-nested-claims t) (put-nested-at t) put-nested.Post
 put-nested-returns-2 t c = search (needs, puts-full)
 
--- src/lib.rt:232:18
 put-nested-sub-within : (t : ℕ) → put-nested-lts.Need-sub-within (put-nested-claims t) (put-nested-at t) put-nested.Post
 put-nested-sub-within t c = search needs
 
--- src/lib.rt:233:11
 put-nested-parts-of-requires : (t : ℕ) → put-nested-lts.Need-parts-of-requires (put-nested-claims t) (put-nested-at t) put-nested.Post
 put-nested-parts-of-requires t c κs = search needs
 
--- src/lib.rt:234:25
 put-nested-enum-known-space : (t : ℕ) → put-nested-lts.Need-enum-known-space (put-nested-claims t) (put-nested-at t) put-nested.Post
 put-nested-enum-known-space t c = search needs
 
--- src/lib.rt:235:42
 put-nested-slice-aggregate-put-word : (t : ℕ) → put-nested-lts.Need-slice-aggregate-put-word (put-nested-claims t) (put-nested-at t) put-nested.Post
 put-nested-slice-aggregate-put-word t c = search needs
 
--- src/lib.rt:235:17
 put-nested-put-word-requires : (t : ℕ) → put-nested-lts.Need-put-word-requires (put-nested-claims t) (put-nested-at t) put-nested.Post
 put-nested-put-word-requires t c κs = search needs
 
--- src/lib.rt:236:17
 put-nested-put-elements-requires : (t : ℕ) → put-nested-lts.Need-put-elements-requires (put-nested-claims t) (put-nested-at t) put-nested.Post
 put-nested-put-elements-requires t c κs =
     (omega (arith, c .before .before .before .before .before .before .before .before .before .before .before .before .before .before .before .before .before .before .pre .0, c .before .before .before .before .before .before .before .before .before .before .before .if1 .left), tt)
 
--- src/lib.rt:249:32
 put-nested-slice-aggregate-put-word-2 : (t : ℕ) → put-nested-lts.Need-slice-aggregate-put-word-2 (put-nested-claims t) (put-nested-at t) put-nested.Post
 put-nested-slice-aggregate-put-word-2 t c = search needs
 
--- src/lib.rt:249:13
 put-nested-put-word-requires-2 : (t : ℕ) → put-nested-lts.Need-put-word-requires-2 (put-nested-claims t) (put-nested-at t) put-nested.Post
 put-nested-put-word-requires-2 t c κs = search needs
 
--- src/lib.rt:251:24
 put-nested-enum-known-space-2 : (t : ℕ) → put-nested-lts.Need-enum-known-space-2 (put-nested-claims t) (put-nested-at t) put-nested.Post
 put-nested-enum-known-space-2 t c = search needs
 
--- src/lib.rt:252:42
 put-nested-slice-aggregate-put-word-3 : (t : ℕ) → put-nested-lts.Need-slice-aggregate-put-word-3 (put-nested-claims t) (put-nested-at t) put-nested.Post
 put-nested-slice-aggregate-put-word-3 t c = search needs
 
--- src/lib.rt:252:17
 put-nested-put-word-requires-3 : (t : ℕ) → put-nested-lts.Need-put-word-requires-3 (put-nested-claims t) (put-nested-at t) put-nested.Post
 put-nested-put-word-requires-3 t c κs = search needs
 
--- src/lib.rt:253:17
 put-nested-put-entries-requires : (t : ℕ) → put-nested-lts.Need-put-entries-requires (put-nested-claims t) (put-nested-at t) put-nested.Post
 put-nested-put-entries-requires t c κs =
     (omega (arith, c .before .before .before .before .before .before .before .before .before .before .before .before .before .before .before .before .before .before .pre .0, c .before .before .before .before .before .before .before .before .before .before .before .if1 .left), tt)
 
--- src/lib.rt:266:32
 put-nested-slice-aggregate-put-word-4 : (t : ℕ) → put-nested-lts.Need-slice-aggregate-put-word-4 (put-nested-claims t) (put-nested-at t) put-nested.Post
 put-nested-slice-aggregate-put-word-4 t c = search needs
 
--- src/lib.rt:266:13
 put-nested-put-word-requires-4 : (t : ℕ) → put-nested-lts.Need-put-word-requires-4 (put-nested-claims t) (put-nested-at t) put-nested.Post
 put-nested-put-word-requires-4 t c κs = search needs
 
--- src/lib.rt:268:24
 put-nested-enum-known-space-3 : (t : ℕ) → put-nested-lts.Need-enum-known-space-3 (put-nested-claims t) (put-nested-at t) put-nested.Post
 put-nested-enum-known-space-3 t c = search needs
 
--- src/lib.rt:269:42
 put-nested-slice-aggregate-put-word-5 : (t : ℕ) → put-nested-lts.Need-slice-aggregate-put-word-5 (put-nested-claims t) (put-nested-at t) put-nested.Post
 put-nested-slice-aggregate-put-word-5 t c = search needs
 
--- src/lib.rt:269:17
 put-nested-put-word-requires-5 : (t : ℕ) → put-nested-lts.Need-put-word-requires-5 (put-nested-claims t) (put-nested-at t) put-nested.Post
 put-nested-put-word-requires-5 t c κs = search needs
 
--- src/lib.rt:270:62
 put-nested-cast-cell-at : (t : ℕ) → put-nested-lts.Need-cast-cell-at (put-nested-claims t) (put-nested-at t) put-nested.Post
 put-nested-cast-cell-at t c = search needs
 
--- src/lib.rt:270:17
 put-nested-cell-at-requires : (t : ℕ) → put-nested-lts.Need-cell-at-requires (put-nested-claims t) (put-nested-at t) put-nested.Post
 put-nested-cell-at-requires t c κs = search needs
 
--- src/lib.rt:271:13
 put-nested-put-nested-requires : (t : ℕ) → put-nested-lts.Need-put-nested-requires (put-nested-claims t) (put-nested-at t) put-nested.Post
 put-nested-put-nested-requires t c κs =
     (omega (arith, c .before .before .before .before .before .before .before .before .before .before .before .before .before .before .before .before .before .before .before .pre .0, c .before .before .before .before .before .before .before .before .before .before .before .before .if1 .left), tt)
 
--- src/lib.rt:283:66
 put-nested-enum-told : (t : ℕ) → put-nested-lts.Need-enum-told (put-nested-claims t) (put-nested-at t) put-nested.Post
 put-nested-enum-told t c = search needs
 
--- src/lib.rt:283:66
 put-nested-plain-of-requires : (t : ℕ) → put-nested-lts.Need-plain-of-requires (put-nested-claims t) (put-nested-at t) put-nested.Post
 put-nested-plain-of-requires t c κs = search needs
 
--- src/lib.rt:283:27
 put-nested-put-plain-requires : (t : ℕ) → put-nested-lts.Need-put-plain-requires (put-nested-claims t) (put-nested-at t) put-nested.Post
 put-nested-put-plain-requires t c κs = search needs
 
--- src/lib.rt:213:1
 put-nested-same-length : (t : ℕ) → put-nested-lts.Need-same-length (put-nested-claims t) (put-nested-at t) put-nested.Post
 put-nested-same-length t c = search needs
 
--- src/lib.rt:213:1
 put-nested-returns-3 : (t : ℕ) → put-nested-lts.Need-returns-3 (put-nested-claims t) (put-nested-at t) put-nested.Post
 put-nested-returns-3 t c = search (needs, nested-list)
 
--- src/lib.rt:213:1
 put-nested-same-length-2 : (t : ℕ) → put-nested-lts.Need-same-length-2 (put-nested-claims t) (put-nested-at t) put-nested.Post
 put-nested-same-length-2 t c = search needs
 
--- src/lib.rt:213:1
 put-nested-returns-4 : (t : ℕ) → put-nested-lts.Need-returns-4 (put-nested-claims t) (put-nested-at t) put-nested.Post
 put-nested-returns-4 t c = search (needs, nested-map)
 
--- src/lib.rt:213:1
 put-nested-same-length-3 : (t : ℕ) → put-nested-lts.Need-same-length-3 (put-nested-claims t) (put-nested-at t) put-nested.Post
 put-nested-same-length-3 t c = search needs
 
--- src/lib.rt:213:1
 put-nested-returns-5 : (t : ℕ) → put-nested-lts.Need-returns-5 (put-nested-claims t) (put-nested-at t) put-nested.Post
 unfolding cellAt
 put-nested-returns-5 t c =
     search (needs, nested-present)
 
--- src/lib.rt:213:1
 put-nested-same-length-4 : (t : ℕ) → put-nested-lts.Need-same-length-4 (put-nested-claims t) (put-nested-at t) put-nested.Post
 put-nested-same-length-4 t c = search needs
 
--- src/lib.rt:213:1
 put-nested-returns-6 : (t : ℕ) → put-nested-lts.Need-returns-6 (put-nested-claims t) (put-nested-at t) put-nested.Post
 put-nested-returns-6 t c = search (needs, nested-plain)
 

@@ -3,27 +3,19 @@ use Rattle.shown.proofs.Steps.{separator-none, separator-some}
 use borrow.Author.Needs.{needs}
 use Rattle.shown.proofs.put_separator.Statement.{statement}
 use Rattle.shown.proofs.put_separator.Tie as tie
-use Rattle.shown.proofs.put_separator.Reads as reads
-use Rattle.shown.proofs.put_separator.Lts as lts
-use Rattle.pieces.proofs.put_word.Reads as put-word-reads
 
--- src/lib.rt:116:9
 returns : tie.Need-returns
 returns c = search (needs, separator-none)
 
--- src/lib.rt:118:23
 slice-aggregate-put-word : tie.Need-slice-aggregate-put-word
 slice-aggregate-put-word c = search needs
 
--- src/lib.rt:118:5
 put-word-requires : tie.Need-put-word-requires
 put-word-requires c κs = search needs
 
--- src/lib.rt:112:1
 same-length : tie.Need-same-length
 same-length c = search needs
 
--- src/lib.rt:112:1
 returns-2 : tie.Need-returns-2
 returns-2 c = search (needs, separator-some)
 

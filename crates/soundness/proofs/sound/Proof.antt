@@ -7,8 +7,8 @@ use Rattle.soundness.proofs.sound.Statement.{statement}
 use Rattle.soundness.proofs.sound.Tie as tie
 use Rattle.soundness.proofs.sound.Reads as reads
 use Rattle.soundness.proofs.sound.Lts as lts
-use Rattle.rooms.proofs.building.cell_room.Reads as cell-room-reads
-use Rattle.rooms.proofs.building.text_room.Reads as text-room-reads
+use Rattle.building.proofs.cell_room.Reads as cell-room-reads
+use Rattle.building.proofs.text_room.Reads as text-room-reads
 use Rattle.soundness.proofs.first_bad.Reads as first-bad-reads
 use Rattle.soundness.proofs.lesser.Reads as lesser-reads
 use Rattle.soundness.proofs.slots_fit.Reads as slots-fit-reads

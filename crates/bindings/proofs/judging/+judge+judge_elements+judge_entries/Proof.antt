@@ -27,31 +27,14 @@ use Rattle.layout.proofs.readers.first_operand.Reads as first-operand-reads
 use Rattle.layout.proofs.readers.kind_at.Reads as kind-at-reads
 use Rattle.bindings.proofs.judging.+judge+judge_elements+judge_entries.{statement}
 use Rattle.bindings.proofs.judging.+judge+judge_elements+judge_entries.Tie.{close}
-use Rattle.bindings.proofs.judging.+judge+judge_elements+judge_entries.Proof.Kit.{μ-judge, μ-judge-elements, μ-judge-entries, judge-at, judge-below, judge-elements-at, judge-elements-below, judge-entries-at, judge-entries-below}
+use Rattle.bindings.proofs.judging.+judge+judge_elements+judge_entries.Proof.Kit.{μ-judge, μ-judge-elements, μ-judge-entries, judge-at, judge-below, judge-elements-at, judge-elements-below, judge-entries-at, judge-entries-below, judge-claims, judge-elements-claims, judge-entries-claims}
 use Rattle.bindings.proofs.judging.+judge+judge_elements+judge_entries.Proof.Judge.{judge-kind-at-requires, judge-first-operand-requires, judge-count-at-requires, judge-judge-elements-requires, judge-deepened-requires, judge-returns, judge-first-operand-requires-2, judge-count-at-requires-2, judge-judge-entries-requires, judge-deepened-requires-2, judge-returns-2, judge-literal-at-requires, judge-without-parts-requires, judge-returns-3}
 use Rattle.bindings.proofs.judging.+judge+judge_elements+judge_entries.Proof.JudgeElements.{judge-elements-Inv-loop, judge-elements-μ-loop, judge-elements-nothing-judged-requires, judge-elements-loop-holds, judge-elements-judge-requires, judge-elements-joined-requires, judge-elements-end-at-requires, judge-elements-sub-left, judge-elements-loop-less, judge-elements-loop-again, judge-elements-returns}
 use Rattle.bindings.proofs.judging.+judge+judge_elements+judge_entries.Proof.JudgeEntries.{judge-entries-Inv-loop, judge-entries-μ-loop, judge-entries-nothing-judged-requires, judge-entries-loop-holds, judge-entries-end-at-requires, judge-entries-sub-key-fault, judge-entries-key-fault-requires, judge-entries-with-key-requires, judge-entries-judge-requires, judge-entries-joined-requires, judge-entries-judge-requires-2, judge-entries-joined-requires-2, judge-entries-end-at-requires-2, judge-entries-sub-left, judge-entries-loop-less, judge-entries-loop-again, judge-entries-returns}
 
 pub +judge+judge-elements+judge-entries-spec : {M : Type 1} → statement M
 +judge+judge-elements+judge-entries-spec =
-    close μ-judge μ-judge-elements μ-judge-entries (λ t. judge-lts.spec (
-      kind-at-reads.Asked,
-      kind-at-reads.Learnt,
-      first-operand-reads.Asked,
-      first-operand-reads.Learnt,
-      count-at-reads.Asked,
-      count-at-reads.Learnt,
-      judge-elements-below t,
-      judge-elements.Post,
-      deepened-reads.Asked,
-      deepened-reads.Learnt,
-      judge-entries-below t,
-      judge-entries.Post,
-      literal-at-reads.Asked,
-      literal-at-reads.Learnt,
-      without-parts-reads.Asked,
-      without-parts-reads.Learnt,
-    )
+    close μ-judge μ-judge-elements μ-judge-entries (λ t. judge-lts.spec (judge-claims t)
     (judge-at t)
     judge.Post
     (judge-kind-at-requires t)
@@ -68,16 +51,7 @@ pub +judge+judge-elements+judge-entries-spec : {M : Type 1} → statement M
     (judge-literal-at-requires t)
     (judge-without-parts-requires t)
     (judge-returns-3 t))
-    (λ t. judge-elements-lts.spec (
-      nothing-judged-reads.Asked,
-      nothing-judged-reads.Learnt,
-      judge-below t,
-      judge.Post,
-      joined-reads.Asked,
-      joined-reads.Learnt,
-      end-at-reads.Asked,
-      end-at-reads.Learnt,
-    )
+    (λ t. judge-elements-lts.spec (judge-elements-claims t)
     (judge-elements-at t)
     judge-elements.Post
     judge-elements-Inv-loop
@@ -91,20 +65,7 @@ pub +judge+judge-elements+judge-entries-spec : {M : Type 1} → statement M
     (judge-elements-loop-less t)
     (judge-elements-loop-again t)
     (judge-elements-returns t))
-    λ t. judge-entries-lts.spec (
-      nothing-judged-reads.Asked,
-      nothing-judged-reads.Learnt,
-      end-at-reads.Asked,
-      end-at-reads.Learnt,
-      key-fault-reads.Asked,
-      key-fault-reads.Learnt,
-      with-key-reads.Asked,
-      with-key-reads.Learnt,
-      judge-below t,
-      judge.Post,
-      joined-reads.Asked,
-      joined-reads.Learnt,
-    )
+    λ t. judge-entries-lts.spec (judge-entries-claims t)
     (judge-entries-at t)
     judge-entries.Post
     judge-entries-Inv-loop

@@ -21,25 +21,12 @@ use Rattle.layout.proofs.readers.first_operand.Reads as first-operand-reads
 use Rattle.layout.proofs.readers.kind_at.Reads as kind-at-reads
 use Rattle.bindings.proofs.laying.+lay+lay_row.{statement}
 use Rattle.bindings.proofs.laying.+lay+lay_row.Tie.{close}
-use Rattle.bindings.proofs.laying.+lay+lay_row.Proof.Kit.{μ-lay, μ-lay-row, lay-at, lay-below, lay-row-at, lay-row-below}
+use Rattle.bindings.proofs.laying.+lay+lay_row.Proof.Kit.{μ-lay, μ-lay-row, lay-at, lay-below, lay-row-at, lay-row-below, lay-claims, lay-row-claims}
 use Rattle.bindings.proofs.laying.+lay+lay_row.Proof.Lay.{lay-kind-at-requires, lay-first-operand-requires, lay-count-at-requires, lay-lay-row-requires, lay-add-t20, lay-cast-t22, lay-cast-t23, lay-same-length, lay-same-length-2, lay-returns, lay-first-operand-requires-2, lay-count-at-requires-2, lay-mul-lay-row, lay-lay-row-requires-2, lay-add-t30, lay-cast-t32, lay-cast-t33, lay-same-length-3, lay-same-length-4, lay-returns-2, lay-literal-at-requires, lay-lay-literal-requires, lay-same-length-5, lay-returns-3}
 use Rattle.bindings.proofs.laying.+lay+lay_row.Proof.LayRow.{lay-row-Inv-loop, lay-row-μ-loop, lay-row-add-t15, lay-row-loop-holds, lay-row-lay-requires, lay-row-write-cell-requires, lay-row-nesting-of-requires, lay-row-deeper-requires, lay-row-end-at-requires, lay-row-add-to, lay-row-sub-left, lay-row-loop-less, lay-row-loop-again, lay-row-same-length, lay-row-same-length-2, lay-row-returns}
 
 pub +lay+lay-row-spec : {M : Type 1} → statement M
-+lay+lay-row-spec = close μ-lay μ-lay-row (λ t. lay-lts.spec (
-  kind-at-reads.Asked,
-  kind-at-reads.Learnt,
-  first-operand-reads.Asked,
-  first-operand-reads.Learnt,
-  count-at-reads.Asked,
-  count-at-reads.Learnt,
-  lay-row-below t,
-  lay-row.Post,
-  literal-at-reads.Asked,
-  literal-at-reads.Learnt,
-  lay-literal-reads.Asked,
-  lay-literal-reads.Learnt,
-)
++lay+lay-row-spec = close μ-lay μ-lay-row (λ t. lay-lts.spec (lay-claims t)
     (lay-at t)
     lay.Post
     (lay-kind-at-requires t)
@@ -66,18 +53,7 @@ pub +lay+lay-row-spec : {M : Type 1} → statement M
     (lay-lay-literal-requires t)
     (lay-same-length-5 t)
     (lay-returns-3 t))
-    λ t. lay-row-lts.spec (
-      lay-below t,
-      lay.Post,
-      write-cell-reads.Asked,
-      write-cell-reads.Learnt,
-      nesting-of-reads.Asked,
-      nesting-of-reads.Learnt,
-      deeper-reads.Asked,
-      deeper-reads.Learnt,
-      end-at-reads.Asked,
-      end-at-reads.Learnt,
-    )
+    λ t. lay-row-lts.spec (lay-row-claims t)
     (lay-row-at t)
     lay-row.Post
     lay-row-Inv-loop

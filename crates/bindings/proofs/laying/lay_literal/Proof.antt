@@ -7,7 +7,7 @@ use Rattle.bindings.proofs.laying.lay_literal.Lts as lts
 use Rattle.bindings.proofs.literals.moved_to.Reads as moved-to-reads
 use Rattle.bindings.proofs.literals.text_first.Reads as text-first-reads
 use Rattle.bindings.proofs.literals.text_length.Reads as text-length-reads
-use Rattle.rooms.proofs.building.copy_text.Reads as copy-text-reads
+use Rattle.building.proofs.copy_text.Reads as copy-text-reads
 
 -- src/laying.rt:51:9
 text-length-requires : tie.Need-text-length-requires

@@ -4,8 +4,9 @@ use Prim.Native.Nat.{_+_, _*_, _≤_}
 use mathlib.Core.Path.{_≡_, refl, ap, _∙_}
 use native.Mathlib.Omega.{arith}
 use Rattle.rooms.specs.Rooms.{rooms, cellAt}
-use Rattle.comparing.specs.Equality.{seenIn, sameSeen, findIn}
-use Rattle.comparing.proofs.EqualitySteps.{find-none, find-out, find-at, find-on}
+use Rattle.comparing.specs.Seen.{seenIn, sameSeen}
+use Rattle.comparing.specs.LookUp.{findIn}
+use Rattle.comparing.proofs.LookUpSteps.{find-none, find-out, find-at, find-on}
 use Rattle.comparing.proofs.lookup.find.Statement.{statement}
 use Rattle.comparing.proofs.lookup.find.Tie as tie
 

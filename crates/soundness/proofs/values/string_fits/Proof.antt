@@ -7,7 +7,7 @@ use Rattle.soundness.proofs.values.string_fits.Statement.{statement}
 use Rattle.soundness.proofs.values.string_fits.Tie as tie
 use Rattle.soundness.proofs.values.string_fits.Reads as reads
 use Rattle.soundness.proofs.values.string_fits.Lts as lts
-use Rattle.comparing.proofs.texts.part.Reads as part-reads
+use Rattle.spans.proofs.part.Reads as part-reads
 use Rattle.soundness.proofs.values.span_fits.Reads as span-fits-reads
 use Rattle.text.proofs.utf8.well_formed.Reads as well-formed-reads
 

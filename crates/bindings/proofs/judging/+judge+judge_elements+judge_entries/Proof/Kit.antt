@@ -73,3 +73,52 @@ judge-entries-below t =
     judge-entries-kinds.ps
     (falls 2 judge-entries-kinds.ps _<_ μ-judge-entries t)
     judge-entries.Pre
+
+-- what is asked of and learnt from the calls
+abbrev pub judge-claims : ℕ → judge-lts.Claims
+judge-claims t = (
+  kind-at-reads.Asked,
+  kind-at-reads.Learnt,
+  first-operand-reads.Asked,
+  first-operand-reads.Learnt,
+  count-at-reads.Asked,
+  count-at-reads.Learnt,
+  judge-elements-below t,
+  judge-elements.Post,
+  deepened-reads.Asked,
+  deepened-reads.Learnt,
+  judge-entries-below t,
+  judge-entries.Post,
+  literal-at-reads.Asked,
+  literal-at-reads.Learnt,
+  without-parts-reads.Asked,
+  without-parts-reads.Learnt,
+)
+
+abbrev pub judge-elements-claims : ℕ → judge-elements-lts.Claims
+judge-elements-claims t = (
+  nothing-judged-reads.Asked,
+  nothing-judged-reads.Learnt,
+  judge-below t,
+  judge.Post,
+  joined-reads.Asked,
+  joined-reads.Learnt,
+  end-at-reads.Asked,
+  end-at-reads.Learnt,
+)
+
+abbrev pub judge-entries-claims : ℕ → judge-entries-lts.Claims
+judge-entries-claims t = (
+  nothing-judged-reads.Asked,
+  nothing-judged-reads.Learnt,
+  end-at-reads.Asked,
+  end-at-reads.Learnt,
+  key-fault-reads.Asked,
+  key-fault-reads.Learnt,
+  with-key-reads.Asked,
+  with-key-reads.Learnt,
+  judge-below t,
+  judge.Post,
+  joined-reads.Asked,
+  joined-reads.Learnt,
+)

@@ -43,3 +43,34 @@ lay-row-at t = and 4 lay-row-kinds.ps (is 4 lay-row-kinds.ps μ-lay-row t) lay-r
 
 abbrev pub lay-row-below : ℕ → In 4 lay-row-kinds.ps
 lay-row-below t = and 4 lay-row-kinds.ps (falls 4 lay-row-kinds.ps _<_ μ-lay-row t) lay-row.Pre
+
+-- what is asked of and learnt from the calls
+abbrev pub lay-claims : ℕ → lay-lts.Claims
+lay-claims t = (
+  kind-at-reads.Asked,
+  kind-at-reads.Learnt,
+  first-operand-reads.Asked,
+  first-operand-reads.Learnt,
+  count-at-reads.Asked,
+  count-at-reads.Learnt,
+  lay-row-below t,
+  lay-row.Post,
+  literal-at-reads.Asked,
+  literal-at-reads.Learnt,
+  lay-literal-reads.Asked,
+  lay-literal-reads.Learnt,
+)
+
+abbrev pub lay-row-claims : ℕ → lay-row-lts.Claims
+lay-row-claims t = (
+  lay-below t,
+  lay.Post,
+  write-cell-reads.Asked,
+  write-cell-reads.Learnt,
+  nesting-of-reads.Asked,
+  nesting-of-reads.Learnt,
+  deeper-reads.Asked,
+  deeper-reads.Learnt,
+  end-at-reads.Asked,
+  end-at-reads.Learnt,
+)

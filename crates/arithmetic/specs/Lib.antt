@@ -1,0 +1,2 @@
+-- What the contracts cite beside the machine: `+` of what is no number (`Sums`).
+pub mod Sums

@@ -1,0 +1,57 @@
+use borrow.Author.Needs.{needs}
+use mathlib.Core.Path.{_≡_, refl, _∙_}
+use Prim.Native.Nat.{_+_, _-_, _*_, _≤_}
+use native.Mathlib.Omega.{arith}
+use lib.ListN.{length, length-set}
+use Rattle.binds.proofs.lent.fill_bytes.Statement.{statement}
+use Rattle.binds.proofs.lent.fill_bytes.Tie as tie
+use Rattle.binds.proofs.lent.fill_bytes.Reads as reads
+use Rattle.binds.proofs.lent.fill_bytes.Lts as lts
+
+abbrev Inv-loop : tie.InvT-loop
+Inv-loop text₀ at₀ text at = length text ≡ length text₀
+
+abbrev μ-loop : tie.MeasureT-loop
+μ-loop text₀ at₀ text at = length text₀ - at
+
+-- src/main.rt:296:5
+loop-holds : tie.Need-loop-holds Inv-loop μ-loop
+loop-holds c = refl
+
+-- src/main.rt:297:9
+slice-write-text : tie.Need-slice-write-text Inv-loop μ-loop
+slice-write-text c = search needs
+
+-- src/main.rt:298:9
+add-at : tie.Need-add-at Inv-loop μ-loop
+add-at c = omega arith
+
+-- src/main.rt:296:5
+loop-less : tie.Need-loop-less Inv-loop μ-loop
+loop-less c = let i = c .before .loop .inv in omega arith
+
+-- src/main.rt:296:5
+loop-again : tie.Need-loop-again Inv-loop μ-loop
+loop-again c = length-set (c .before .loop .text) (c .before .loop .at) _ ∙ c .before .loop .inv
+
+-- src/main.rt:294:1
+same-length : tie.Need-same-length Inv-loop μ-loop
+same-length c = c .before .loop .inv
+
+-- src/main.rt:294:1
+returns : tie.Need-returns Inv-loop μ-loop
+returns c = search needs
+
+pub fill-bytes-spec : {M : Type 1} → statement M
+fill-bytes-spec =
+    tie.close
+    (tie.spec
+    Inv-loop
+    μ-loop
+    loop-holds
+    slice-write-text
+    add-at
+    loop-less
+    loop-again
+    same-length
+    returns)

@@ -1,0 +1,201 @@
+// A room and what is done to it, deed by deed.
+use crate::lent::fill_bytes;
+use crate::lent::fill_words;
+use crate::lent::put_bytes;
+use crate::lent::put_words;
+use crate::lent::some_bytes;
+use crate::lent::some_words;
+use crate::lent::word_of;
+use crate::say;
+use crate::spelled;
+use rooms::cells::read_cell;
+use rooms::scope::Scope;
+use soundness::Bindings;
+
+// How much is lent, and the bindings in it.
+pub struct Case {
+    words: usize,
+    bytes: usize,
+    bindings: Bindings,
+}
+
+pub fn fresh() -> Case {
+    Case {
+        words: 0,
+        bytes: 0,
+        bindings: bindings::empty(),
+    }
+}
+
+fn with(case: Case, bindings: Bindings) -> Case {
+    Case {
+        words: case.words,
+        bytes: case.bytes,
+        bindings,
+    }
+}
+
+// So much is lent, as far as there is so much.
+fn lend(
+    cells: &mut [u64],
+    text: &mut [u8],
+    words: usize,
+    bytes: usize,
+    bindings: Bindings,
+) -> Case {
+    let lent = some_words(cells, words);
+    let lent_bytes = some_bytes(text, bytes);
+    fill_words(&mut cells[..lent]);
+    fill_bytes(&mut text[..lent_bytes]);
+    Case {
+        words: lent,
+        bytes: lent_bytes,
+        bindings,
+    }
+}
+
+fn put(cells: &mut [u64], from: usize, digits: &[u8], room: &mut [u8]) {
+    let size = spelled::bytes(digits, room);
+    put_words(cells, from, &room[..size]);
+}
+
+fn put_text(text: &mut [u8], from: usize, digits: &[u8], room: &mut [u8]) {
+    let size = spelled::bytes(digits, room);
+    put_bytes(text, from, &room[..size]);
+}
+
+// The word of sixteen digits.
+fn word(digits: &[u8]) -> u64 {
+    let mut bytes = [0; 8];
+    spelled::bytes(digits, &mut bytes);
+    word_of(&bytes, 0)
+}
+
+// The slot that a cell with these words makes.
+fn with_slot(bindings: Bindings, name: usize, head: &[u8], payload: &[u8]) -> Bindings {
+    let cell = [word(head), word(payload)];
+    let value = read_cell(&cell, 0);
+    let before = bindings.scope;
+    Bindings {
+        scope: Scope::with(before, name, value),
+        cells: bindings.cells,
+        bytes: bindings.bytes,
+    }
+}
+
+fn with_counts(bindings: Bindings, cells: usize, bytes: usize) -> Bindings {
+    let scope = bindings.scope;
+    Bindings {
+        scope,
+        cells,
+        bytes,
+    }
+}
+
+fn bring(
+    cells: &mut [u64],
+    text: &mut [u8],
+    bindings: Bindings,
+    name: usize,
+    table: &[u8],
+    literal: &[u8],
+) -> Bindings {
+    let brought = bindings::bring_in(cells, text, bindings, name, table, literal);
+    let answer = brought.answer;
+    say::answer(answer);
+    let after = brought.bindings;
+    say::state(cells, text, after);
+    after
+}
+
+fn empty(cells: &[u64], text: &[u8]) -> Bindings {
+    let after = bindings::empty();
+    say::words(b" emptied");
+    say::state(cells, text, after);
+    after
+}
+
+fn judge(cells: &[u64], text: &[u8], bindings: Bindings) {
+    say::soundness(soundness::sound(cells, text, bindings));
+    say::state(cells, text, bindings);
+}
+
+// One of the three calls, on what is lent.
+fn call(
+    deed: u8,
+    name: usize,
+    table: &[u8],
+    literal: &[u8],
+    cells: &mut [u64],
+    text: &mut [u8],
+    bindings: Bindings,
+) -> Bindings {
+    match deed {
+        b'b' => bring(cells, text, bindings, name, table, literal),
+        b'e' => empty(cells, text),
+        _ => {
+            judge(cells, text, bindings);
+            bindings
+        }
+    }
+}
+
+// A call with the table and the text that the words spell.
+fn answered(
+    deed: u8,
+    name: usize,
+    table: &[u8],
+    literal: &[u8],
+    cells: &mut [u64],
+    text: &mut [u8],
+    left: &mut [u8],
+    right: &mut [u8],
+    case: Case,
+) -> Case {
+    let words = some_words(cells, case.words);
+    let bytes = some_bytes(text, case.bytes);
+    let size = spelled::bytes(table, left);
+    let length = spelled::bytes(literal, right);
+    let after = call(
+        deed,
+        name,
+        &left[..size],
+        &right[..length],
+        &mut cells[..words],
+        &mut text[..bytes],
+        case.bindings,
+    );
+    with(case, after)
+}
+
+// One deed, with up to three words behind it.
+pub fn act(
+    deed: u8,
+    first: &[u8],
+    second: &[u8],
+    third: &[u8],
+    cells: &mut [u64],
+    text: &mut [u8],
+    left: &mut [u8],
+    right: &mut [u8],
+    case: Case,
+) -> Case {
+    let number = spelled::number(first);
+    match deed {
+        b'l' => lend(cells, text, number, spelled::number(second), case.bindings),
+        b'w' => {
+            put(cells, number, second, left);
+            case
+        }
+        b't' => {
+            put_text(text, number, second, left);
+            case
+        }
+        b's' => with(case, with_slot(case.bindings, number, second, third)),
+        b'u' => with(
+            case,
+            with_counts(case.bindings, number, spelled::number(second)),
+        ),
+        _ => answered(deed, number, second, third, cells, text, left, right, case),
+    }
+}

@@ -1,0 +1,2 @@
+-- What the contracts cite: equality and `in`, with their counts of pairs.
+pub mod Equality

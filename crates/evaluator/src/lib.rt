@@ -1,0 +1,88 @@
+// The evaluator of rules: from a table, its literal text, bindings, lent rooms and a step limit to a value, an error, exhaustion or a refusal.
+ghost use mathlib.Core.Path.{_≡_};
+ghost use Prim.Native.Nat.{min};
+ghost use Rattle.meaning.specs.Limits.{mostSteps};
+ghost use Rattle.table.specs.Records.{Sound, exprOf};
+ghost use Rattle.rooms.specs.Rooms.{Rooms, rooms};
+ghost use Rattle.machine.specs.Answer.{answered};
+ghost use Rattle.answers.specs.declared.Answer.{Answer};
+ghost use Rattle.answers.specs.Evaluated.{ended};
+ghost use Rattle.answers.specs.Meant.{Evaluates};
+use answers::Answer;
+use answers::UNSOUND_BINDING;
+use machine::outcome::Used;
+use recursion::eval::eval;
+use rooms::scope::Scope;
+use soundness::Bindings;
+use soundness::Soundness;
+use table::Checked;
+
+// The table is accepted and the binding room is sound.
+fn run(
+    table: &[u8],
+    literal: &[u8],
+    binding_cells: &[u64],
+    binding_text: &[u8],
+    cells: &mut [u64],
+    text: &mut [u8],
+    steps: usize,
+    scope: Scope,
+) -> Answer
+    requires { ⌜ Sound (now table) (now literal) 0 ⌝ }
+    ensures { λ r. ⌜ _≡_ {A = Answer × Rooms} (r, rooms (now (literal .entry)) (now («binding_cells» .entry)) (now («binding_text» .entry)) (now (cells .exit)) (now (text .exit))) (ended (answered (now (table .entry)) (min steps mostSteps) (exprOf (now (table .entry)) (now (literal .entry)) 0) scope (rooms (now (literal .entry)) (now («binding_cells» .entry)) (now («binding_text» .entry)) (now (cells .entry)) (now (text .entry))))) ⌝ }
+{
+    let nothing = Used {
+        steps: 0,
+        cells: 0,
+        bytes: 0,
+    };
+    let limit = answers::step_limit(steps);
+    let outcome = eval(
+        table,
+        literal,
+        binding_cells,
+        binding_text,
+        cells,
+        text,
+        limit,
+        0,
+        scope,
+        nothing,
+    );
+    answers::answered(cells, text, outcome)
+}
+
+// Any table, literal text, bindings with their lent cells and text, evaluation rooms and step limit have an answer. Refused is first what the table
+// is refused for, then a binding room that is not sound.
+pub fn evaluate(
+    table: &[u8],
+    literal: &[u8],
+    bindings: Bindings,
+    binding_cells: &[u64],
+    binding_text: &[u8],
+    cells: &mut [u64],
+    text: &mut [u8],
+    steps: usize,
+) -> Answer
+    ensures { λ r. ⌜ Evaluates (now (table .entry)) bindings steps (rooms (now (literal .entry)) (now («binding_cells» .entry)) (now («binding_text» .entry)) (now (cells .entry)) (now (text .entry))) r (rooms (now (literal .entry)) (now («binding_cells» .entry)) (now («binding_text» .entry)) (now (cells .exit)) (now (text .exit))) ⌝ }
+{
+    let checked = table::check(table, literal);
+    if let Checked::Refused(number, place) = checked {
+        return Answer::Refused(number, place);
+    }
+    let soundness = soundness::sound(binding_cells, binding_text, bindings);
+    if let Soundness::Unsound(place) = soundness {
+        return Answer::Refused(UNSOUND_BINDING, place);
+    }
+    let scope = bindings.scope;
+    run(
+        table,
+        literal,
+        binding_cells,
+        binding_text,
+        cells,
+        text,
+        steps,
+        scope,
+    )
+}

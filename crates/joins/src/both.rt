@@ -1,0 +1,295 @@
+// After the other operand: what both came to, joined. Logic decides from two outcomes, any other operator from two values.
+ghost use mathlib.Core.Path.{_≡_};
+ghost use mathlib.Core.List.{List};
+ghost use Prim.Native.Nat.{ℕ};
+ghost use Rattle.rooms.specs.Rooms.{rooms};
+ghost use Rattle.machine.specs.Machine.{both, rightOf};
+ghost use Rattle.outcomes.specs.Gives.{Gives};
+ghost use Rattle.outcomes.specs.Seen.{binarySeen};
+ghost use Rattle.joins.specs.Joins.{withDefault, joinOf, valuesOut};
+use crate::first::Fixed;
+use arithmetic::operations::arithmetic;
+use calls::or_value;
+use comparison::compare;
+use comparison::equals;
+use comparison::is_in;
+use machine::outcome::Outcome;
+use machine::outcome::Used;
+use outcomes::logic::logic_right;
+use outcomes::operators::Binary;
+use rooms::value::Value;
+use selection::index::index;
+use selection::index::optional_select;
+
+// Both operands are values, and the operator is none of logic.
+fn values(
+    literal: &[u8],
+    binding_cells: &[u64],
+    binding_text: &[u8],
+    cells: &mut [u64],
+    text: &mut [u8],
+    limit: usize,
+    operator: Binary,
+    left: Value,
+    right: Value,
+    at: usize,
+    used: Used,
+) -> Outcome
+    ensures { λ r. ⌜ Gives r (now (literal .entry)) (now («binding_cells» .entry)) (now («binding_text» .entry)) (now (cells .exit)) (now (text .exit)) (valuesOut limit at (binarySeen operator) left right used (rooms (now (literal .entry)) (now («binding_cells» .entry)) (now («binding_text» .entry)) (now (cells .entry)) (now (text .entry)))) ⌝ }
+{
+    match operator {
+        Binary::Equals => equals(
+            literal,
+            binding_cells,
+            binding_text,
+            cells,
+            text,
+            limit,
+            true,
+            left,
+            right,
+            used,
+        ),
+        Binary::NotEquals => equals(
+            literal,
+            binding_cells,
+            binding_text,
+            cells,
+            text,
+            limit,
+            false,
+            left,
+            right,
+            used,
+        ),
+        Binary::Index => index(
+            literal,
+            binding_cells,
+            binding_text,
+            cells,
+            text,
+            limit,
+            false,
+            left,
+            right,
+            at,
+            used,
+        ),
+        Binary::OptionalIndex => index(
+            literal,
+            binding_cells,
+            binding_text,
+            cells,
+            text,
+            limit,
+            true,
+            left,
+            right,
+            at,
+            used,
+        ),
+        Binary::OptionalSelect => optional_select(
+            literal,
+            binding_cells,
+            binding_text,
+            cells,
+            text,
+            limit,
+            left,
+            right,
+            at,
+            used,
+        ),
+        Binary::Arithmetic(operation) => arithmetic(
+            literal,
+            binding_cells,
+            binding_text,
+            cells,
+            text,
+            operation,
+            left,
+            right,
+            at,
+            used,
+        ),
+        Binary::Order(comparison) => {
+            compare(
+                literal,
+                binding_text,
+                text,
+                comparison,
+                left,
+                right,
+                at,
+                used,
+            )
+        }
+        Binary::In => is_in(
+            literal,
+            binding_cells,
+            binding_text,
+            cells,
+            text,
+            limit,
+            left,
+            right,
+            at,
+            used,
+        ),
+        Binary::Logic(_) => Outcome::Value(right, used),
+    }
+}
+
+fn after_right(
+    literal: &[u8],
+    binding_cells: &[u64],
+    binding_text: &[u8],
+    cells: &mut [u64],
+    text: &mut [u8],
+    limit: usize,
+    operator: Binary,
+    left: Outcome,
+    right: Value,
+    at: usize,
+    used: Used,
+) -> Outcome
+    ensures { λ r. ⌜ Gives r (now (literal .entry)) (now («binding_cells» .entry)) (now («binding_text» .entry)) (now (cells .exit)) (now (text .exit)) (rightOf limit at (binarySeen operator) left right used (rooms (now (literal .entry)) (now («binding_cells» .entry)) (now («binding_text» .entry)) (now (cells .entry)) (now (text .entry)))) ⌝ }
+{
+    let Binary::Logic(fold) = operator else {
+        return both_values(
+            literal,
+            binding_cells,
+            binding_text,
+            cells,
+            text,
+            limit,
+            operator,
+            left,
+            right,
+            at,
+            used,
+        );
+    };
+    logic_right(fold, left, right, at, used)
+}
+
+fn both_values(
+    literal: &[u8],
+    binding_cells: &[u64],
+    binding_text: &[u8],
+    cells: &mut [u64],
+    text: &mut [u8],
+    limit: usize,
+    operator: Binary,
+    left: Outcome,
+    right: Value,
+    at: usize,
+    used: Used,
+) -> Outcome
+    ensures { λ r. ⌜ Gives r (now (literal .entry)) (now («binding_cells» .entry)) (now («binding_text» .entry)) (now (cells .exit)) (now (text .exit)) (both left (rooms (now (literal .entry)) (now («binding_cells» .entry)) (now («binding_text» .entry)) (now (cells .entry)) (now (text .entry))) (λ v. valuesOut limit at (binarySeen operator) v right used (rooms (now (literal .entry)) (now («binding_cells» .entry)) (now («binding_text» .entry)) (now (cells .entry)) (now (text .entry))))) ⌝ }
+{
+    match left {
+        Outcome::Value(v, _) => values(
+            literal,
+            binding_cells,
+            binding_text,
+            cells,
+            text,
+            limit,
+            operator,
+            v,
+            right,
+            at,
+            used,
+        ),
+        Outcome::Error(error, place, past) => Outcome::Error(error, place, past),
+        Outcome::Exhausted(which, past) => Outcome::Exhausted(which, past),
+    }
+}
+
+fn after_target(
+    binding_cells: &[u64],
+    cells: &[u64],
+    default: Outcome,
+    v: Value,
+    at: usize,
+    used: Used,
+) -> Outcome
+    ensures { λ r. ⌜ ((l t x : List ℕ) → r ≡ withDefault at default v used (rooms l (now («binding_cells» .entry)) t (now (cells .entry)) x)) ⌝ }
+{
+    match default {
+        Outcome::Value(other, _) => or_value(binding_cells, cells, other, v, at, used),
+        Outcome::Error(error, place, past) => Outcome::Error(error, place, past),
+        Outcome::Exhausted(which, past) => Outcome::Exhausted(which, past),
+    }
+}
+
+fn join_value(
+    literal: &[u8],
+    binding_cells: &[u64],
+    binding_text: &[u8],
+    cells: &mut [u64],
+    text: &mut [u8],
+    limit: usize,
+    at: usize,
+    fixed: Fixed,
+    first: Outcome,
+    v: Value,
+    used: Used,
+) -> Outcome
+    ensures { λ r. ⌜ Gives r (now (literal .entry)) (now («binding_cells» .entry)) (now («binding_text» .entry)) (now (cells .exit)) (now (text .exit)) (joinOf limit at fixed first (Outcome.Value v used) (rooms (now (literal .entry)) (now («binding_cells» .entry)) (now («binding_text» .entry)) (now (cells .entry)) (now (text .entry)))) ⌝ }
+{
+    match fixed {
+        Fixed::Binary(operator) => after_right(
+            literal,
+            binding_cells,
+            binding_text,
+            cells,
+            text,
+            limit,
+            operator,
+            first,
+            v,
+            at,
+            used,
+        ),
+        Fixed::OrValue => after_target(binding_cells, cells, first, v, at, used),
+        Fixed::Unary(_) => Outcome::Value(v, used),
+        Fixed::Conditional => Outcome::Value(v, used),
+        Fixed::Select(_) => Outcome::Value(v, used),
+        Fixed::Call(_) => Outcome::Value(v, used),
+    }
+}
+
+pub fn after_both(
+    literal: &[u8],
+    binding_cells: &[u64],
+    binding_text: &[u8],
+    cells: &mut [u64],
+    text: &mut [u8],
+    limit: usize,
+    at: usize,
+    fixed: Fixed,
+    first: Outcome,
+    second: Outcome,
+) -> Outcome
+    ensures { λ r. ⌜ Gives r (now (literal .entry)) (now («binding_cells» .entry)) (now («binding_text» .entry)) (now (cells .exit)) (now (text .exit)) (joinOf limit at fixed first second (rooms (now (literal .entry)) (now («binding_cells» .entry)) (now («binding_text» .entry)) (now (cells .entry)) (now (text .entry)))) ⌝ }
+{
+    match second {
+        Outcome::Value(v, used) => join_value(
+            literal,
+            binding_cells,
+            binding_text,
+            cells,
+            text,
+            limit,
+            at,
+            fixed,
+            first,
+            v,
+            used,
+        ),
+        Outcome::Error(error, place, used) => Outcome::Error(error, place, used),
+        Outcome::Exhausted(which, used) => Outcome::Exhausted(which, used),
+    }
+}

@@ -1,0 +1,2 @@
+-- Laws. OrderMeaning: the order of values that stand is the definition's.
+pub mod OrderMeaning

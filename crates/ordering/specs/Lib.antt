@@ -1,0 +1,2 @@
+-- What the contracts cite: the order of two values.
+pub mod Order

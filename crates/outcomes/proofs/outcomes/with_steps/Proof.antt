@@ -1,0 +1,11 @@
+-- `outcomes::with_steps` meets its contract. Assumes nothing.
+use borrow.Author.Needs.{needs}
+use Rattle.outcomes.proofs.outcomes.with_steps.Statement.{statement}
+use Rattle.outcomes.proofs.outcomes.with_steps.Tie as tie
+
+returns : tie.Need-returns
+returns c = search needs
+
+pub with-steps-spec : {M : Type 1} → statement M
+with-steps-spec =
+    tie.close (tie.spec returns)

@@ -1,0 +1,287 @@
+-- The measures of the cycle and what each member asks of its callees. Assumes nothing.
+use Prim.Native.Nat.{_+_, _*_}
+use Rattle.layout.specs.Layout.{wordAt}
+use Prim.Native.Nat.{ℕ, _<_}
+use borrow.Fn.Kinds.{In}
+use borrow.Fn.PlainCycle.{Measures, is, falls, and}
+use Rattle.recursion.proofs.eval.appends.Reads as appends
+use Rattle.recursion.proofs.eval.appends.Kinds as appends-kinds
+use Rattle.recursion.proofs.eval.+appends+comprehend+eval+finish+list_parts+map_parts+turns.Lts-appends as appends-lts
+use Rattle.recursion.proofs.eval.comprehend.Reads as comprehend
+use Rattle.recursion.proofs.eval.comprehend.Kinds as comprehend-kinds
+use Rattle.recursion.proofs.eval.+appends+comprehend+eval+finish+list_parts+map_parts+turns.Lts-comprehend as comprehend-lts
+use Rattle.recursion.proofs.eval.eval.Reads as eval
+use Rattle.recursion.proofs.eval.eval.Kinds as eval-kinds
+use Rattle.recursion.proofs.eval.+appends+comprehend+eval+finish+list_parts+map_parts+turns.Lts-eval as eval-lts
+use Rattle.recursion.proofs.eval.finish.Reads as finish
+use Rattle.recursion.proofs.eval.finish.Kinds as finish-kinds
+use Rattle.recursion.proofs.eval.+appends+comprehend+eval+finish+list_parts+map_parts+turns.Lts-finish as finish-lts
+use Rattle.recursion.proofs.eval.list_parts.Reads as list-parts
+use Rattle.recursion.proofs.eval.list_parts.Kinds as list-parts-kinds
+use Rattle.recursion.proofs.eval.+appends+comprehend+eval+finish+list_parts+map_parts+turns.Lts-list_parts as list-parts-lts
+use Rattle.recursion.proofs.eval.map_parts.Reads as map-parts
+use Rattle.recursion.proofs.eval.map_parts.Kinds as map-parts-kinds
+use Rattle.recursion.proofs.eval.+appends+comprehend+eval+finish+list_parts+map_parts+turns.Lts-map_parts as map-parts-lts
+use Rattle.recursion.proofs.eval.turns.Reads as turns
+use Rattle.recursion.proofs.eval.turns.Kinds as turns-kinds
+use Rattle.recursion.proofs.eval.+appends+comprehend+eval+finish+list_parts+map_parts+turns.Lts-turns as turns-lts
+use Rattle.containers.proofs.add_element.Reads as add-element-reads
+use Rattle.containers.proofs.add_entry.Reads as add-entry-reads
+use Rattle.containers.proofs.begin.Reads as begin-reads
+use Rattle.containers.proofs.key_of.Reads as key-of-reads
+use Rattle.containers.proofs.whole_list.Reads as whole-list-reads
+use Rattle.containers.proofs.whole_map.Reads as whole-map-reads
+use Rattle.loops.proofs.add_run.Reads as add-run-reads
+use Rattle.loops.proofs.collected_list.Reads as collected-list-reads
+use Rattle.loops.proofs.gather_items.Reads as gather-items-reads
+use Rattle.loops.proofs.range_of.Reads as range-of-reads
+use Rattle.loops.proofs.step_of.Reads as step-of-reads
+use Rattle.joins.proofs.both.after_both.Reads as after-both-reads
+use Rattle.layout.proofs.readers.count_at.Reads as count-at-reads
+use Rattle.layout.proofs.readers.end_at.Reads as end-at-reads
+use Rattle.layout.proofs.readers.first_operand.Reads as first-operand-reads
+use Rattle.outcomes.proofs.logic.asks.Reads as asks-reads
+use Rattle.outcomes.proofs.outcomes.out_of_cells.Reads as out-of-cells-reads
+use Rattle.outcomes.proofs.outcomes.out_of_steps.Reads as out-of-steps-reads
+use Rattle.outcomes.proofs.outcomes.stepped.Reads as stepped-reads
+use Rattle.records.proofs.literals.is_leaf.Reads as is-leaf-reads
+use Rattle.records.proofs.literals.is_marked.Reads as is-marked-reads
+use Rattle.records.proofs.literals.leaf.Reads as leaf-reads
+use Rattle.records.proofs.literals.leaf_value.Reads as leaf-value-reads
+use Rattle.records.proofs.literals.slot_at.Reads as slot-at-reads
+use Rattle.records.proofs.literals.unmarked.Reads as unmarked-reads
+use Rattle.records.proofs.paths.append_path.Reads as append-path-reads
+use Rattle.records.proofs.paths.folds_at.Reads as folds-at-reads
+use Rattle.records.proofs.paths.places_at.Reads as places-at-reads
+use Rattle.records.proofs.records.after_first.Reads as after-first-reads
+use Rattle.records.proofs.records.begun_first.Reads as begun-first-reads
+use Rattle.records.proofs.records.shape_at.Reads as shape-at-reads
+use Rattle.rooms.proofs.cells.cell_at.Reads as cell-at-reads
+
+abbrev pub μ-appends : Measures 6 appends-kinds.ps ℕ
+μ-appends κs a = 4 * wordAt (a .0 .now) (a .1 .1 .1 .1 .1 .1 .1 .0 + 1) + 1
+
+abbrev pub μ-comprehend : Measures 6 comprehend-kinds.ps ℕ
+μ-comprehend κs a = 4 * wordAt (a .0 .now) (a .1 .1 .1 .1 .1 .1 .1 .0 + 1) + 2
+
+abbrev pub μ-eval : Measures 6 eval-kinds.ps ℕ
+μ-eval κs a = 4 * wordAt (a .0 .now) (a .1 .1 .1 .1 .1 .1 .1 .0 + 1) + 3
+
+abbrev pub μ-finish : Measures 6 finish-kinds.ps ℕ
+μ-finish κs a = 4 * wordAt (a .0 .now) (a .1 .1 .1 .1 .1 .1 .1 .0 + 1) + 4
+
+abbrev pub μ-list-parts : Measures 6 list-parts-kinds.ps ℕ
+μ-list-parts κs a = 4 * wordAt (a .0 .now) (a .1 .1 .1 .1 .1 .1 .1 .0 + 1) + 2
+
+abbrev pub μ-map-parts : Measures 6 map-parts-kinds.ps ℕ
+μ-map-parts κs a = 4 * wordAt (a .0 .now) (a .1 .1 .1 .1 .1 .1 .1 .0 + 1) + 2
+
+abbrev pub μ-turns : Measures 6 turns-kinds.ps ℕ
+μ-turns κs a = 4 * (wordAt (a .0 .now) (a .1 .1 .1 .1 .1 .1 .1 .1 .1 .1 .0 .condition + 1) + wordAt (a .0 .now) (a .1 .1 .1 .1 .1 .1 .1 .1 .1 .1 .0 .step + 1) + wordAt (a .0 .now) (a .1 .1 .1 .1 .1 .1 .1 .1 .1 .1 .0 .result + 1)) + 4
+
+abbrev pub appends-at : ℕ → In 6 appends-kinds.ps
+appends-at t = and 6 appends-kinds.ps (is 6 appends-kinds.ps μ-appends t) appends.Pre
+
+abbrev pub appends-below : ℕ → In 6 appends-kinds.ps
+appends-below t = and 6 appends-kinds.ps (falls 6 appends-kinds.ps _<_ μ-appends t) appends.Pre
+
+abbrev pub comprehend-at : ℕ → In 6 comprehend-kinds.ps
+comprehend-at t =
+    and 6 comprehend-kinds.ps (is 6 comprehend-kinds.ps μ-comprehend t) comprehend.Pre
+
+abbrev pub comprehend-below : ℕ → In 6 comprehend-kinds.ps
+comprehend-below t =
+    and 6 comprehend-kinds.ps (falls 6 comprehend-kinds.ps _<_ μ-comprehend t) comprehend.Pre
+
+abbrev pub eval-at : ℕ → In 6 eval-kinds.ps
+eval-at t = and 6 eval-kinds.ps (is 6 eval-kinds.ps μ-eval t) eval.Pre
+
+abbrev pub eval-below : ℕ → In 6 eval-kinds.ps
+eval-below t = and 6 eval-kinds.ps (falls 6 eval-kinds.ps _<_ μ-eval t) eval.Pre
+
+abbrev pub finish-at : ℕ → In 6 finish-kinds.ps
+finish-at t = and 6 finish-kinds.ps (is 6 finish-kinds.ps μ-finish t) finish.Pre
+
+abbrev pub finish-below : ℕ → In 6 finish-kinds.ps
+finish-below t = and 6 finish-kinds.ps (falls 6 finish-kinds.ps _<_ μ-finish t) finish.Pre
+
+abbrev pub list-parts-at : ℕ → In 6 list-parts-kinds.ps
+list-parts-at t =
+    and 6 list-parts-kinds.ps (is 6 list-parts-kinds.ps μ-list-parts t) list-parts.Pre
+
+abbrev pub list-parts-below : ℕ → In 6 list-parts-kinds.ps
+list-parts-below t =
+    and 6 list-parts-kinds.ps (falls 6 list-parts-kinds.ps _<_ μ-list-parts t) list-parts.Pre
+
+abbrev pub map-parts-at : ℕ → In 6 map-parts-kinds.ps
+map-parts-at t = and 6 map-parts-kinds.ps (is 6 map-parts-kinds.ps μ-map-parts t) map-parts.Pre
+
+abbrev pub map-parts-below : ℕ → In 6 map-parts-kinds.ps
+map-parts-below t =
+    and 6 map-parts-kinds.ps (falls 6 map-parts-kinds.ps _<_ μ-map-parts t) map-parts.Pre
+
+abbrev pub turns-at : ℕ → In 6 turns-kinds.ps
+turns-at t = and 6 turns-kinds.ps (is 6 turns-kinds.ps μ-turns t) turns.Pre
+
+abbrev pub turns-below : ℕ → In 6 turns-kinds.ps
+turns-below t = and 6 turns-kinds.ps (falls 6 turns-kinds.ps _<_ μ-turns t) turns.Pre
+
+abbrev pub appends-claims : ℕ → appends-lts.Claims
+appends-claims t = (
+  leaf-reads.Asked,
+  leaf-reads.Learnt,
+  asks-reads.Asked,
+  asks-reads.Learnt,
+  collected-list-reads.Asked,
+  collected-list-reads.Learnt,
+  cell-at-reads.Asked,
+  cell-at-reads.Learnt,
+  eval-below t,
+  eval.Post,
+  gather-items-reads.Asked,
+  gather-items-reads.Learnt,
+  add-run-reads.Asked,
+  add-run-reads.Learnt,
+)
+
+abbrev pub comprehend-claims : ℕ → comprehend-lts.Claims
+comprehend-claims t = (
+  first-operand-reads.Asked,
+  first-operand-reads.Learnt,
+  end-at-reads.Asked,
+  end-at-reads.Learnt,
+  eval-below t,
+  eval.Post,
+  range-of-reads.Asked,
+  range-of-reads.Learnt,
+  places-at-reads.Asked,
+  places-at-reads.Learnt,
+  append-path-reads.Asked,
+  append-path-reads.Learnt,
+  turns-below t,
+  turns.Post,
+  appends-below t,
+  appends.Post,
+)
+
+abbrev pub eval-claims : ℕ → eval-lts.Claims
+eval-claims t = (
+  out-of-steps-reads.Asked,
+  out-of-steps-reads.Learnt,
+  stepped-reads.Asked,
+  stepped-reads.Learnt,
+  shape-at-reads.Asked,
+  shape-at-reads.Learnt,
+  slot-at-reads.Asked,
+  slot-at-reads.Learnt,
+  leaf-value-reads.Asked,
+  leaf-value-reads.Learnt,
+  count-at-reads.Asked,
+  count-at-reads.Learnt,
+  begin-reads.Asked,
+  begin-reads.Learnt,
+  out-of-cells-reads.Asked,
+  out-of-cells-reads.Learnt,
+  list-parts-below t,
+  list-parts.Post,
+  map-parts-below t,
+  map-parts.Post,
+  comprehend-below t,
+  comprehend.Post,
+  begun-first-reads.Asked,
+  begun-first-reads.Learnt,
+  is-leaf-reads.Asked,
+  is-leaf-reads.Learnt,
+  leaf-reads.Asked,
+  leaf-reads.Learnt,
+  eval-below t,
+  eval.Post,
+  after-first-reads.Asked,
+  after-first-reads.Learnt,
+  after-both-reads.Asked,
+  after-both-reads.Learnt,
+)
+
+abbrev pub finish-claims : ℕ → finish-lts.Claims
+finish-claims t = (
+  is-leaf-reads.Asked,
+  is-leaf-reads.Learnt,
+  slot-at-reads.Asked,
+  slot-at-reads.Learnt,
+  leaf-reads.Asked,
+  leaf-reads.Learnt,
+  eval-below t,
+  eval.Post,
+)
+
+abbrev pub list-parts-claims : ℕ → list-parts-lts.Claims
+list-parts-claims t = (
+  first-operand-reads.Asked,
+  first-operand-reads.Learnt,
+  is-marked-reads.Asked,
+  is-marked-reads.Learnt,
+  unmarked-reads.Asked,
+  unmarked-reads.Learnt,
+  is-leaf-reads.Asked,
+  is-leaf-reads.Learnt,
+  slot-at-reads.Asked,
+  slot-at-reads.Learnt,
+  leaf-reads.Asked,
+  leaf-reads.Learnt,
+  eval-below t,
+  eval.Post,
+  add-element-reads.Asked,
+  add-element-reads.Learnt,
+  end-at-reads.Asked,
+  end-at-reads.Learnt,
+  whole-list-reads.Asked,
+  whole-list-reads.Learnt,
+)
+
+abbrev pub map-parts-claims : ℕ → map-parts-lts.Claims
+map-parts-claims t = (
+  first-operand-reads.Asked,
+  first-operand-reads.Learnt,
+  is-leaf-reads.Asked,
+  is-leaf-reads.Learnt,
+  slot-at-reads.Asked,
+  slot-at-reads.Learnt,
+  leaf-reads.Asked,
+  leaf-reads.Learnt,
+  eval-below t,
+  eval.Post,
+  key-of-reads.Asked,
+  key-of-reads.Learnt,
+  end-at-reads.Asked,
+  end-at-reads.Learnt,
+  is-marked-reads.Asked,
+  is-marked-reads.Learnt,
+  unmarked-reads.Asked,
+  unmarked-reads.Learnt,
+  add-entry-reads.Asked,
+  add-entry-reads.Learnt,
+  whole-map-reads.Asked,
+  whole-map-reads.Learnt,
+)
+
+abbrev pub turns-claims : ℕ → turns-lts.Claims
+turns-claims t = (
+  folds-at-reads.Asked,
+  folds-at-reads.Learnt,
+  is-leaf-reads.Asked,
+  is-leaf-reads.Learnt,
+  slot-at-reads.Asked,
+  slot-at-reads.Learnt,
+  leaf-reads.Asked,
+  leaf-reads.Learnt,
+  eval-below t,
+  eval.Post,
+  asks-reads.Asked,
+  asks-reads.Learnt,
+  finish-below t,
+  finish.Post,
+  cell-at-reads.Asked,
+  cell-at-reads.Learnt,
+  step-of-reads.Asked,
+  step-of-reads.Learnt,
+)

@@ -1,0 +1,2 @@
+// The record evaluator and the comprehension loop, which call each other.
+pub mod eval;

@@ -1,0 +1,194 @@
+// `e.field` and has(e.field).
+ghost use mathlib.Core.Path.{_≡_};
+ghost use mathlib.Core.List.{List};
+ghost use Prim.Native.Nat.{ℕ};
+ghost use Rattle.rooms.specs.Rooms.{Rooms, rooms};
+ghost use Rattle.rooms.specs.Value.{partsOf};
+ghost use Rattle.machine.specs.Outcomes.{present};
+ghost use Rattle.machine.specs.Views.{optionalIn};
+ghost use Rattle.machine.specs.Selection.{lookUp, optionally, tells, selectInContainer, selectInMap, selectInNone, selectInPresent, selectField};
+ghost use Rattle.outcomes.specs.Gives.{Gives};
+ghost use Rattle.selection.specs.Selects.{selectPlainOut, InMap};
+use crate::lookup::look_up;
+use crate::lookup::optionally;
+use crate::lookup::present;
+use crate::lookup::tells;
+use machine::outcome::Error;
+use machine::outcome::Outcome;
+use machine::outcome::Used;
+use outcomes::outcomes::Optional;
+use outcomes::outcomes::no_overload;
+use outcomes::outcomes::optional_of;
+use outcomes::outcomes::truth_out;
+use rooms::cells::cell_at;
+use rooms::value::Parts;
+use rooms::value::Value;
+use rooms::value::parts_of;
+
+fn select_in_container(cells: &mut [u64], test: bool, found: Outcome) -> Outcome
+    ensures { λ r. ⌜ ((l b t x : List ℕ) → Gives r l b t (now (cells .exit)) x (selectInContainer test found (rooms l b t (now (cells .entry)) x))) ⌝ }
+{
+    if test {
+        tells(found)
+    } else {
+        optionally(cells, found)
+    }
+}
+
+fn select_in_none(test: bool, used: Used) -> Outcome
+    ensures { λ r. ⌜ r ≡ selectInNone test used ⌝ }
+{
+    if test {
+        truth_out(false, used)
+    } else {
+        Outcome::Value(Value::OptionalNone, used)
+    }
+}
+
+fn select_found(
+    literal: &[u8],
+    binding_cells: &[u64],
+    binding_text: &[u8],
+    cells: &mut [u64],
+    text: &[u8],
+    limit: usize,
+    test: bool,
+    container: Value,
+    field: Value,
+    at: usize,
+    used: Used,
+) -> Outcome
+    ensures { λ r. ⌜ Gives r (now (literal .entry)) (now («binding_cells» .entry)) (now («binding_text» .entry)) (now (cells .exit)) (now (text .entry)) (selectInContainer test (lookUp limit at (rooms (now (literal .entry)) (now («binding_cells» .entry)) (now («binding_text» .entry)) (now (cells .entry)) (now (text .entry))) container field used) (rooms (now (literal .entry)) (now («binding_cells» .entry)) (now («binding_text» .entry)) (now (cells .entry)) (now (text .entry)))) ⌝ }
+{
+    let found = look_up(
+        literal,
+        binding_cells,
+        binding_text,
+        cells,
+        text,
+        limit,
+        container,
+        field,
+        at,
+        used,
+    );
+    select_in_container(cells, test, found)
+}
+
+// In what a present Optional holds: a List or a Map.
+fn select_in_present(
+    literal: &[u8],
+    binding_cells: &[u64],
+    binding_text: &[u8],
+    cells: &mut [u64],
+    text: &[u8],
+    limit: usize,
+    test: bool,
+    container: Value,
+    field: Value,
+    at: usize,
+    used: Used,
+) -> Outcome
+    ensures { λ r. ⌜ Gives r (now (literal .entry)) (now («binding_cells» .entry)) (now («binding_text» .entry)) (now (cells .exit)) (now (text .entry)) (selectInPresent limit at test field container (partsOf container) used (rooms (now (literal .entry)) (now («binding_cells» .entry)) (now («binding_text» .entry)) (now (cells .entry)) (now (text .entry)))) ⌝ }
+{
+    match parts_of(container) {
+        Parts::Elements(_, _, _) => select_found(
+            literal,
+            binding_cells,
+            binding_text,
+            cells,
+            text,
+            limit,
+            test,
+            container,
+            field,
+            at,
+            used,
+        ),
+        Parts::Entries(_, _, _) => select_found(
+            literal,
+            binding_cells,
+            binding_text,
+            cells,
+            text,
+            limit,
+            test,
+            container,
+            field,
+            at,
+            used,
+        ),
+        Parts::Present(_, _) => Outcome::Error(Error::NoSuchKey, at, used),
+        Parts::Nothing => Outcome::Error(Error::NoSuchKey, at, used),
+    }
+}
+
+fn select_in_map(test: bool, found: Outcome) -> Outcome
+    ensures { λ r. ⌜ ((q : Rooms) → InMap r q (selectInMap test found q)) ⌝ }
+{
+    if test { tells(found) } else { found }
+}
+
+// Of what has no parts, none alone has a field: there is none.
+fn select_plain(test: bool, v: Value, at: usize, used: Used) -> Outcome
+    ensures { λ r. ⌜ r ≡ selectPlainOut at test used (optionalIn v) ⌝ }
+{
+    match optional_of(v) {
+        Optional::Not => no_overload(at, used),
+        Optional::None => select_in_none(test, used),
+        Optional::Present(_, _) => no_overload(at, used),
+    }
+}
+
+// `e.field` and, if `test`, has(e.field).
+pub fn select_field(
+    literal: &[u8],
+    binding_cells: &[u64],
+    binding_text: &[u8],
+    cells: &mut [u64],
+    text: &[u8],
+    limit: usize,
+    test: bool,
+    container: Value,
+    field: Value,
+    at: usize,
+    used: Used,
+) -> Outcome
+    ensures { λ r. ⌜ Gives r (now (literal .entry)) (now («binding_cells» .entry)) (now («binding_text» .entry)) (now (cells .exit)) (now (text .entry)) (selectField limit at test field container used (rooms (now (literal .entry)) (now («binding_cells» .entry)) (now («binding_text» .entry)) (now (cells .entry)) (now (text .entry)))) ⌝ }
+{
+    match parts_of(container) {
+        Parts::Elements(_, _, _) => no_overload(at, used),
+        Parts::Entries(_, _, _) => {
+            let found = look_up(
+                literal,
+                binding_cells,
+                binding_text,
+                cells,
+                text,
+                limit,
+                container,
+                field,
+                at,
+                used,
+            );
+            select_in_map(test, found)
+        }
+        Parts::Present(space, cell) => {
+            let v = cell_at(binding_cells, cells, space, cell as usize);
+            select_in_present(
+                literal,
+                binding_cells,
+                binding_text,
+                cells,
+                text,
+                limit,
+                test,
+                v,
+                field,
+                at,
+                used,
+            )
+        }
+        Parts::Nothing => select_plain(test, container, at, used),
+    }
+}
