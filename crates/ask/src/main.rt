@@ -5,9 +5,7 @@ use libc::STDOUT_FILENO;
 use lines::LONGEST_LINE;
 use lines::put_answer;
 
-const LENGTH_BYTES: usize = 2;
-
-// The longest text, and one byte more than the longest table, by which a longer one is seen.
+// The length, the longest text, and one byte more than the longest table, by which a longer one is seen.
 const INPUT: usize = 2 + 65535 + 16385;
 
 const WORDS: usize = 8192;
@@ -20,14 +18,24 @@ fn say(words: &[u8]) {
     io::write_all(STDOUT_FILENO, words);
 }
 
+// So many of the bytes, or all of them.
+fn say_start(bytes: &[u8], count: usize) {
+    if bytes.len() < count {
+        say(bytes);
+        return;
+    }
+    say(&bytes[..count]);
+}
+
 fn answer(literal: &[u8], table: &[u8]) {
     let mut cells = [0u64; WORDS];
     let mut text = [0u8; BYTES];
     let mut line = [0u8; LONGEST_LINE];
+    let bindings = bindings::empty();
     let answer = evaluator::evaluate(
         table,
         literal,
-        bindings::empty(),
+        bindings,
         &[],
         &[],
         &mut cells,
@@ -35,22 +43,31 @@ fn answer(literal: &[u8], table: &[u8]) {
         MOST_STEPS,
     );
     let length = put_answer(literal, &[], &[], &cells, &text, answer, &mut line);
-    say(&line[..length]);
+    say_start(&line, length);
     say(b"\n");
+}
+
+fn wide(byte: u8) -> usize {
+    byte as usize
+}
+
+fn answer_input(input: &[u8]) {
+    let first = 2;
+    if input.len() < first {
+        say(b"The input ends before the length of its text.\n");
+        return;
+    }
+    let length = wide(input[0]) + 256 * wide(input[1]);
+    if input.len() - first < length {
+        say(b"The input ends before its text does.\n");
+        return;
+    }
+    let start = first + length;
+    answer(&input[first..start], &input[start..]);
 }
 
 fn main() {
     let mut input = [0u8; INPUT];
     let count = io::read_full(STDIN_FILENO, &mut input);
-    if count < LENGTH_BYTES {
-        say(b"The input ends before the length of its text.\n");
-        return;
-    }
-    let length = (input[0] as usize) + 256 * (input[1] as usize);
-    let start = LENGTH_BYTES + length;
-    if count < start {
-        say(b"The input ends before its text does.\n");
-        return;
-    }
-    answer(&input[LENGTH_BYTES..start], &input[start..count]);
+    answer_input(&input[..count]);
 }

@@ -1,4 +1,5 @@
 // Lent memory: how much of it, contents of its own before an evaluation, and what became of them.
+ghost use Rattle.io.specs.Counts.{Counts};
 use answers::Answer;
 use machine::outcome::Used;
 
@@ -7,13 +8,17 @@ const WORD: u64 = 0xA5A5_A5A5_A5A5_A5A5;
 const BYTE: u8 = 0xA5;
 
 // The words of so many cells, or of as many as there are.
-pub fn words_of(cells: &[u64], count: usize) -> usize {
+pub fn words_of(cells: &[u64], count: usize) -> usize
+    ensures { λ r. ⌜ Counts r (now (cells .entry)) ⌝ }
+{
     let most = cells.len();
     if most / 2 < count { most } else { count * 2 }
 }
 
 // So many bytes, or as many as there are.
-pub fn bytes_of(text: &[u8], count: usize) -> usize {
+pub fn bytes_of(text: &[u8], count: usize) -> usize
+    ensures { λ r. ⌜ Counts r (now (text .entry)) ⌝ }
+{
     let most = text.len();
     if most < count { most } else { count }
 }

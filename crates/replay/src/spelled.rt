@@ -29,7 +29,10 @@ pub fn number_from(line: &[u8], from: usize) -> Spelled {
     let mut number = 0;
     while at < end {
         let digit = line[at];
-        if digit < b'0' || b'9' < digit {
+        if digit < b'0' {
+            return Spelled::No;
+        }
+        if b'9' < digit {
             return Spelled::No;
         }
         number = longer(number, digit - b'0');
@@ -52,14 +55,23 @@ fn digit_of(byte: u8) -> u8 {
 // The bytes that two hexadecimal digits each spell, at the start of `out`.
 fn bytes_of(word: &[u8], out: &mut [u8], end: usize) -> Spelled {
     let count = word.len() / 2;
-    if word.len() == 0 || word.len() % 2 == 1 || out.len() < count {
+    if word.len() == 0 {
+        return Spelled::No;
+    }
+    if word.len() % 2 == 1 {
+        return Spelled::No;
+    }
+    if out.len() < count {
         return Spelled::No;
     }
     let mut at = 0;
     while at < count {
         let high = digit_of(word[at * 2]);
         let low = digit_of(word[at * 2 + 1]);
-        if high == NO_DIGIT || low == NO_DIGIT {
+        if high == NO_DIGIT {
+            return Spelled::No;
+        }
+        if low == NO_DIGIT {
             return Spelled::No;
         }
         out[at] = (high << 4) | low;
