@@ -20,19 +20,19 @@ use Rattle.pieces.specs.Spelled.{ascii}
 use Rattle.shown.specs.Written.{written}
 use Rattle.shown.specs.Shown.{shownIn}
 use Rattle.shown.proofs.ReadOut.{shown-written}
-use Rattle.lines.specs.Written.{shortened, placed, counted, exhausted, lineOf}
+use Rattle.lines.specs.Written.{longestValue, shortened, placed, counted, exhausted, lineOf}
 use Rattle.lines.specs.Shown.{shownAnswer}
 
 abbrev Shows : Told → List ℕ → Type 0
 Shows (refused n place) s = s ≡ ascii "Refused " ++ placed n place
 Shows (value none c) s = Unit {0}
-Shows (value (some v) c) s = s ≡ shortened (written v) ++ counted c
+Shows (value (some v) c) s = s ≡ shortened longestValue (written v) ++ counted c
 Shows (error n place c) s = s ≡ ascii "Error " ++ placed n place ++ counted c
 Shows (Told.exhausted x c) s = s ≡ exhausted x ++ counted c
 
-value-told : (left : Rooms) (m : Value) (c : Counts) (x : Option Meaning.Value) → reading left m ≡ x → Shows (value x c) (shortened (shownIn left m) ++ counted c)
+value-told : (left : Rooms) (m : Value) (c : Counts) (x : Option Meaning.Value) → reading left m ≡ x → Shows (value x c) (shortened longestValue (shownIn left m) ++ counted c)
 value-told left m c none h = tt
-value-told left m c (some v) h = ap (λ s. shortened s ++ counted c) (shown-written left m v h)
+value-told left m c (some v) h = ap (λ s. shortened longestValue s ++ counted c) (shown-written left m v h)
 
 answer-told : (left : Rooms) (a : Answer) → Shows (told left a) (shownAnswer left a)
 unfolding shownAnswer

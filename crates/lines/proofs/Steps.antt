@@ -17,7 +17,7 @@ use Rattle.pieces.specs.Page.{Page, puts}
 use Rattle.pieces.specs.Spelled.{ascii, decimal}
 use Rattle.pieces.proofs.Putting.{puts-two, puts-three}
 use Rattle.shown.specs.Shown.{shownIn}
-use Rattle.lines.specs.Written.{shortened, placed, counted, exhausted}
+use Rattle.lines.specs.Written.{longestValue, shortened, placed, counted, exhausted}
 use Rattle.lines.specs.Shown.{shownAnswer}
 
 pub counts-put : (u : Used) (p a b c d e r : Page) → a ≡ puts (ascii " steps ") p → b ≡ puts (decimal (u .steps)) a → c ≡ puts (ascii " cells ") b → d ≡ puts (decimal (u .cells)) c → e ≡ puts (ascii " bytes ") d → r ≡ puts (decimal (u .bytes)) e → r ≡ puts (counted (countsIn u)) p
@@ -56,9 +56,9 @@ module _ (m : Rooms) (x : Answer) (p q r : Page) where
   unfolding shownAnswer
   answer-refused n place h e f = by-answer (Answer.Refused n place) h (puts-two (ascii "Refused ") (placed n place) p q r e f)
 
-  pub answer-value : (v : Value) (u : Used) → x ≡ Answer.Value v u → q ≡ puts (shortened (shownIn m v)) p → r ≡ puts (counted (countsIn u)) q → r ≡ puts (shownAnswer m x) p
+  pub answer-value : (v : Value) (u : Used) → x ≡ Answer.Value v u → q ≡ puts (shortened longestValue (shownIn m v)) p → r ≡ puts (counted (countsIn u)) q → r ≡ puts (shownAnswer m x) p
   unfolding shownAnswer
-  answer-value v u h e f = by-answer (Answer.Value v u) h (puts-two (shortened (shownIn m v)) (counted (countsIn u)) p q r e f)
+  answer-value v u h e f = by-answer (Answer.Value v u) h (puts-two (shortened longestValue (shownIn m v)) (counted (countsIn u)) p q r e f)
 
   pub answer-error : (o : Error) (n place : ℕ) (u : Used) (l : Page) → x ≡ Answer.Error o place u → q ≡ puts (ascii "Error ") p → n ≡ errorNumber (errorMeant o) → l ≡ puts (placed n place) q → r ≡ puts (counted (countsIn u)) l → r ≡ puts (shownAnswer m x) p
   unfolding shownAnswer

@@ -9,10 +9,10 @@ use Rattle.answers.specs.declared.Answer.the-variants as Answer
 use Rattle.answers.specs.Meant.{countsIn}
 use Rattle.pieces.specs.Spelled.{ascii}
 use Rattle.shown.specs.Shown.{shownIn}
-use Rattle.lines.specs.Written.{shortened, placed, counted, exhausted}
+use Rattle.lines.specs.Written.{longestValue, shortened, placed, counted, exhausted}
 
 unfoldable pub shownAnswer : Rooms → Answer → List ℕ
 shownAnswer r (Answer.Refused number place) = ascii "Refused " ++ placed number place
-shownAnswer r (Answer.Value v u) = shortened (shownIn r v) ++ counted (countsIn u)
+shownAnswer r (Answer.Value v u) = shortened longestValue (shownIn r v) ++ counted (countsIn u)
 shownAnswer r (Answer.Error e place u) = ascii "Error " ++ placed (errorNumber (errorMeant e)) place ++ counted (countsIn u)
 shownAnswer r (Answer.Exhausted x u) = exhausted (limitMeant x) ++ counted (countsIn u)

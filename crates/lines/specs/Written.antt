@@ -15,8 +15,9 @@ use Rattle.shown.specs.Written.{written}
 abbrev pub longestValue : ℕ
 longestValue = 1000000
 
-unfoldable pub shortened : List ℕ → List ℕ
-shortened s = cond (leb (length s) longestValue) s (take longestValue s ++ ascii " ...")
+-- n bytes, and that it goes on
+unfoldable pub shortened : (n : ℕ) → List ℕ → List ℕ
+shortened n s = cond (leb (length s) n) s (take n s ++ ascii " ...")
 
 unfoldable pub placed : (number place : ℕ) → List ℕ
 placed n p = decimal n ++ ascii " at " ++ decimal p
@@ -32,6 +33,6 @@ exhausted Nesting = ascii "Exhausted Nesting"
 
 unfoldable pub lineOf : Answer → List ℕ
 lineOf (refusal why place) = ascii "Refused " ++ placed (refusalNumber why) place
-lineOf (ran (Limited.value v c)) = shortened (written v) ++ counted c
+lineOf (ran (Limited.value v c)) = shortened longestValue (written v) ++ counted c
 lineOf (ran (Limited.error e c)) = ascii "Error " ++ placed (errorNumber (e .error)) (e .place) ++ counted c
 lineOf (ran (Limited.exhausted x c)) = exhausted x ++ counted c

@@ -19,9 +19,6 @@ use shown::put_value;
 // So much of a value is shown.
 pub const LONGEST_VALUE: usize = 1000000;
 
-// One byte more, by which a longer value is seen.
-const SEEN: usize = 1000001;
-
 // A value that is cut, that it goes on, and the counts.
 pub const LONGEST_LINE: usize = 1000128;
 
@@ -56,7 +53,7 @@ fn put_limit(out: &mut [u8], at: usize, limit: Limit) -> usize
     }
 }
 
-// The value at the start of `out`, or its first bytes and that it goes on. It is put no further than it takes to see which.
+// The value at the start of `out`, or its first `most` bytes and that it goes on. It is put one byte further, by which a longer one is seen.
 fn put_cut(
     literal: &[u8],
     binding_cells: &[u64],
@@ -64,11 +61,12 @@ fn put_cut(
     cells: &[u64],
     text: &[u8],
     value: Value,
+    most: usize,
     out: &mut [u8],
 ) -> usize
-    ensures { λ r. ⌜ _≡_ {A = Page} (r, now (out .exit)) (puts (shortened (shownIn (rooms (now (literal .entry)) (now («binding_cells» .entry)) (now («binding_text» .entry)) (now (cells .entry)) (now (text .entry))) value)) (0, now (out .entry))) ⌝ }
+    ensures { λ r. ⌜ _≡_ {A = Page} (r, now (out .exit)) (puts (shortened most (shownIn (rooms (now (literal .entry)) (now («binding_cells» .entry)) (now («binding_text» .entry)) (now (cells .entry)) (now (text .entry))) value)) (0, now (out .entry))) ⌝ }
 {
-    if out.len() < SEEN {
+    if out.len() <= most {
         return put_value(
             literal,
             binding_cells,
@@ -80,7 +78,7 @@ fn put_cut(
             0,
         );
     }
-    let room = SEEN;
+    let room = most + 1;
     let next = put_value(
         literal,
         binding_cells,
@@ -91,8 +89,8 @@ fn put_cut(
         &mut out[..room],
         0,
     );
-    if LONGEST_VALUE < next {
-        return put_word(out, LONGEST_VALUE, b" ...");
+    if most < next {
+        return put_word(out, most, b" ...");
     }
     next
 }
@@ -122,6 +120,7 @@ pub fn put_answer(
                 cells,
                 text,
                 value,
+                LONGEST_VALUE,
                 out,
             );
             put_counts(out, next, used)
