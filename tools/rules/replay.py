@@ -8,11 +8,12 @@
     empty                                 every name absent
     eval STEPS CELLS TEXT TEXTHEX TABLEHEX    the line of `ask`; what is lent, then the literal text and the table
 
-`-` stands for no bytes. A line that is none of these is answered with `bad line N`.
+`-` stands for no bytes; words have spaces between them. A line that is none of these is answered with `bad line N`.
 """
 
 from __future__ import annotations
 
+import binascii
 import sys
 from typing import Iterator
 
@@ -34,9 +35,10 @@ class Replay:
         """The line that answers a line; None where nothing is printed."""
         self.number += 1
         try:
-            command, *words = line.split()
+            command, *words = (word for word in line.split(" ") if word)
             if command == "room" and len(words) == 2:
-                self.room = Room.lent(*(number(word) for word in words))
+                cells, text = (number(word) for word in words)
+                self.room = Room.lent(min(cells, CELLS_MAX), min(text, TEXT_MAX))
                 return None
             if command == "empty" and not words:
                 return empty(self.room)
@@ -63,15 +65,16 @@ class Replay:
 def number(word: str) -> int:
     if not (word.isascii() and word.isdigit()):
         raise ValueError(word)
-    return int(word)
+    digits = word.lstrip("0")
+    return int(digits or "0") if len(digits) <= 20 else 10**20  # above every limit
 
 
 def unhex(word: str) -> bytes:
-    return b"" if word == "-" else bytes.fromhex(word)
+    return b"" if word == "-" else binascii.unhexlify(word)
 
 
 def outcome_line(answer: tuple) -> str:
-    if answer[0] != "value" or answer[1].leaves < LONGEST_VALUE // 40:
+    if answer[0] != "value":
         return answer_line(answer)
     return "{} steps {} cells {} bytes {}".format(cut(answer[1]), *answer[2:])
 
@@ -119,8 +122,8 @@ def bind_line(name: int, table: bytes, text: bytes) -> str:
 
 def main() -> None:
     replay = Replay()
-    for line in sys.stdin:
-        said = replay.answer(line.rstrip("\n"))
+    for line in sys.stdin.buffer:
+        said = replay.answer(line.decode("latin-1").rstrip("\n"))
         if said is not None:
             print(said)
 

@@ -1,0 +1,73 @@
+// Evaluates one rule from standard input, with no bindings and the largest limits, and writes the answer as one line.
+// The input: the length of the literal text (two bytes, the lower first), the text, and the table to the end.
+use libc::STDIN_FILENO;
+use libc::STDOUT_FILENO;
+use lines::LONGEST_LINE;
+use lines::put_answer;
+
+// The length, the longest text, and one byte more than the longest table, by which a longer one is seen.
+const INPUT: usize = 2 + 65535 + 16385;
+
+const WORDS: usize = 8192;
+
+const BYTES: usize = 16384;
+
+const MOST_STEPS: usize = 1000000;
+
+fn say(words: &[u8]) {
+    io::write_all(STDOUT_FILENO, words);
+}
+
+// So many of the bytes, or all of them.
+fn say_start(bytes: &[u8], count: usize) {
+    if bytes.len() < count {
+        say(bytes);
+        return;
+    }
+    say(&bytes[..count]);
+}
+
+fn answer(literal: &[u8], table: &[u8]) {
+    let mut cells = [0u64; WORDS];
+    let mut text = [0u8; BYTES];
+    let mut line = [0u8; LONGEST_LINE];
+    let bindings = bindings::empty();
+    let answer = evaluator::evaluate(
+        table,
+        literal,
+        bindings,
+        &[],
+        &[],
+        &mut cells,
+        &mut text,
+        MOST_STEPS,
+    );
+    let length = put_answer(literal, &[], &[], &cells, &text, answer, &mut line);
+    say_start(&line, length);
+    say(b"\n");
+}
+
+fn wide(byte: u8) -> usize {
+    byte as usize
+}
+
+fn answer_input(input: &[u8]) {
+    let first = 2;
+    if input.len() < first {
+        say(b"The input ends before the length of its text.\n");
+        return;
+    }
+    let length = wide(input[0]) + 256 * wide(input[1]);
+    if input.len() - first < length {
+        say(b"The input ends before its text does.\n");
+        return;
+    }
+    let start = first + length;
+    answer(&input[first..start], &input[start..]);
+}
+
+fn main() {
+    let mut input = [0u8; INPUT];
+    let count = io::read_full(STDIN_FILENO, &mut input);
+    answer_input(&input[..count]);
+}

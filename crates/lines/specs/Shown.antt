@@ -1,0 +1,18 @@
+-- The line of an answer where its value lies. That this is the line of what the answer says is proved in proofs/Says.
+use Prim.Native.Nat.{ℕ}
+use mathlib.Core.List.{List, _++_}
+use Rattle.meaning.specs.Errors.{errorNumber}
+use Rattle.rooms.specs.Rooms.{Rooms}
+use Rattle.reasons.specs.Numbers.{errorMeant, limitMeant}
+use Rattle.answers.specs.declared.Answer.{Answer}
+use Rattle.answers.specs.declared.Answer.the-variants as Answer
+use Rattle.answers.specs.Meant.{countsIn}
+use Rattle.pieces.specs.Spelled.{ascii}
+use Rattle.shown.specs.Shown.{shownIn}
+use Rattle.lines.specs.Written.{longestValue, shortened, placed, counted, exhausted}
+
+unfoldable pub shownAnswer : Rooms → Answer → List ℕ
+shownAnswer r (Answer.Refused number place) = ascii "Refused " ++ placed number place
+shownAnswer r (Answer.Value v u) = shortened longestValue (shownIn r v) ++ counted (countsIn u)
+shownAnswer r (Answer.Error e place u) = ascii "Error " ++ placed (errorNumber (errorMeant e)) place ++ counted (countsIn u)
+shownAnswer r (Answer.Exhausted x u) = exhausted (limitMeant x) ++ counted (countsIn u)

@@ -1,0 +1,25 @@
+-- `memory::words_of` meets its contract. Assumes nothing.
+use borrow.Author.Needs.{needs}
+use Prim.Native.Nat.{_+_, _-_, _*_, _≤_}
+use mathlib.Core.Path.{_≡_, refl, _∙_}
+use native.Mathlib.Omega.{arith}
+use lib.ListN.{length, length-set, length-take}
+use Rattle.replay.proofs.memory.words_of.Statement.{statement}
+use Rattle.replay.proofs.memory.words_of.Tie as tie
+
+mul-result : tie.Need-mul-result
+mul-result c = search needs
+
+returns : tie.Need-returns
+returns c = (omega arith, simp length-take (omega arith))
+
+returns-2 : tie.Need-returns-2
+returns-2 c = (omega arith, simp length-take (omega arith))
+
+pub words-of-spec : {M : Type 1} → statement M
+words-of-spec =
+    tie.close
+    (tie.spec
+    mul-result
+    returns
+    returns-2)

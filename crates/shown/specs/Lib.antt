@@ -1,0 +1,3 @@
+-- What the contracts cite: values as text (`Written`), which is the format that a reader has to believe; the same where they lie (`Shown`).
+pub mod Written
+pub mod Shown
