@@ -23,7 +23,7 @@ use Rattle.shown.proofs.put_nested.Reads as put-nested
 use Rattle.shown.proofs.put_nested.Kinds as put-nested-kinds
 use Rattle.shown.proofs.+put_elements+put_entries+put_nested.Lts-put_nested as put-nested-lts
 use Rattle.pieces.proofs.put_word.Reads as put-word-reads
-use Rattle.rooms.proofs.cells.cell_at.Reads as cell-at-reads
+use Rattle.cells.proofs.cell_at.Reads as cell-at-reads
 use Rattle.rooms.proofs.value.parts_of.Reads as parts-of-reads
 use Rattle.rooms.proofs.value.plain_of.Reads as plain-of-reads
 use Rattle.shown.proofs.put_plain.Reads as put-plain-reads
