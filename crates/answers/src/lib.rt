@@ -48,10 +48,10 @@ pub fn answered(cells: &mut [u64], text: &mut [u8], outcome: Outcome) -> Answer
             clear_text(text, used.bytes);
             Answer::Error(error, place, used)
         }
-        Outcome::Exhausted(limit, used) => {
-            clear_cells(cells, used.cells);
-            clear_text(text, used.bytes);
-            Answer::Exhausted(limit, used)
+        Outcome::Exhausted(limit, spent) => {
+            clear_cells(cells, spent.cells);
+            clear_text(text, spent.bytes);
+            Answer::Exhausted(limit, spent)
         }
     }
 }
