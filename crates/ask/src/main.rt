@@ -1,5 +1,7 @@
 // Evaluates one rule from standard input, with no bindings and the largest limits, and writes the answer as one line.
 // The input: the length of the literal text (two bytes, the lower first), the text, and the table to the end.
+ghost use mathlib.Core.Path.{_≡_};
+ghost use lib.ListN.{length};
 use libc::STDIN_FILENO;
 use libc::STDOUT_FILENO;
 use lines::LONGEST_LINE;
@@ -13,6 +15,30 @@ const WORDS: usize = 8192;
 const BYTES: usize = 16384;
 
 const MOST_STEPS: usize = 1000000;
+
+fn input_room() -> [u8; INPUT]
+    ensures { λ r. ⌜ 81922 ≡ length r ⌝ }
+{
+    [0; INPUT]
+}
+
+fn cell_room() -> [u64; WORDS]
+    ensures { λ r. ⌜ 8192 ≡ length r ⌝ }
+{
+    [0; WORDS]
+}
+
+fn text_room() -> [u8; BYTES]
+    ensures { λ r. ⌜ 16384 ≡ length r ⌝ }
+{
+    [0; BYTES]
+}
+
+fn line_room() -> [u8; LONGEST_LINE]
+    ensures { λ r. ⌜ 1000128 ≡ length r ⌝ }
+{
+    [0; LONGEST_LINE]
+}
 
 fn say(words: &[u8]) {
     io::write_all(STDOUT_FILENO, words);
@@ -28,9 +54,9 @@ fn say_start(bytes: &[u8], count: usize) {
 }
 
 fn answer(literal: &[u8], table: &[u8]) {
-    let mut cells = [0u64; WORDS];
-    let mut text = [0u8; BYTES];
-    let mut line = [0u8; LONGEST_LINE];
+    let mut cells = cell_room();
+    let mut text = text_room();
+    let mut line = line_room();
     let bindings = bindings::empty();
     let answer = evaluator::evaluate(
         table,
@@ -67,7 +93,7 @@ fn answer_input(input: &[u8]) {
 }
 
 fn main() {
-    let mut input = [0u8; INPUT];
+    let mut input = input_room();
     let count = io::read_full(STDIN_FILENO, &mut input);
     answer_input(&input[..count]);
 }

@@ -1,9 +1,12 @@
 // Binds and evaluates by lines from standard input, and writes a line for each `bind` and each `eval`.
+ghost use mathlib.Core.Path.{_≡_};
+ghost use lib.ListN.{length};
 use crate::commands::Session;
 use crate::commands::answer_line;
 use crate::commands::say_bad;
 use crate::line::find;
 use libc::STDIN_FILENO;
+use lines::LONGEST_LINE;
 
 mod commands;
 mod line;
@@ -30,6 +33,42 @@ const CELLS_AT_FIRST: usize = 4096;
 const BYTES_AT_FIRST: usize = 16384;
 
 const MOST: usize = 0xFFFF_FFFF_FFFF_FFFF;
+
+fn chunk_room() -> [u8; CHUNK]
+    ensures { λ r. ⌜ 65536 ≡ length r ⌝ }
+{
+    [0; CHUNK]
+}
+
+fn line_room() -> [u8; LINE]
+    ensures { λ r. ⌜ 524288 ≡ length r ⌝ }
+{
+    [0; LINE]
+}
+
+fn spelled_room() -> [u8; SPELLED]
+    ensures { λ r. ⌜ 262144 ≡ length r ⌝ }
+{
+    [0; SPELLED]
+}
+
+fn cell_room() -> [u64; WORDS]
+    ensures { λ r. ⌜ 16384 ≡ length r ⌝ }
+{
+    [0; WORDS]
+}
+
+fn text_room() -> [u8; BYTES]
+    ensures { λ r. ⌜ 65536 ≡ length r ⌝ }
+{
+    [0; BYTES]
+}
+
+fn answer_room() -> [u8; LONGEST_LINE]
+    ensures { λ r. ⌜ 1000128 ≡ length r ⌝ }
+{
+    [0; LONGEST_LINE]
+}
 
 // Between two parts of the input: how much of the next line is there, and how many lines there were.
 struct State {
@@ -195,15 +234,15 @@ fn take_all(
 }
 
 fn main() {
-    let mut chunk = [0u8; CHUNK];
-    let mut line = [0u8; LINE];
-    let mut literal = [0u8; SPELLED];
-    let mut table = [0u8; SPELLED];
-    let mut binding_cells = [0u64; WORDS];
-    let mut binding_text = [0u8; BYTES];
-    let mut cells = [0u64; WORDS];
-    let mut text = [0u8; BYTES];
-    let mut out = [0u8; lines::LONGEST_LINE];
+    let mut chunk = chunk_room();
+    let mut line = line_room();
+    let mut literal = spelled_room();
+    let mut table = spelled_room();
+    let mut binding_cells = cell_room();
+    let mut binding_text = text_room();
+    let mut cells = cell_room();
+    let mut text = text_room();
+    let mut out = answer_room();
     let state = take_all(
         &mut chunk,
         &mut line,
