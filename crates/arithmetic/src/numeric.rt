@@ -48,9 +48,9 @@ fn negate_number(n: Number, at: usize, used: Used) -> Outcome
     ensures { λ r. ⌜ r ≡ negateNumber at used n ⌝ }
 {
     match n {
-        Number::Int(z) => int_outcome(numbers::int::neg(z), at, used),
+        Number::Int(z) => int_outcome(signed::neg(z), at, used),
         Number::Uint(_) => no_overload(at, used),
-        Number::Double(d) => double_outcome(numbers::double::neg(d), used),
+        Number::Double(d) => double_outcome(floats::neg(d), used),
     }
 }
 
@@ -74,11 +74,11 @@ fn ints(operator: Arith, a: i64, b: i64) -> IntAnswer
     ensures { λ r. ⌜ r ≡ intArith (arithSeen operator) a b ⌝ }
 {
     match operator {
-        Arith::Add => numbers::int::add(a, b),
-        Arith::Subtract => numbers::int::sub(a, b),
-        Arith::Divide => numbers::int::div(a, b),
-        Arith::Multiply => numbers::int::mul(a, b),
-        Arith::Remainder => numbers::int::rem(a, b),
+        Arith::Add => signed::add(a, b),
+        Arith::Subtract => signed::sub(a, b),
+        Arith::Divide => signed::div(a, b),
+        Arith::Multiply => signed::mul(a, b),
+        Arith::Remainder => signed::rem(a, b),
     }
 }
 
@@ -86,11 +86,11 @@ fn uints(operator: Arith, a: u64, b: u64) -> UintAnswer
     ensures { λ r. ⌜ r ≡ uintArith (arithSeen operator) a b ⌝ }
 {
     match operator {
-        Arith::Add => numbers::uint::add(a, b),
-        Arith::Subtract => numbers::uint::sub(a, b),
-        Arith::Divide => numbers::uint::div(a, b),
-        Arith::Multiply => numbers::uint::mul(a, b),
-        Arith::Remainder => numbers::uint::rem(a, b),
+        Arith::Add => unsigned::add(a, b),
+        Arith::Subtract => unsigned::sub(a, b),
+        Arith::Divide => unsigned::div(a, b),
+        Arith::Multiply => unsigned::mul(a, b),
+        Arith::Remainder => unsigned::rem(a, b),
     }
 }
 
@@ -98,10 +98,10 @@ fn doubles(operator: Arith, a: Double, b: Double, at: usize, used: Used) -> Outc
     ensures { λ r. ⌜ r ≡ doublesOut at used (arithSeen operator) a b ⌝ }
 {
     match operator {
-        Arith::Add => double_outcome(numbers::double::add(a, b), used),
-        Arith::Subtract => double_outcome(numbers::double::sub(a, b), used),
-        Arith::Divide => double_outcome(numbers::double::div(a, b), used),
-        Arith::Multiply => double_outcome(numbers::double::mul(a, b), used),
+        Arith::Add => double_outcome(floats::add(a, b), used),
+        Arith::Subtract => double_outcome(floats::sub(a, b), used),
+        Arith::Divide => double_outcome(floats::div(a, b), used),
+        Arith::Multiply => double_outcome(floats::mul(a, b), used),
         Arith::Remainder => no_overload(at, used),
     }
 }

@@ -8,9 +8,9 @@ use Rattle.numbers.specs.declared.order.Order.{Order}
 use Rattle.numbers.specs.declared.order.Order.the-variants as Order
 use Rattle.numbers.specs.declared.order.Number.the-variants as Number
 use Rattle.numbers.specs.Order.{orderOf, isEqual, flipped, belowZero, wholePoint, intPoint, uintPoint}
-use Rattle.numbers.proofs.OrderLaws.{order-swap}
-use Rattle.numbers.proofs.SignedOrder.{signed-is}
-use Rattle.numbers.proofs.WholeLaws.{whole-order, int-uint-equal, int-uint-only, int-only, uint-only}
+use Rattle.points.proofs.OrderLaws.{order-swap}
+use Rattle.points.proofs.SignedOrder.{signed-is}
+use Rattle.points.proofs.WholeLaws.{whole-order, int-uint-equal, int-uint-only, int-only, uint-only}
 use Rattle.text.specs.declared.bytes.TextOrder.{TextOrder}
 use Rattle.text.specs.declared.bytes.TextOrder.the-variants as TextOrder
 use Rattle.text.specs.Bytes as Bytes

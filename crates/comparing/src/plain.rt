@@ -50,7 +50,7 @@ fn same_number(left: Number, other: Plain) -> bool
     let Plain::Number(right) = other else {
         return false;
     };
-    numbers::order::equal(left, right)
+    numberline::equal(left, right)
 }
 
 fn same_text(order: TextOrder) -> bool

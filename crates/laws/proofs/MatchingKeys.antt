@@ -10,7 +10,7 @@ use borrow.Author.Tests.{eqb-true, eqb-false, eq-eqb, ne-eqb}
 use Rattle.numbers.specs.declared.order.Order.{Order}
 use Rattle.numbers.specs.declared.order.Order.the-variants as Order
 use Rattle.numbers.specs.Order.{orderOf, isEqual, flipped}
-use Rattle.numbers.proofs.OrderLaws.{order-swap}
+use Rattle.points.proofs.OrderLaws.{order-swap}
 use Rattle.text.specs.declared.bytes.TextOrder.{TextOrder}
 use Rattle.text.specs.declared.bytes.TextOrder.the-variants as TextOrder
 use Rattle.text.specs.Bytes as Bytes

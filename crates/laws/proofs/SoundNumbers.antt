@@ -22,7 +22,7 @@ use Rattle.numbers.specs.Uint as Uint
 use Rattle.numbers.specs.Uint.{unlessZero}
 use Rattle.numbers.specs.Double.{negBits}
 use Rattle.numbers.proofs.IntLaws.{in-range}
-use Rattle.numbers.proofs.RoundingLaws.{add-right, sub-right, mul-right, div-right, neg-right}
+use Rattle.rounding.proofs.RoundingLaws.{add-right, sub-right, mul-right, div-right, neg-right}
 use Rattle.meaning.specs.Expr.{Arith, add, sub, div, mul, rem}
 use Rattle.meaning.specs.Numbers.{intArith, uintArith, doubleArith}
 

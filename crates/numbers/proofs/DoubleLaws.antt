@@ -86,7 +86,7 @@ abbrev pub Proper : Double → Type 0
 Proper (Plain x) = T (fits binary64 x) × (ne x x ≡ false)
 Proper (Nan b) = isNan b ≡ true
 
--- `doubleOf` gives no other, so no function of this crate does.
+-- `doubleOf` gives no other, so no function does.
 pub proper : (b : ℕ) → Proper (doubleOf b)
 unfolding doubleOf Ieee.isNan
 proper b = go (isNan b) refl

@@ -1,23 +1,5 @@
--- Laws. For callers: IntLaws, UintLaws, DivisionLaws, DoubleLaws, RoundingLaws, OrderLaws, WholeLaws. The others are steps to those.
-pub mod BitsOne
-pub mod DivisionLaws
+-- Laws for callers: IntLaws, UintLaws, DoubleLaws; IntMag, an Int and its size.
 pub mod DoubleLaws
 pub mod IntLaws
 pub mod IntMag
-pub mod IntQuot
-pub mod IntSums
-pub mod Nearest
-pub mod NearestOne
-pub mod NearestScale
-pub mod OrderLaws
-pub mod PointLaws
-pub mod ProductPoints
-pub mod RoundPoints
-pub mod RoundingLaws
-pub mod Shift
-pub mod SignedOrder
-pub mod SizeLaws
-pub mod Stands
-pub mod SumPoints
 pub mod UintLaws
-pub mod WholeLaws

@@ -59,7 +59,7 @@ fn compare_number(left: Number, other: Plain) -> Compared
     let Plain::Number(right) = other else {
         return Compared::Unlike;
     };
-    Compared::Is(numbers::order::compare(left, right))
+    Compared::Is(numberline::compare(left, right))
 }
 
 fn compare_string(

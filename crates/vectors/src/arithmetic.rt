@@ -43,32 +43,32 @@ fn of_double(x: Double) -> Answer {
 
 fn int(operator: u8, a: i64, b: i64) -> Answer {
     match operator {
-        b'+' => of_int(numbers::int::add(a, b)),
-        b'-' => of_int(numbers::int::sub(a, b)),
-        b'*' => of_int(numbers::int::mul(a, b)),
-        b'/' => of_int(numbers::int::div(a, b)),
-        b'%' => of_int(numbers::int::rem(a, b)),
+        b'+' => of_int(signed::add(a, b)),
+        b'-' => of_int(signed::sub(a, b)),
+        b'*' => of_int(signed::mul(a, b)),
+        b'/' => of_int(signed::div(a, b)),
+        b'%' => of_int(signed::rem(a, b)),
         _ => Answer::Unreadable,
     }
 }
 
 fn uint(operator: u8, a: u64, b: u64) -> Answer {
     match operator {
-        b'+' => of_uint(numbers::uint::add(a, b)),
-        b'-' => of_uint(numbers::uint::sub(a, b)),
-        b'*' => of_uint(numbers::uint::mul(a, b)),
-        b'/' => of_uint(numbers::uint::div(a, b)),
-        b'%' => of_uint(numbers::uint::rem(a, b)),
+        b'+' => of_uint(unsigned::add(a, b)),
+        b'-' => of_uint(unsigned::sub(a, b)),
+        b'*' => of_uint(unsigned::mul(a, b)),
+        b'/' => of_uint(unsigned::div(a, b)),
+        b'%' => of_uint(unsigned::rem(a, b)),
         _ => Answer::Unreadable,
     }
 }
 
 fn double(operator: u8, x: Double, y: Double) -> Answer {
     match operator {
-        b'+' => of_double(numbers::double::add(x, y)),
-        b'-' => of_double(numbers::double::sub(x, y)),
-        b'*' => of_double(numbers::double::mul(x, y)),
-        b'/' => of_double(numbers::double::div(x, y)),
+        b'+' => of_double(floats::add(x, y)),
+        b'-' => of_double(floats::sub(x, y)),
+        b'*' => of_double(floats::mul(x, y)),
+        b'/' => of_double(floats::div(x, y)),
         _ => Answer::Unreadable,
     }
 }
@@ -76,9 +76,9 @@ fn double(operator: u8, x: Double, y: Double) -> Answer {
 // `int -`, `double -`, and `double bits`, which answers the bits that came.
 fn one(kind: &[u8], name: &[u8], bits: u64) -> Answer {
     if same(kind, b"int") && same(name, b"-") {
-        of_int(numbers::int::neg(int_of(bits)))
+        of_int(signed::neg(int_of(bits)))
     } else if same(kind, b"double") && same(name, b"-") {
-        of_double(numbers::double::neg(numbers::double::from_bits(bits)))
+        of_double(floats::neg(numbers::double::from_bits(bits)))
     } else if same(kind, b"double") && same(name, b"bits") {
         of_double(numbers::double::from_bits(bits))
     } else {

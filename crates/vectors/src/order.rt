@@ -33,8 +33,8 @@ pub fn answer(family: &[u8], kind: &[u8], other: &[u8], left: &[u8], right: &[u8
         return Answer::Unreadable;
     };
     if same(family, b"order") {
-        Answer::Order(numbers::order::compare(x, y))
+        Answer::Order(numberline::compare(x, y))
     } else {
-        Answer::Truth(numbers::order::equal(x, y))
+        Answer::Truth(numberline::equal(x, y))
     }
 }

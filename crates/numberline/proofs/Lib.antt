@@ -1,0 +1,2 @@
+-- Steps of the proofs of the functions.
+pub mod SizeLaws

@@ -1,0 +1,1 @@
+// The theorems on the order of numbers. There is no code here.

@@ -1,0 +1,2 @@
+-- Arithmetic on Doubles over whole numbers.
+pub mod Rounding

@@ -1,0 +1,1 @@
+// The theorems on division and rounding. There is no code here.
