@@ -10,8 +10,8 @@ use Rattle.meaning.specs.Heads.{Got, got, refused, _>>=_}
 use Rattle.meaning.specs.Table.{readTable}
 use Rattle.table.specs.declared.Checked.the-variants.{Accepted, Refused}
 use Rattle.table.specs.Check.{verdict, checkOf}
-use Rattle.table.specs.Records.{exprOf, Sound}
-use Rattle.table.proofs.Accepted.{accepted}
+use Rattle.accepted.specs.Records.{exprOf, Sound}
+use Rattle.accepted.proofs.Accepted.{accepted}
 use Rattle.rooms.specs.Rooms.{Rooms}
 use Rattle.soundness.specs.declared.Bindings.{Bindings}
 use Rattle.soundness.specs.declared.Soundness.the-variants as Soundness

@@ -27,10 +27,10 @@ use Rattle.meaning.specs.Answer as Meaning
 use Rattle.meaning.specs.Answer.{Answered, refusal, ran, answerRun, answerRead, answerOf}
 use Rattle.table.specs.declared.Checked.the-variants.{Accepted}
 use Rattle.table.specs.Check.{verdict, checkOf}
-use Rattle.table.specs.Records.{exprOf}
-use Rattle.table.specs.Walk.{Walk}
-use Rattle.table.proofs.Accepted.{accepted as table-accepted}
-use Rattle.table.proofs.Walk.{accepted-walk}
+use Rattle.accepted.specs.Records.{exprOf}
+use Rattle.accepted.specs.Walk.{Walk}
+use Rattle.accepted.proofs.Accepted.{accepted as table-accepted}
+use Rattle.accepted.proofs.Walk.{accepted-walk}
 use Rattle.laws.specs.Names.{Agree, In}
 use Rattle.laws.specs.Charges.{Stops}
 use Rattle.laws.proofs.NamesListed.{names-listed}

@@ -22,9 +22,9 @@ use Rattle.laws.proofs.Reading.{Reads, reads-got, reads-refused, reads-bind, re
 use Rattle.table.specs.declared.Checked.{Checked}
 use Rattle.table.specs.declared.Checked.the-variants as Checked
 use Rattle.table.specs.Check.{verdict, checkOf}
-use Rattle.table.specs.Records.{exprOf, partOf, Sound, SoundPart}
-use Rattle.table.proofs.Accepted.{AcceptedTable}
-use Rattle.table.proofs.Accepted as table
+use Rattle.accepted.specs.Records.{exprOf, partOf, Sound, SoundPart}
+use Rattle.accepted.proofs.Accepted.{AcceptedTable}
+use Rattle.accepted.proofs.Accepted as table
 use Rattle.rooms.specs.declared.value.Value.{Value}
 use Rattle.building.specs.Building.{cellRoom, textRoom}
 use Rattle.rooms.specs.Scope.{slotOf, stored}

@@ -18,7 +18,7 @@ use Rattle.meaning.specs.Bindings.{cellsOf, bytesOf}
 use Rattle.meaning.specs.Spelling.{Literal, scalarAt, listAt, mapAt, literalOf, placeOf, literalNesting, spelled, spelledRoot}
 use Rattle.laws.proofs.Reading.{Reads, was-read}
 use Rattle.laws.proofs.SpelledReasons.{literal-reason, root-reason, root-refused}
-use Rattle.table.specs.Records.{exprOf, partOf, Sound}
+use Rattle.accepted.specs.Records.{exprOf, partOf, Sound}
 use Rattle.bindings.specs.declared.judging.Fault.{Fault}
 use Rattle.bindings.specs.declared.judging.Fault.the-variants.{At, Nowhere}
 use Rattle.bindings.specs.declared.judging.Judged.{Judged}

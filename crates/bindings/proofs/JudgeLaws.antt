@@ -17,8 +17,8 @@ use Rattle.meaning.specs.Table.{Part, bare, marked, addElement, addPair}
 use Rattle.meaning.specs.Spelling.{Literal, scalarAt, listAt, mapAt, Literals, noLiterals, literals, LiteralPairs, noLiteralPairs, literalPairs, literalOf, literalsOf, literalPairsOf, literalNesting, literalsNesting, literalPairsNesting}
 use Rattle.layout.specs.Layout.{wordAt}
 use Rattle.layout.specs.Layout.{after}
-use Rattle.table.specs.Records.{exprOf, partOf, Sound, SoundPart, elementsOf, pairsOf}
-use Rattle.table.proofs.Parts.{Marked, part-marked, part-bare}
+use Rattle.accepted.specs.Records.{exprOf, partOf, Sound, SoundPart, elementsOf, pairsOf}
+use Rattle.accepted.proofs.Parts.{Marked, part-marked, part-bare}
 use Rattle.rooms.specs.declared.value.Value.{Value}
 use Rattle.rooms.specs.declared.value.Value.the-variants as Value
 use Rattle.soundness.specs.Fits.{isAbsent}

@@ -6,7 +6,7 @@ use native.Mathlib.Omega.{arith}
 use lib.Dec.{eqb}
 use lib.ListN.{length, getD}
 use Rattle.layout.specs.Layout.{headBytes, wordAt}
-use Rattle.table.specs.Records.{partOf, elementsOf, pairsOf, SoundPart}
+use Rattle.accepted.specs.Records.{partOf, elementsOf, pairsOf, SoundPart}
 use Rattle.rooms.specs.declared.value.Value.{Value}
 use Rattle.bindings.specs.declared.judging.Judged.{Judged}
 use Rattle.bindings.specs.Literals.{literalValue, rowBytes, entryBytes, Operands, Entries}

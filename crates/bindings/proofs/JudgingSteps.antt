@@ -13,7 +13,7 @@ use Rattle.meaning.specs.Table.{Part, addElement, addPair}
 use Rattle.meaning.specs.Spelling.{Literal, literalsOf, literalPairsOf, literalsNesting, literalPairsNesting}
 use Rattle.layout.specs.Layout.{wordAt}
 use Rattle.layout.specs.Layout.{after}
-use Rattle.table.specs.Records.{exprOf, partOf, elementsOf, pairsOf, Sound, SoundPart}
+use Rattle.accepted.specs.Records.{exprOf, partOf, elementsOf, pairsOf, Sound, SoundPart}
 use Rattle.bindings.specs.declared.judging.Fault.{Fault}
 use Rattle.bindings.specs.declared.judging.Judged.{Judged}
 use Rattle.bindings.specs.Literals.{literalIn, literalsIn, literalPairsIn, literalValue, rowBytes, entryBytes, Operands, Entries, keysFrom}

@@ -10,9 +10,9 @@ use Rattle.meaning.specs.Value.{Scalar, null, bool, int, uint, double, string, 
 use Rattle.meaning.specs.Comparison.{rank, sameClass, scalarEqual}
 use Rattle.meaning.specs.Expr.{literal}
 use Rattle.meaning.specs.Spelling.{Literal, scalarAt, listAt, mapAt}
-use Rattle.table.specs.Shapes.{isSome}
+use Rattle.fields.specs.Fits.{isSome}
 use Rattle.layout.specs.Layout.{after}
-use Rattle.table.specs.Records.{exprOf, Sound}
+use Rattle.accepted.specs.Records.{exprOf, Sound}
 use Rattle.rooms.specs.declared.value.Value.{Value}
 use Rattle.rooms.specs.declared.value.Value.the-variants as Value
 use Rattle.rooms.specs.Value.{plainOf}

@@ -12,7 +12,7 @@ use Rattle.meaning.specs.Expr.{Expr, Elements, Pairs}
 use Rattle.meaning.specs.Table.{Part, bare, marked, addElement, addPair}
 use Rattle.meaning.specs.Spelling.{Literal, scalarAt, listAt, mapAt, Literals, noLiterals, literals, LiteralPairs, noLiteralPairs, literalPairs, literalNesting, literalsNesting, literalPairsNesting}
 use Rattle.layout.specs.Layout.{after}
-use Rattle.table.specs.Records.{exprOf, partOf, elementsOf, pairsOf}
+use Rattle.accepted.specs.Records.{exprOf, partOf, elementsOf, pairsOf}
 use Rattle.rooms.specs.Value.{nestingOf, doubleValue}
 use Rattle.bindings.specs.Literals.{literalIn, literalsIn, literalPairsIn, partLiteral, rowLiterals, Entries}
 use Rattle.bindings.specs.Judging.{cellsFor, cellsAmong, cellsOver, bytesFor, bytesAmong, bytesOver}

@@ -15,8 +15,8 @@ use Rattle.meaning.specs.Table.{Part, bare, marked}
 use Rattle.meaning.specs.Spelling.{Literal, scalarAt, listAt, mapAt, Literals, noLiterals, literals, LiteralPairs, literalNesting, literalsNesting, literalPairsNesting}
 use Rattle.layout.specs.Layout.{headBytes, wordAt}
 use Rattle.layout.specs.Layout.{after}
-use Rattle.table.specs.Records.{exprOf, partOf, elementsOf, pairsOf, Sound, SoundPart}
-use Rattle.table.proofs.Parts.{Marked, part-marked, part-bare}
+use Rattle.accepted.specs.Records.{exprOf, partOf, elementsOf, pairsOf, Sound, SoundPart}
+use Rattle.accepted.proofs.Parts.{Marked, part-marked, part-bare}
 use Rattle.rooms.specs.declared.value.Value.{Value}
 use Rattle.rooms.specs.declared.value.Value.the-variants as Value
 use Rattle.rooms.specs.declared.value.TextSpace.the-variants as Text

@@ -24,13 +24,13 @@ use Rattle.meaning.specs.Table.{span, utf8}
 use Rattle.meaning.specs.Bindings.{textBytes}
 use Rattle.meaning.specs.Spelling.{Literal, scalarAt, listAt, mapAt, Literals, LiteralPairs, literalOf}
 use Rattle.layout.specs.Layout.{wordAt}
-use Rattle.table.specs.Shapes.{isSome}
+use Rattle.fields.specs.Fits.{isSome}
 use Rattle.layout.specs.Layout.{longAt}
-use Rattle.table.specs.Records.{exprOf, callOf, Sound, kindByte}
-use Rattle.layout.proofs.LongLaws.{four-is, long-is}
-use Rattle.table.proofs.FieldLaws.{span-is}
-use Rattle.table.proofs.Opened.{Opened, opened}
-use Rattle.table.proofs.Parts.{sound-kind}
+use Rattle.accepted.specs.Records.{exprOf, callOf, Sound, kindByte}
+use Rattle.longs.proofs.LongLaws.{four-is, long-is}
+use Rattle.fields.proofs.FieldLaws.{span-is}
+use Rattle.accepted.proofs.Opened.{Opened, opened}
+use Rattle.accepted.proofs.Parts.{sound-kind}
 use Rattle.rooms.specs.declared.value.Value.{Value}
 use Rattle.rooms.specs.declared.value.Value.the-variants as Value
 use Rattle.rooms.specs.declared.value.TextSpace.the-variants as Text

@@ -12,10 +12,10 @@ use Rattle.meaning.specs.Heads.{Got, got, refused, _>>=_, Head, headAt}
 use Rattle.meaning.specs.Table.{Part, bare, marked, bodyAt, asExpr, asPart, exprAt, partAt, wordBytes}
 use Rattle.layout.specs.Layout.{wordAt}
 use Rattle.layout.specs.Layout.{after}
-use Rattle.table.specs.Records.{exprIn, partIn, exprOf, partOf, Sound, SoundPart, Row, elementsOf, pairsOf, kindByte, numbersIn}
-use Rattle.table.proofs.SoundLaws.{sound-here}
-use Rattle.table.proofs.Opened.{Opened, opened, headIn, head-of-kind, record-read, part-read}
-use Rattle.table.proofs.Parts.{sound-kind, Marked, part-marked, part-bare}
+use Rattle.accepted.specs.Records.{exprIn, partIn, exprOf, partOf, Sound, SoundPart, Row, elementsOf, pairsOf, kindByte, numbersIn}
+use Rattle.accepted.proofs.SoundLaws.{sound-here}
+use Rattle.accepted.proofs.Opened.{Opened, opened, headIn, head-of-kind, record-read, part-read}
+use Rattle.accepted.proofs.Parts.{sound-kind, Marked, part-marked, part-bare}
 use Rattle.bindings.specs.Literals.{rowBytes, entryBytes, Operands, Entries}
 use Rattle.bindings.proofs.Rows.{row-operands, row-entries}
 

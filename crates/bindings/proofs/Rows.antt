@@ -5,14 +5,14 @@ use mathlib.Core.List.{List, [], _∷_, _++_}
 use native.Mathlib.Omega.{arith}
 use native.Mathlib.Numerals.{sub-one}
 use lib.ListN.{length, getD}
-use Rattle.table.specs.declared.records.Marks.the-variants.{Anywhere, Values}
+use Rattle.faults.specs.declared.Marks.the-variants.{Anywhere, Values}
 use Rattle.layout.specs.Layout.{headBytes, wordAt}
 use Rattle.layout.specs.Layout.{after}
-use Rattle.table.specs.Records.{exprOf, partOf, Sound, SoundPart, Row}
+use Rattle.accepted.specs.Records.{exprOf, partOf, Sound, SoundPart, Row}
 use Rattle.layout.proofs.KindLaws.{head-table}
-use Rattle.table.proofs.HeadLaws.{Here}
-use Rattle.table.proofs.SoundLaws.{sound-here, part-here}
-use Rattle.table.proofs.Parts.{first-pair}
+use Rattle.heads.proofs.HeadLaws.{Here}
+use Rattle.accepted.proofs.SoundLaws.{sound-here, part-here}
+use Rattle.accepted.proofs.Parts.{first-pair}
 use Rattle.bindings.specs.Literals.{rowBytes, entryBytes, Operands, Entries}
 
 back : (n : ℕ) → suc n - 1 ≡ n

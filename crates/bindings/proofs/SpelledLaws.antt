@@ -17,7 +17,7 @@ use Rattle.meaning.specs.Bindings as meant
 use Rattle.meaning.specs.Bindings.{textBytes, cellsOf, bytesOf}
 use Rattle.meaning.specs.Spelling.{Literal, scalarAt, listAt, mapAt, Literals, noLiterals, literals, LiteralPairs, noLiteralPairs, literalPairs, literalOf, literalsOf, literalPairsOf, newKey, keyLiteral, spelled, spelledElements, spelledEntries}
 use Rattle.laws.proofs.Reading.{Reads, reads-got, reads-refused, reads-bind, reads-then, reads-demand, reads-weaker, was-read}
-use Rattle.table.specs.Shapes.{isSome}
+use Rattle.fields.specs.Fits.{isSome}
 use Rattle.bindings.specs.declared.judging.Fault.{Fault}
 use Rattle.bindings.specs.declared.judging.Fault.the-variants.{At, Nowhere}
 use Rattle.bindings.specs.Literals.{literalIn, literalsIn, literalPairsIn}

@@ -14,7 +14,7 @@ use Rattle.bindings.specs.declared.judging.Fault.{Fault}
 use Rattle.bindings.specs.declared.judging.Fault.the-variants.{At, Nowhere}
 use Rattle.bindings.specs.declared.judging.Judged.{Judged}
 use Rattle.bindings.specs.Literals.{literalIn, literalsIn, literalPairsIn, literalValue, textLength}
-use Rattle.table.specs.Shapes.{isSome}
+use Rattle.fields.specs.Fits.{isSome}
 use Rattle.layout.specs.Layout.{after}
 use Rattle.rooms.specs.declared.value.Value.{Value}
 use Rattle.rooms.specs.Value.{plainOf}

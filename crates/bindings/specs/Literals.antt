@@ -13,7 +13,7 @@ use Rattle.meaning.specs.Table.{Part, bare, marked, wordBytes}
 use Rattle.meaning.specs.Spelling.{Literal, scalarAt, listAt, mapAt, Literals, noLiterals, literals, LiteralPairs, noLiteralPairs, literalPairs}
 use Rattle.layout.specs.Layout.{fieldsAt, wordAt}
 use Rattle.layout.specs.Layout.{longAt, after}
-use Rattle.table.specs.Records.{exprOf, partOf, Sound, SoundPart}
+use Rattle.accepted.specs.Records.{exprOf, partOf, Sound, SoundPart}
 use Rattle.rooms.specs.declared.value.Value.{Value}
 use Rattle.rooms.specs.declared.value.Value.the-variants as Value
 use Rattle.rooms.specs.declared.value.TextSpace.the-variants as Text

@@ -3,7 +3,7 @@ ghost use mathlib.Core.Path.{_≡_};
 ghost use Prim.Native.Nat.{_+_, _≤_};
 ghost use lib.Dec.{leb};
 ghost use lib.ListN.{length};
-ghost use Rattle.table.specs.Records.{Sound, exprOf};
+ghost use Rattle.accepted.specs.Records.{Sound, exprOf};
 ghost use Rattle.bindings.specs.Bringing.{literalFor, accepted, said, Outcome, outcomeOf, emptied};
 use building::cell_room;
 use building::text_room;

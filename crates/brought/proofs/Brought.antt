@@ -25,7 +25,7 @@ use Rattle.laws.proofs.Reading.{was-read}
 use Rattle.laws.proofs.TableFormed.{table-formed}
 use Rattle.laws.proofs.Spelled.{literal-sound, spelled-well-formed}
 use Rattle.laws.proofs.BoundValues.{withBinding}
-use Rattle.table.specs.Records.{exprOf}
+use Rattle.accepted.specs.Records.{exprOf}
 use Rattle.rooms.specs.declared.value.Value.{Value}
 use Rattle.rooms.specs.declared.value.Value.the-variants as Value
 use Rattle.rooms.specs.Value.{nestingOf}

@@ -2,7 +2,7 @@
 ghost use mathlib.Core.Path.{_≡_};
 ghost use Prim.Native.Nat.{min};
 ghost use Rattle.meaning.specs.Limits.{mostSteps};
-ghost use Rattle.table.specs.Records.{Sound, exprOf};
+ghost use Rattle.accepted.specs.Records.{Sound, exprOf};
 ghost use Rattle.rooms.specs.Rooms.{Rooms, rooms};
 ghost use Rattle.machine.specs.Answer.{answered};
 ghost use Rattle.answers.specs.declared.Answer.{Answer};

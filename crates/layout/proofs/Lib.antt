@@ -1,4 +1,3 @@
--- What the functions' proofs and the crates above rest on: kinds (`KindLaws`), words (`WordLaws`), numbers of 8 bytes (`LongLaws`).
+-- What the functions' proofs and the crates above rest on: kinds (`KindLaws`) and words (`WordLaws`).
 pub mod KindLaws
 pub mod WordLaws
-pub mod LongLaws

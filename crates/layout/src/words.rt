@@ -30,7 +30,7 @@ pub const SPAN_SIZE: usize = FIELDS + WORD;
 
 pub const FIELD_SIZE: usize = FIELDS + 1 + WORD;
 
-pub(crate) fn wide(byte: u8) -> usize
+pub fn wide(byte: u8) -> usize
     ensures { λ r. ⌜ (r ≡ byte) × (r < 256) ⌝ }
 {
     byte as usize

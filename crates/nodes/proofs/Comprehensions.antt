@@ -16,9 +16,9 @@ use Rattle.rooms.specs.Rooms.{Rooms}
 use Rattle.rooms.specs.Value.{partsOf}
 use Rattle.rooms.specs.Scope.{stored}
 use Rattle.layout.specs.Layout.{headBytes, wordAt, after}
-use Rattle.table.specs.Records.{exprOf, Sound}
-use Rattle.table.proofs.Opened.{opened}
-use Rattle.table.proofs.FieldLaws.{name-below}
+use Rattle.accepted.specs.Records.{exprOf, Sound}
+use Rattle.accepted.proofs.Opened.{opened}
+use Rattle.fields.proofs.FieldLaws.{name-below}
 use Rattle.machine.specs.declared.outcome.Used.{Used}
 use Rattle.machine.specs.Comprehension.{Items, Loop, AppendStep, emptyParts, turns, appendTurns, nothingGathered, loopFrom, comprehends}
 use Rattle.machine.specs.Machine.{body, machine, appendStep}

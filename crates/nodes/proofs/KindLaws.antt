@@ -9,11 +9,11 @@ use lib.ListN.{length, getD}
 use Rattle.meaning.specs.Expr.{Expr, literal, name, unary, binary, conditional, select, listOf, mapOf, comprehension, call, noneCall, orValue}
 use Rattle.meaning.specs.Kinds.{ExprKind, nullKind, boolKind, intKind, uintKind, doubleKind, stringKind, bytesKind, nameKind, unaryKind, binaryKind, conditionalKind, selectKind, listKind, mapKind, comprehensionKind, functionKind, Called, toOne, toNone, toTwo, numbered, functions}
 use Rattle.layout.proofs.KindLaws.{head-table}
-use Rattle.table.specs.Records.{exprOf, Sound, SoundPart, kindByte, callOf, node}
-use Rattle.table.proofs.HeadLaws.{Here}
-use Rattle.table.proofs.SoundLaws.{sound-here, part-here}
-use Rattle.table.proofs.Opened.{opened}
-use Rattle.table.proofs.Parts.{sound-kind}
+use Rattle.accepted.specs.Records.{exprOf, Sound, SoundPart, kindByte, callOf, node}
+use Rattle.heads.proofs.HeadLaws.{Here}
+use Rattle.accepted.proofs.SoundLaws.{sound-here, part-here}
+use Rattle.accepted.proofs.Opened.{opened}
+use Rattle.accepted.proofs.Parts.{sound-kind}
 
 -- ---- the place of an accepted record
 

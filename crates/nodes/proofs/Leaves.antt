@@ -20,9 +20,9 @@ use Rattle.rooms.specs.declared.scope.Scope.{Scope}
 use Rattle.rooms.specs.Rooms.{Rooms}
 use Rattle.rooms.specs.Scope.{slotOf}
 use Rattle.layout.specs.Layout.{wordAt, headBytes}
-use Rattle.table.specs.Records.{exprOf, Sound}
-use Rattle.table.proofs.Opened.{opened}
-use Rattle.table.proofs.FieldLaws.{name-below}
+use Rattle.accepted.specs.Records.{exprOf, Sound}
+use Rattle.accepted.proofs.Opened.{opened}
+use Rattle.fields.proofs.FieldLaws.{name-below}
 use Rattle.machine.specs.declared.outcome.Used.{Used}
 use Rattle.machine.specs.declared.outcome.Limit.the-variants as Limit
 use Rattle.machine.specs.declared.outcome.Outcome.{Outcome}

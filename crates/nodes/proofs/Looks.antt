@@ -14,7 +14,7 @@ use Rattle.meaning.specs.Expr as Expr
 use Rattle.meaning.specs.Kinds.{numbered, binaries}
 use Rattle.meaning.specs.Look.{Look, aFold, aSum, aConditional, arithLook, binaryLook, ofName, named}
 use Rattle.meaning.specs.Meaning.{look}
-use Rattle.table.specs.Records.{orElse, binaryOf}
+use Rattle.accepted.specs.Records.{orElse, binaryOf}
 use Rattle.machine.specs.Outcomes.{Does}
 use Rattle.machine.specs.Machine.{body, machine, appending, sumTo, appendStep, appendSum, itemsList}
 use Rattle.nodes.specs.Paths.{foldIn}

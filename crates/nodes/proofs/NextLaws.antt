@@ -10,7 +10,7 @@ use denote.Enum.Declared.{tagOf}
 use Rattle.rooms.specs.declared.value.Value.{Value}
 use Rattle.rooms.specs.Rooms.{Rooms}
 use Rattle.layout.specs.Layout.{headBytes, after}
-use Rattle.table.specs.Records.{exprOf, Sound}
+use Rattle.accepted.specs.Records.{exprOf, Sound}
 use Rattle.machine.specs.declared.outcome.Outcome.{Outcome}
 use Rattle.machine.specs.Outcomes.{Res, withValue}
 use Rattle.machine.specs.Literals.{fieldValue}

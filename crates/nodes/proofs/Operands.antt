@@ -14,9 +14,9 @@ use Rattle.rooms.specs.declared.value.Value.{Value}
 use Rattle.rooms.specs.declared.scope.Scope.{Scope}
 use Rattle.rooms.specs.Rooms.{Rooms}
 use Rattle.layout.specs.Layout.{headBytes, wordAt, after}
-use Rattle.table.specs.declared.records.Marks.the-variants.{Nowhere}
-use Rattle.table.specs.Records.{exprOf, Sound, Row, unaryOf, binaryOf, callOf}
-use Rattle.table.proofs.Opened.{opened}
+use Rattle.faults.specs.declared.Marks.the-variants.{Nowhere}
+use Rattle.accepted.specs.Records.{exprOf, Sound, Row, unaryOf, binaryOf, callOf}
+use Rattle.accepted.proofs.Opened.{opened}
 use Rattle.machine.specs.declared.outcome.Used.{Used}
 use Rattle.machine.specs.declared.outcome.Outcome.{Outcome}
 use Rattle.machine.specs.declared.outcome.Outcome.the-variants as Outcome

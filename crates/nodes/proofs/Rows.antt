@@ -15,10 +15,10 @@ use Rattle.meaning.specs.Table.{Part, bare, marked, addElement, addPair}
 use Rattle.rooms.specs.declared.scope.Scope.{Scope}
 use Rattle.rooms.specs.Rooms.{Rooms}
 use Rattle.layout.specs.Layout.{wordAt, after}
-use Rattle.table.specs.declared.records.Marks.the-variants.{Anywhere, Values}
-use Rattle.table.specs.Records.{exprOf, partOf, Sound, SoundPart, Row, elementsOf, pairsOf}
-use Rattle.table.proofs.Opened.{opened}
-use Rattle.table.proofs.Parts.{part-marked, part-bare, part-extent, sound-extent, row-within, first-element, first-pair}
+use Rattle.faults.specs.declared.Marks.the-variants.{Anywhere, Values}
+use Rattle.accepted.specs.Records.{exprOf, partOf, Sound, SoundPart, Row, elementsOf, pairsOf}
+use Rattle.accepted.proofs.Opened.{opened}
+use Rattle.accepted.proofs.Parts.{part-marked, part-bare, part-extent, sound-extent, row-within, first-element, first-pair}
 use Rattle.machine.specs.declared.outcome.Used.{Used}
 use Rattle.machine.specs.Outcomes.{taking}
 use Rattle.machine.specs.Containers as Containers

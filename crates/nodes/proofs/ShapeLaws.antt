@@ -14,7 +14,7 @@ use Rattle.rooms.specs.Rooms.{Rooms}
 use Rattle.machine.specs.declared.outcome.Used.{Used}
 use Rattle.machine.specs.declared.outcome.Outcome.the-variants as Outcome
 use Rattle.machine.specs.Machine.{body}
-use Rattle.table.specs.Records.{exprOf, Sound, orElse, unaryOf, binaryOf, callOf}
+use Rattle.accepted.specs.Records.{exprOf, Sound, orElse, unaryOf, binaryOf, callOf}
 use Rattle.outcomes.specs.declared.operators.Unary.{Unary}
 use Rattle.outcomes.specs.declared.operators.Unary.the-variants as Unary
 use Rattle.outcomes.specs.declared.operators.Fold.{Fold}

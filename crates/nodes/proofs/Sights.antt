@@ -13,8 +13,8 @@ use Rattle.meaning.specs.Kinds.{nameKind, binaryKind, conditionalKind}
 use Rattle.meaning.specs.Look.{ofName, named}
 use Rattle.meaning.specs.Meaning.{look}
 use Rattle.layout.specs.Layout.{headBytes, wordAt, after}
-use Rattle.table.specs.Records.{exprOf, Sound, binaryOf}
-use Rattle.table.proofs.Opened.{opened}
+use Rattle.accepted.specs.Records.{exprOf, Sound, binaryOf}
+use Rattle.accepted.proofs.Opened.{opened}
 use Rattle.machine.specs.Outcomes.{Does}
 use Rattle.machine.specs.Comprehension.{emptyParts}
 use Rattle.rooms.specs.declared.value.Value.{Value}

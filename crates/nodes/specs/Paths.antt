@@ -11,7 +11,7 @@ use Rattle.rooms.specs.Value.{partsOf}
 use Rattle.layout.specs.Layout.{wordAt}
 use lib.ListN.{getD}
 use Rattle.layout.specs.Layout.{after}
-use Rattle.table.specs.Records.{Sound, exprOf}
+use Rattle.accepted.specs.Records.{Sound, exprOf}
 use Rattle.machine.specs.declared.outcome.Error.{Error}
 use Rattle.machine.specs.declared.outcome.Outcome.{Outcome}
 use Rattle.machine.specs.declared.outcome.Outcome.the-variants as Outcome

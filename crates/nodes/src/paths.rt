@@ -5,22 +5,22 @@ ghost use lib.ListN.{getD};
 ghost use Rattle.meaning.specs.Look.{ofName, named};
 ghost use Rattle.meaning.specs.Meaning.{look};
 ghost use Rattle.layout.specs.Layout.{after};
-ghost use Rattle.table.specs.Records.{Sound, exprOf, binaryOf};
+ghost use Rattle.accepted.specs.Records.{Sound, exprOf, binaryOf};
 ghost use Rattle.machine.specs.Machine.{appendSum, appendStep};
 ghost use Rattle.loops.specs.Loops.{foldsSeen};
 ghost use Rattle.nodes.specs.Paths.{placesAt, foldIn, pathOf, pathSeen, PathIn, itemsSeen, ItemsIn};
+use bodies::number_at;
+use bodies::second_at;
 use layout::kinds::BINARY;
 use layout::kinds::CONDITIONAL;
 use layout::kinds::LIST;
 use layout::kinds::NAME;
-use layout::readers::end_at;
-use layout::readers::first_operand;
-use layout::readers::kind_at;
-use layout::readers::number_at;
-use layout::readers::second_at;
 use loops::Folds;
 use loops::is_empty_list;
 use outcomes::operators::Fold;
+use outline::end_at;
+use outline::first_operand;
+use outline::kind_at;
 use rooms::value::Value;
 
 // The names and the operands of a comprehension that its loop needs.

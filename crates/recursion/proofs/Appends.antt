@@ -14,7 +14,7 @@ use Rattle.rooms.specs.declared.scope.Scope.{Scope}
 use Rattle.rooms.specs.Rooms.{Rooms, rooms, wordsOf, cellAt}
 use Rattle.rooms.specs.Cells.{cellIn}
 use Rattle.rooms.specs.Scope.{stored, slotOf}
-use Rattle.table.specs.Records.{exprOf, Sound}
+use Rattle.accepted.specs.Records.{exprOf, Sound}
 use Rattle.machine.specs.declared.outcome.Used.{Used}
 use Rattle.machine.specs.declared.outcome.Limit.the-variants as Limit
 use Rattle.machine.specs.declared.outcome.Outcome.{Outcome}

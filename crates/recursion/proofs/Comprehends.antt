@@ -16,7 +16,7 @@ use Rattle.rooms.specs.Value.{partsOf}
 use Rattle.rooms.specs.Rooms.{Rooms}
 use Rattle.rooms.specs.Scope.{stored}
 use Rattle.layout.specs.Layout.{wordAt, after}
-use Rattle.table.specs.Records.{exprOf, Sound}
+use Rattle.accepted.specs.Records.{exprOf, Sound}
 use Rattle.machine.specs.declared.outcome.Used.{Used}
 use Rattle.machine.specs.declared.outcome.Error.the-variants as Error
 use Rattle.machine.specs.declared.outcome.Outcome.{Outcome}

@@ -11,7 +11,7 @@ use Rattle.rooms.specs.Rooms.{Rooms}
 use Rattle.rooms.specs.Scope.{slotOf}
 use Rattle.rooms.proofs.Scopes.{read-slot}
 use Rattle.layout.specs.Layout.{wordAt, after}
-use Rattle.table.specs.Records.{exprOf, Sound, elementsOf, pairsOf}
+use Rattle.accepted.specs.Records.{exprOf, Sound, elementsOf, pairsOf}
 use Rattle.machine.specs.declared.outcome.Used.{Used}
 use Rattle.machine.specs.declared.outcome.Limit.the-variants as Limit
 use Rattle.machine.specs.declared.outcome.Outcome.{Outcome}

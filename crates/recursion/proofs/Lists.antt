@@ -12,8 +12,8 @@ use Rattle.rooms.specs.declared.scope.Scope.{Scope}
 use Rattle.rooms.specs.Rooms.{Rooms, rooms}
 use Rattle.meaning.specs.Kinds.{listKind}
 use Rattle.layout.specs.Layout.{headBytes, wordAt, after}
-use Rattle.table.specs.Records.{Sound, SoundPart, exprOf, elementsOf}
-use Rattle.table.proofs.Opened.{opened}
+use Rattle.accepted.specs.Records.{Sound, SoundPart, exprOf, elementsOf}
+use Rattle.accepted.proofs.Opened.{opened}
 use Rattle.machine.specs.declared.outcome.Used.{Used}
 use Rattle.machine.specs.declared.outcome.Outcome.{Outcome}
 use Rattle.machine.specs.declared.outcome.Outcome.the-variants as Outcome

@@ -16,8 +16,8 @@ use Rattle.comparing.specs.declared.lookup.Found.the-variants as Found
 use Rattle.comparing.specs.LookUp.{findIn}
 use Rattle.meaning.specs.Kinds.{mapKind}
 use Rattle.layout.specs.Layout.{headBytes, wordAt, after}
-use Rattle.table.specs.Records.{Sound, SoundPart, exprOf, pairsOf}
-use Rattle.table.proofs.Opened.{opened}
+use Rattle.accepted.specs.Records.{Sound, SoundPart, exprOf, pairsOf}
+use Rattle.accepted.proofs.Opened.{opened}
 use Rattle.machine.specs.declared.outcome.Used.{Used}
 use Rattle.machine.specs.declared.outcome.Outcome.{Outcome}
 use Rattle.machine.specs.declared.outcome.Outcome.the-variants as Outcome

@@ -13,7 +13,7 @@ use Rattle.rooms.specs.declared.scope.Scope.{Scope}
 use Rattle.rooms.specs.Rooms.{Rooms, rooms}
 use Rattle.rooms.specs.Scope.{slotOf}
 use Rattle.rooms.proofs.Scopes.{read-slot}
-use Rattle.table.specs.Records.{exprOf, Sound}
+use Rattle.accepted.specs.Records.{exprOf, Sound}
 use Rattle.machine.specs.declared.outcome.Used.{Used}
 use Rattle.machine.specs.declared.outcome.Outcome.{Outcome}
 use Rattle.machine.specs.Machine.{machine}

@@ -9,8 +9,8 @@ use native.Mathlib.Omega.{arith}
 use lib.ListN.{length, getD}
 use Rattle.layout.specs.Layout.{wordAt}
 use Rattle.layout.proofs.KindLaws.{head-table}
-use Rattle.table.specs.Records.{Sound}
-use Rattle.table.proofs.SoundLaws.{sound-here}
+use Rattle.accepted.specs.Records.{Sound}
+use Rattle.accepted.proofs.SoundLaws.{sound-here}
 use Rattle.meaning.specs.Expr.{LogicalFold}
 use Rattle.rooms.specs.declared.value.Value.{Value}
 use Rattle.rooms.specs.declared.value.CellSpace.{CellSpace}

@@ -87,7 +87,7 @@ fn string_fits(text: &[u8], bytes: usize, space: TextSpace, first: u16, length: 
     if !span_fits(bytes, space, first, length) {
         return false;
     }
-    text::utf8::well_formed(part(text, first as usize, length as usize))
+    utf8::well_formed(part(text, first as usize, length as usize))
 }
 
 fn map_fits(

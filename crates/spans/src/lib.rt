@@ -115,20 +115,12 @@ pub fn part_points(
     ensures { λ r. ⌜ r ≡ codePoints (part (textOf (now (literal .entry)) (now («binding_text» .entry)) (now (text .entry)) space) first length) ⌝ }
 {
     match space {
-        TextSpace::Literal => text::utf8::code_points(part(
-            literal,
-            first as usize,
-            length as usize,
-        )),
-        TextSpace::Binding => text::utf8::code_points(part(
+        TextSpace::Literal => utf8::code_points(part(literal, first as usize, length as usize)),
+        TextSpace::Binding => utf8::code_points(part(
             binding_text,
             first as usize,
             length as usize,
         )),
-        TextSpace::Evaluation => text::utf8::code_points(part(
-            text,
-            first as usize,
-            length as usize,
-        )),
+        TextSpace::Evaluation => utf8::code_points(part(text, first as usize, length as usize)),
     }
 }

@@ -15,8 +15,10 @@ use Rattle.meaning.specs.Heads.{Got, got, refused, _>>=_, _>>_, demand, orRefus
 use Rattle.meaning.specs.Table.{Part, addElement, addPair, Reader, elementsFrom, pairsFrom, span, utf8, filled, calledAt, bodyAt, asExpr, asPart}
 use Rattle.table.specs.declared.records.Read.{Read}
 use Rattle.table.specs.declared.records.Read.the-variants.{Ends, Refused}
-use Rattle.table.specs.declared.records.Marks.the-variants.{Nowhere, Anywhere, Values}
-use Rattle.table.specs.Shapes.{calledCount, exprCount, countOf, exprMarks, marksOf, mayMark, misplacedOf, isSome, exprFits, fieldsFit}
+use Rattle.faults.specs.declared.Marks.the-variants.{Nowhere, Anywhere, Values}
+use Rattle.heads.specs.Shapes.{calledCount, exprCount, countOf}
+use Rattle.faults.specs.Faults.{exprMarks, marksOf, mayMark, misplacedOf}
+use Rattle.fields.specs.Fits.{isSome, exprFits, fieldsFit}
 use Rattle.table.specs.Reading.{ends, onward, closed, operandsOf}
 
 -- ---- what follows what

@@ -8,17 +8,18 @@ use native.Mathlib.Omega.{arith}
 use lib.ListN.{getD}
 use borrow.Author.Tests.{eq-eqb, ne-eqb}
 use Rattle.meaning.specs.Errors.{Refusal, refusalNumber}
-use Rattle.meaning.specs.Kinds.{Kind}
 use Rattle.meaning.specs.Heads.{refused, _>>=_, _>>_, headAt}
 use Rattle.meaning.specs.Table.{exprAt, partAt, wordBytes}
 use Rattle.table.specs.declared.records.Read.{Read}
 use Rattle.table.specs.declared.records.Read.the-variants.{Ends, Refused}
-use Rattle.table.specs.declared.records.Marks.{Marks}
-use Rattle.table.specs.declared.heads.Head.the-variants as head
+use Rattle.faults.specs.declared.Marks.{Marks}
+use Rattle.heads.specs.declared.Head.the-variants as head
 use Rattle.layout.specs.Layout.{rowOf}
-use Rattle.table.specs.Shapes.{numbersOf, marksOf, mayMark, misplacedOf, fieldsFit, faultOf, headOf}
+use Rattle.heads.specs.Shapes.{numbersOf, headOf}
+use Rattle.faults.specs.Faults.{marksOf, mayMark, misplacedOf, faultOf}
+use Rattle.fields.specs.Fits.{fieldsFit}
 use Rattle.table.specs.Reading.{readOf, operandsOf}
-use Rattle.table.proofs.HeadLaws.{Here, headHere, countHere, Found, found, not-found}
+use Rattle.heads.proofs.HeadLaws.{Here, headHere, countHere, found, not-found}
 use Rattle.table.proofs.OperandLaws.{expr-ends, part-ends}
 
 -- ---- operands
@@ -45,25 +46,6 @@ module _ (read : Bool → ℕ → ℕ → Read) (p : ℕ) (marks : Marks) (end :
   unfolding operandsOf
   operands-unmet zero q h e = rw (ne-eqb q end e)
   operands-unmet (suc left) q h e = absurd (omega arith)
-
--- ---- the fault of a record
-
-module _ (x : List ℕ) (k : Kind) (ns : List ℕ) (marked : Bool) where
-  pub fault-deep : (levels : ℕ) → levels ≡ 0 → 4 ≡ faultOf x k ns levels marked
-  fault-deep zero e = refl
-  fault-deep (suc left) e = absurd (omega arith)
-
-  pub fault-field : (levels : ℕ) → (levels ≡ 0 → ⊥) → fieldsFit x k ns ≡ false → 5 ≡ faultOf x k ns levels marked
-  fault-field zero h e = absurd (h refl)
-  fault-field (suc left) h e = rw e
-
-  pub fault-mark : (levels : ℕ) → (levels ≡ 0 → ⊥) → fieldsFit x k ns ≡ true → misplacedOf k marked ≡ true → 6 ≡ faultOf x k ns levels marked
-  fault-mark zero h e f = absurd (h refl)
-  fault-mark (suc left) h e f = rw (e, f)
-
-  pub fault-none : (levels : ℕ) → (levels ≡ 0 → ⊥) → fieldsFit x k ns ≡ true → misplacedOf k marked ≡ false → 0 ≡ faultOf x k ns levels marked
-  fault-none zero h e f = absurd (h refl)
-  fault-none (suc left) h e f = rw (e, f)
 
 refused-for : (fits wrong : Bool) (p : ℕ) (o : Read) {n : ℕ} → n ≡ cond fits (cond wrong 6 0) 5 → (n ≡ 0 → ⊥) →
     Refused n p ≡ cond fits (cond wrong (Refused 6 p) o) (Refused 5 p)

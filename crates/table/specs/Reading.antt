@@ -8,8 +8,8 @@ use Rattle.meaning.specs.Heads.{Got, got, refused}
 use Rattle.meaning.specs.Table.{exprAt, partAt, wordBytes}
 use Rattle.table.specs.declared.records.Read.{Read}
 use Rattle.table.specs.declared.records.Read.the-variants.{Ends, Refused}
-use Rattle.table.specs.declared.records.Marks.{Marks}
-use Rattle.table.specs.Shapes.{mayMark}
+use Rattle.faults.specs.declared.Marks.{Marks}
+use Rattle.faults.specs.Faults.{mayMark}
 
 abbrev pub ends : {A : Type 0} → Got (A × ℕ) → Read
 ends (got a) = Ends (a .1)

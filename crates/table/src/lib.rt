@@ -2,16 +2,13 @@
 ghost use mathlib.Core.Path.{_≡_};
 ghost use Rattle.table.specs.Check.{checkOf};
 
-pub mod fields;
-pub mod heads;
 pub mod records;
-pub mod refusals;
 
 use crate::records::Read;
-use crate::refusals::BYTES_AFTER_ROOT;
-use crate::refusals::LONGEST_TABLE;
-use crate::refusals::RECORD_LEVELS;
-use crate::refusals::TABLE_LENGTH;
+use heads::refusals::BYTES_AFTER_ROOT;
+use heads::refusals::LONGEST_TABLE;
+use heads::refusals::RECORD_LEVELS;
+use heads::refusals::TABLE_LENGTH;
 
 // What is said of a table.
 pub enum Checked {

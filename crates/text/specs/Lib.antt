@@ -1,4 +1,3 @@
--- What the contracts cite: the order of texts (`Bytes`), UTF-8 (`Utf8`), and what the code's steps stand for (`Sequence`).
+-- What the contracts cite: the order of texts (`Bytes`), and UTF-8 (`Utf8`), which the crates above test and count.
 pub mod Bytes
 pub mod Utf8
-pub mod Sequence

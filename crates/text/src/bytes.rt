@@ -11,7 +11,7 @@ pub enum TextOrder {
 }
 
 // The shorter of two lengths.
-pub(crate) fn shorter(left: usize, right: usize) -> usize
+pub fn shorter(left: usize, right: usize) -> usize
     ensures { λ r. ⌜ r ≡ min left right ⌝ }
 {
     if left < right { left } else { right }

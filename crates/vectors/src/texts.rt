@@ -23,9 +23,9 @@ pub fn answer(name: &[u8], first: &[u8], second: &[u8]) -> Answer {
         return Answer::Unreadable;
     }
     if same(name, b"valid") {
-        Answer::Truth(text::utf8::well_formed(&left[..count]))
+        Answer::Truth(utf8::well_formed(&left[..count]))
     } else if same(name, b"points") {
-        Answer::Count(text::utf8::code_points(&left[..count]))
+        Answer::Count(utf8::code_points(&left[..count]))
     } else if same(name, b"order") {
         of_order(text::bytes::compare(&left[..count], &right[..other]))
     } else if same(name, b"equal") {

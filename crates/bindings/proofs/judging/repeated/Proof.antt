@@ -11,7 +11,7 @@ use Rattle.bindings.proofs.judging.repeated.Reads as reads
 use Rattle.bindings.proofs.judging.repeated.Lts as lts
 use Rattle.bindings.proofs.literals.literal_at.Reads as literal-at-reads
 use Rattle.comparing.proofs.plain.plain_equal.Reads as plain-equal-reads
-use Rattle.layout.proofs.readers.end_at.Reads as end-at-reads
+use Rattle.outline.proofs.end_at.Reads as end-at-reads
 
 abbrev Inv-loop : tie.InvT-loop
 Inv-loop table literal first count key at₀ left₀ t9 t10 at left = Entries table literal left at × (repeatedIn table literal key left at ≡ repeatedIn table literal key count first)

@@ -16,11 +16,11 @@ use Rattle.bindings.proofs.literals.literal_at.Tie as tie
 use Rattle.bindings.proofs.literals.literal_at.Reads as reads
 use Rattle.bindings.proofs.literals.literal_at.Lts as lts
 use Rattle.rooms.proofs.value.double_value.Reads as double-value-reads
-use Rattle.layout.proofs.readers.bits_at.Reads as bits-at-reads
-use Rattle.layout.proofs.readers.int_at.Reads as int-at-reads
-use Rattle.layout.proofs.readers.kind_at.Reads as kind-at-reads
-use Rattle.layout.proofs.readers.number_at.Reads as number-at-reads
-use Rattle.layout.proofs.readers.span_at.Reads as span-at-reads
+use Rattle.longs.proofs.bits_at.Reads as bits-at-reads
+use Rattle.longs.proofs.int_at.Reads as int-at-reads
+use Rattle.outline.proofs.kind_at.Reads as kind-at-reads
+use Rattle.bodies.proofs.number_at.Reads as number-at-reads
+use Rattle.bodies.proofs.span_at.Reads as span-at-reads
 
 -- src/literals.rt:32:11
 kind-at-requires : tie.Need-kind-at-requires

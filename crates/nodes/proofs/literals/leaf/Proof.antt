@@ -2,7 +2,7 @@
 use mathlib.Core.Path.{sym, _∙_}
 use native.Mathlib.Omega.{arith}
 use borrow.Author.Needs.{needs}
-use Rattle.table.specs.Records.{exprOf}
+use Rattle.accepted.specs.Records.{exprOf}
 use Rattle.nodes.proofs.Leaves.{leaf-out-of-steps, leaf-in-steps}
 use Rattle.nodes.proofs.literals.leaf.Statement.{statement}
 use Rattle.nodes.proofs.literals.leaf.Tie as tie

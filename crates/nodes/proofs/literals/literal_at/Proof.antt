@@ -5,7 +5,7 @@ use mir.Syntax.{w64}
 use mir.ValLaws.{toZ-ofZ}
 use borrow.Author.Needs.{sfits-of, needs}
 use Rattle.meaning.specs.Kinds.{nullKind, boolKind, intKind, uintKind, doubleKind, stringKind, bytesKind}
-use Rattle.table.proofs.Opened.{opened}
+use Rattle.accepted.proofs.Opened.{opened}
 use Rattle.nodes.proofs.Leaves.{same-word, only-null}
 use Rattle.nodes.proofs.literals.literal_at.Statement.{statement}
 use Rattle.nodes.proofs.literals.literal_at.Tie as tie

@@ -3,7 +3,7 @@ use mathlib.Core.Path.{sym, _∙_}
 use native.Mathlib.Omega.{arith}
 use borrow.Author.Needs.{needs}
 use Rattle.meaning.specs.Kinds.{nameKind}
-use Rattle.table.proofs.Opened.{opened}
+use Rattle.accepted.proofs.Opened.{opened}
 use Rattle.nodes.proofs.KindLaws.{sound-stands}
 use Rattle.nodes.proofs.Leaves.{name-slot, no-name-slot, name-number}
 use Rattle.nodes.proofs.literals.slot_at.Statement.{statement}

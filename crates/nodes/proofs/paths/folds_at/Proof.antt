@@ -2,7 +2,7 @@
 use Prim.Native.Nat.{ℕ}
 use mathlib.Core.Path.{sym, _∙_, ap}
 use borrow.Author.Needs.{needs}
-use Rattle.table.specs.Records.{binaryOf}
+use Rattle.accepted.specs.Records.{binaryOf}
 use Rattle.nodes.specs.Paths.{foldIn}
 use Rattle.nodes.proofs.KindLaws.{sound-stands}
 use Rattle.nodes.proofs.Sights.{binary-at, fold-unseen, fold-taken, fold-left}

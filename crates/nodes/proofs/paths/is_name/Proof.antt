@@ -2,7 +2,7 @@
 use mathlib.Core.Path.{sym, _∙_}
 use borrow.Author.Needs.{needs}
 use Rattle.meaning.specs.Kinds.{nameKind}
-use Rattle.table.proofs.Opened.{opened}
+use Rattle.accepted.proofs.Opened.{opened}
 use Rattle.nodes.proofs.KindLaws.{sound-stands}
 use Rattle.nodes.proofs.Sights.{name-seen, name-unseen}
 use Rattle.nodes.proofs.paths.is_name.Statement.{statement}

@@ -4,8 +4,8 @@ use mathlib.Core.Path.{sym, _∙_, ap}
 use native.Mathlib.Omega.{arith}
 use borrow.Author.Needs.{needs}
 use Rattle.meaning.specs.Kinds.{unaryKind, binaryKind, conditionalKind, selectKind, listKind, mapKind, comprehensionKind, functionKind}
-use Rattle.table.specs.Records.{unaryOf, binaryOf}
-use Rattle.table.proofs.Opened.{opened}
+use Rattle.accepted.specs.Records.{unaryOf, binaryOf}
+use Rattle.accepted.proofs.Opened.{opened}
 use Rattle.nodes.specs.Records.{callShape}
 use Rattle.nodes.proofs.KindLaws.{sound-stands, leaf-here}
 use Rattle.nodes.proofs.ShapeLaws.{unary-here, binary-here, call-here, leaf-shape-here}

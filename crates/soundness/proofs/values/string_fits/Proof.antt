@@ -9,7 +9,7 @@ use Rattle.soundness.proofs.values.string_fits.Reads as reads
 use Rattle.soundness.proofs.values.string_fits.Lts as lts
 use Rattle.spans.proofs.part.Reads as part-reads
 use Rattle.soundness.proofs.values.span_fits.Reads as span-fits-reads
-use Rattle.text.proofs.utf8.well_formed.Reads as well-formed-reads
+use Rattle.utf8.proofs.well_formed.Reads as well-formed-reads
 
 -- src/values.rt:86:9
 span-fits-requires : tie.Need-span-fits-requires

@@ -6,10 +6,10 @@ use Rattle.table.proofs.records.operands_at.Reads as operands-at
 use Rattle.table.proofs.records.+operands_at+record_at.Lts-operands_at as operands-at-lts
 use Rattle.table.proofs.records.record_at.Reads as record-at
 use Rattle.table.proofs.records.+operands_at+record_at.Lts-record_at as record-at-lts
-use Rattle.table.proofs.heads.head_at.Reads as head-at-reads
-use Rattle.table.proofs.records.fault.Reads as fault-reads
-use Rattle.table.proofs.records.marks_of.Reads as marks-of-reads
-use Rattle.table.proofs.records.may_mark.Reads as may-mark-reads
+use Rattle.heads.proofs.head_at.Reads as head-at-reads
+use Rattle.faults.proofs.fault.Reads as fault-reads
+use Rattle.faults.proofs.marks_of.Reads as marks-of-reads
+use Rattle.faults.proofs.may_mark.Reads as may-mark-reads
 use Rattle.table.proofs.records.+operands_at+record_at.{statement}
 use Rattle.table.proofs.records.+operands_at+record_at.Tie.{close}
 use Rattle.table.proofs.records.+operands_at+record_at.Proof.Kit.{μ-operands-at, μ-record-at, operands-at-at, operands-at-below, record-at-at, record-at-below}

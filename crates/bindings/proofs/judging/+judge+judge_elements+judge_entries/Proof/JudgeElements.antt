@@ -27,10 +27,10 @@ use Rattle.bindings.proofs.judging.nothing_judged.Reads as nothing-judg
 use Rattle.bindings.proofs.judging.with_key.Reads as with-key-reads
 use Rattle.bindings.proofs.judging.without_parts.Reads as without-parts-reads
 use Rattle.bindings.proofs.literals.literal_at.Reads as literal-at-reads
-use Rattle.layout.proofs.readers.count_at.Reads as count-at-reads
-use Rattle.layout.proofs.readers.end_at.Reads as end-at-reads
-use Rattle.layout.proofs.readers.first_operand.Reads as first-operand-reads
-use Rattle.layout.proofs.readers.kind_at.Reads as kind-at-reads
+use Rattle.bodies.proofs.count_at.Reads as count-at-reads
+use Rattle.outline.proofs.end_at.Reads as end-at-reads
+use Rattle.outline.proofs.first_operand.Reads as first-operand-reads
+use Rattle.outline.proofs.kind_at.Reads as kind-at-reads
 use Rattle.bindings.proofs.judging.+judge+judge_elements+judge_entries.Proof.Kit.{μ-judge, μ-judge-elements, μ-judge-entries, judge-at, judge-below, judge-elements-at, judge-elements-below, judge-entries-at, judge-entries-below, judge-claims, judge-elements-claims, judge-entries-claims}
 
 abbrev pub judge-elements-Inv-loop : judge-elements-lts.InvT-loop

@@ -26,10 +26,10 @@ use Rattle.bindings.proofs.judging.nothing_judged.Reads as nothing-judg
 use Rattle.bindings.proofs.judging.with_key.Reads as with-key-reads
 use Rattle.bindings.proofs.judging.without_parts.Reads as without-parts-reads
 use Rattle.bindings.proofs.literals.literal_at.Reads as literal-at-reads
-use Rattle.layout.proofs.readers.count_at.Reads as count-at-reads
-use Rattle.layout.proofs.readers.end_at.Reads as end-at-reads
-use Rattle.layout.proofs.readers.first_operand.Reads as first-operand-reads
-use Rattle.layout.proofs.readers.kind_at.Reads as kind-at-reads
+use Rattle.bodies.proofs.count_at.Reads as count-at-reads
+use Rattle.outline.proofs.end_at.Reads as end-at-reads
+use Rattle.outline.proofs.first_operand.Reads as first-operand-reads
+use Rattle.outline.proofs.kind_at.Reads as kind-at-reads
 
 abbrev pub μ-judge : Measures 2 judge-kinds.ps ℕ
 μ-judge κs a = 2 * wordAt (a .0 .now) (a .1 .1 .0 + 1)

@@ -21,10 +21,10 @@ use Rattle.bindings.proofs.literals.literal_at.Reads as literal-at-read
 use Rattle.cells.proofs.write_cell.Reads as write-cell-reads
 use Rattle.rooms.proofs.value.nesting_of.Reads as nesting-of-reads
 use Rattle.soundness.proofs.values.deeper.Reads as deeper-reads
-use Rattle.layout.proofs.readers.count_at.Reads as count-at-reads
-use Rattle.layout.proofs.readers.end_at.Reads as end-at-reads
-use Rattle.layout.proofs.readers.first_operand.Reads as first-operand-reads
-use Rattle.layout.proofs.readers.kind_at.Reads as kind-at-reads
+use Rattle.bodies.proofs.count_at.Reads as count-at-reads
+use Rattle.outline.proofs.end_at.Reads as end-at-reads
+use Rattle.outline.proofs.first_operand.Reads as first-operand-reads
+use Rattle.outline.proofs.kind_at.Reads as kind-at-reads
 
 abbrev pub μ-lay : Measures 4 lay-kinds.ps ℕ
 μ-lay κs a = 2 * wordAt (a .0 .now) (a .1 .1 .1 .1 .0 + 1)

@@ -37,9 +37,9 @@ use Rattle.loops.proofs.gather_items.Reads as gather-items-reads
 use Rattle.loops.proofs.range_of.Reads as range-of-reads
 use Rattle.loops.proofs.step_of.Reads as step-of-reads
 use Rattle.joins.proofs.both.after_both.Reads as after-both-reads
-use Rattle.layout.proofs.readers.count_at.Reads as count-at-reads
-use Rattle.layout.proofs.readers.end_at.Reads as end-at-reads
-use Rattle.layout.proofs.readers.first_operand.Reads as first-operand-reads
+use Rattle.bodies.proofs.count_at.Reads as count-at-reads
+use Rattle.outline.proofs.end_at.Reads as end-at-reads
+use Rattle.outline.proofs.first_operand.Reads as first-operand-reads
 use Rattle.outcomes.proofs.logic.asks.Reads as asks-reads
 use Rattle.outcomes.proofs.outcomes.out_of_cells.Reads as out-of-cells-reads
 use Rattle.outcomes.proofs.outcomes.out_of_steps.Reads as out-of-steps-reads

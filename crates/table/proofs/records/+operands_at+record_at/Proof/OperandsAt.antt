@@ -8,7 +8,7 @@ use Rattle.table.proofs.RecordLaws.{operands-stop, operands-again, oper
 use Rattle.table.proofs.records.operands_at.Reads as operands-at
 use Rattle.table.proofs.records.+operands_at+record_at.Lts-operands_at as operands-at-lts
 use Rattle.table.proofs.records.record_at.Reads as record-at
-use Rattle.table.proofs.records.may_mark.Reads as may-mark-reads
+use Rattle.faults.proofs.may_mark.Reads as may-mark-reads
 use Rattle.table.proofs.records.+operands_at+record_at.Proof.Kit.{operands-at-at, record-at-below}
 
 abbrev pub operands-at-Inv-loop : operands-at-lts.InvT-loop

@@ -3,14 +3,14 @@ use borrow.Author.Needs.{needs}
 use mathlib.Core.Path.{sym, _∙_}
 use Prim.Native.Nat.{ℕ, _-_}
 use native.Mathlib.Omega.{arith}
-use Rattle.table.proofs.HeadLaws.{found}
+use Rattle.heads.proofs.HeadLaws.{found}
 use Rattle.table.proofs.RecordLaws.{refused-head, faulty, level-left, leaf-ends, goes-on}
 use Rattle.table.proofs.records.operands_at.Reads as operands-at
 use Rattle.table.proofs.records.record_at.Reads as record-at
 use Rattle.table.proofs.records.+operands_at+record_at.Lts-record_at as record-at-lts
-use Rattle.table.proofs.heads.head_at.Reads as head-at-reads
-use Rattle.table.proofs.records.fault.Reads as fault-reads
-use Rattle.table.proofs.records.marks_of.Reads as marks-of-reads
+use Rattle.heads.proofs.head_at.Reads as head-at-reads
+use Rattle.faults.proofs.fault.Reads as fault-reads
+use Rattle.faults.proofs.marks_of.Reads as marks-of-reads
 use Rattle.table.proofs.records.+operands_at+record_at.Proof.Kit.{operands-at-below, record-at-at}
 
 pub record-at-head-at-requires : (t : ℕ) → record-at-lts.Need-head-at-requires (

@@ -1,0 +1,3 @@
+-- The records of an accepted table (`Records`), and a walk over them (`Walk`).
+pub mod Records
+pub mod Walk

@@ -1,0 +1,2 @@
+-- What the contracts cite: one sequence of the table (`Sequence`).
+pub mod Sequence

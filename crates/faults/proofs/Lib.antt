@@ -1,0 +1,2 @@
+-- What the functions' proofs rest on: marks and faults (`FaultLaws`).
+pub mod FaultLaws

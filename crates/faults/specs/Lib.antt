@@ -1,0 +1,2 @@
+-- What the contracts cite: marks, and the first fault of a record (`Faults`).
+pub mod Faults

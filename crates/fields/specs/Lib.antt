@@ -1,0 +1,2 @@
+-- What the contracts cite: whether fields are right (`Fits`).
+pub mod Fits

@@ -1,0 +1,2 @@
+-- What the contracts cite: heads of records (`Shapes`).
+pub mod Shapes

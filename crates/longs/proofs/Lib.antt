@@ -1,0 +1,2 @@
+-- What the functions' proofs rest on: numbers of 8 bytes (`LongLaws`).
+pub mod LongLaws

@@ -1,0 +1,2 @@
+-- What the loops' proofs cite (`Utf8Steps`).
+pub mod Utf8Steps
