@@ -27,8 +27,8 @@ use Rattle.soundness.specs.declared.Bindings.{Bindings}
 use Rattle.soundness.specs.declared.Soundness.{Soundness}
 use Rattle.soundness.specs.declared.Soundness.the-variants.{Sound, Unsound}
 use Rattle.soundness.specs.Sound.{soundOf}
-use Rattle.soundness.specs.Held.{aliveBelow}
-use Rattle.soundness.proofs.SoundScope.{sound-scope, room-scope}
+use Rattle.held.specs.Held.{aliveBelow}
+use Rattle.held.proofs.SoundScope.{sound-scope, room-scope}
 use Rattle.machine.specs.declared.outcome.Outcome.{Outcome}
 use Rattle.machine.specs.Outcomes.{Res}
 use Rattle.machine.specs.Refines.{errorOf, limitOf, Below}

@@ -45,12 +45,12 @@ use Rattle.rooms.specs.Reading.{reading}
 use Rattle.soundness.specs.declared.Bindings.{Bindings}
 use Rattle.soundness.specs.declared.Soundness.the-variants.{Sound, Unsound}
 use Rattle.soundness.specs.Sound.{soundOf}
-use Rattle.soundness.specs.Held.{roomOf}
+use Rattle.held.specs.Held.{roomOf}
 use Rattle.machine.specs.declared.outcome.Used.{Used}
 use Rattle.machine.specs.Refines.{countsOf}
 use Rattle.machine.specs.Answer.{CellsHave}
-use Rattle.reading.specs.Shown.{Shows}
-use Rattle.reading.proofs.Showing.{shows}
+use Rattle.readable.specs.Shown.{Shows}
+use Rattle.readable.proofs.Showing.{shows}
 use Rattle.answers.specs.declared.Answer.{Answer}
 use Rattle.answers.specs.declared.Answer.the-variants as Answer
 use Rattle.answers.specs.Evaluated.{accepted}

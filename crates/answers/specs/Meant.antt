@@ -14,7 +14,7 @@ use Rattle.meaning.specs.Answer.{Answered, refusal, ran, answerRead}
 use Rattle.rooms.specs.Rooms.{Rooms}
 use Rattle.rooms.specs.Reading.{reading}
 use Rattle.soundness.specs.declared.Bindings.{Bindings}
-use Rattle.soundness.specs.Held.{roomOf}
+use Rattle.held.specs.Held.{roomOf}
 use Rattle.machine.specs.declared.outcome.Used.{Used}
 use Rattle.machine.specs.Refines.{countsOf}
 use Rattle.machine.specs.Answer.{CellsHave}

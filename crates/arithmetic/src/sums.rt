@@ -53,8 +53,8 @@ fn join_texts(
         return Joined::Full;
     };
     let to = end as u16;
-    building::copy_text(literal, binding_text, text, space, first, length, to);
-    building::copy_text(literal, binding_text, text, other, from, count, to + length);
+    copying::copy_text(literal, binding_text, text, space, first, length, to);
+    copying::copy_text(literal, binding_text, text, other, from, count, to + length);
     Joined::At(to, all as u16, with_bytes(used, after))
 }
 
@@ -175,12 +175,12 @@ fn join_lists(
 {
     let base = used.cells;
     let all = (length as usize) + (count as usize);
-    let Taken::To(end) = building::take_cells(cells, base, all) else {
+    let Taken::To(end) = clearing::take_cells(cells, base, all) else {
         return out_of_cells(used);
     };
     let to = base as u16;
-    building::copy_cells(binding_cells, cells, space, first, length, to);
-    building::copy_cells(binding_cells, cells, other, from, count, to + length);
+    copying::copy_cells(binding_cells, cells, space, first, length, to);
+    copying::copy_cells(binding_cells, cells, other, from, count, to + length);
     Outcome::Value(
         Value::List(deep, CellSpace::Evaluation, to, all as u16),
         with_cells(used, end),

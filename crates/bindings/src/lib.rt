@@ -1,123 +1,11 @@
 // Bindings are brought into a room from tables of literals, refused, and emptied. A refusal changes nothing that is lent.
 ghost use mathlib.Core.Path.{_≡_};
-ghost use Prim.Native.Nat.{_+_, _≤_};
-ghost use lib.Dec.{leb};
-ghost use lib.ListN.{length};
-ghost use Rattle.accepted.specs.Records.{Sound, exprOf};
-ghost use Rattle.bindings.specs.Bringing.{literalFor, accepted, said, Outcome, outcomeOf, emptied};
-use building::cell_room;
-use building::text_room;
-use rooms::scope::NAMES;
+ghost use Rattle.admission.specs.Bringing.{Outcome, outcomeOf, emptied};
+use admission::Answer;
+use admission::Brought;
+use admission::judge_all;
 use rooms::scope::Scope;
 use soundness::Bindings;
-use soundness::Soundness;
-use soundness::values::is_absent;
-use table::Checked;
-
-pub mod judging;
-pub mod laying;
-pub mod literals;
-pub mod refusals;
-
-use crate::judging::Fault;
-use crate::refusals::BINDING_ROOM_FULL;
-use crate::refusals::NAME_BOUND;
-use crate::refusals::NOT_A_LITERAL;
-use crate::refusals::UNSOUND_BINDING;
-use crate::refusals::WRONG_FIELD;
-
-// Values nest at most so deep.
-const DEEPEST: usize = 32;
-
-pub enum Answer {
-    Done,
-    // A refusal's number, and the place at fault.
-    Refused(u8, usize),
-}
-
-// The answer, with the bindings afterwards: of a refusal, those that were.
-pub struct Brought {
-    pub answer: Answer,
-    pub bindings: Bindings,
-}
-
-// Whether so much more fits, of a room of which some is used.
-fn has_room(room: usize, used: usize, need: usize) -> bool
-    ensures { λ r. ⌜ r ≡ leb (used + need) room ⌝ }
-{
-    if room < used {
-        return false;
-    }
-    need <= room - used
-}
-
-// An accepted table: what it is made of, how deep it nests, its keys, and then the room.
-fn judge_table(
-    table: &[u8],
-    literal: &[u8],
-    room_cells: usize,
-    room_bytes: usize,
-    cells: usize,
-    bytes: usize,
-) -> Answer
-    requires { ⌜ Sound (now table) (now literal) 0 × (length (now table) ≤ 16384) ⌝ }
-    ensures { λ r. ⌜ r ≡ said (literalFor «room_cells» «room_bytes» cells bytes (exprOf (now (table .entry)) (now (literal .entry)) 0)) ⌝ }
-{
-    let judged = judging::judge(table, literal, 0);
-    let other = judged.other;
-    if let Fault::At(place) = other {
-        return Answer::Refused(NOT_A_LITERAL, place);
-    }
-    if DEEPEST < judged.nesting {
-        return Answer::Refused(UNSOUND_BINDING, 0);
-    }
-    let key = judged.key;
-    if let Fault::At(place) = key {
-        return Answer::Refused(UNSOUND_BINDING, place);
-    }
-    if !has_room(room_cells, cells, judged.cells) {
-        return Answer::Refused(BINDING_ROOM_FULL, 0);
-    }
-    if !has_room(room_bytes, bytes, judged.bytes) {
-        return Answer::Refused(BINDING_ROOM_FULL, 0);
-    }
-    Answer::Done
-}
-
-// Whether a binding may be brought in, in the order of the refusals: the room, the name, the table, what it spells, how much of it.
-fn judge_all(
-    cells: &[u64],
-    text: &[u8],
-    bindings: Bindings,
-    name: usize,
-    table: &[u8],
-    literal: &[u8],
-) -> Answer
-    ensures { λ r. ⌜ r ≡ said (accepted (now (cells .entry)) (now (text .entry)) bindings name (now (table .entry)) (now (literal .entry))) ⌝ }
-{
-    let soundness = soundness::sound(cells, text, bindings);
-    if let Soundness::Unsound(place) = soundness {
-        return Answer::Refused(UNSOUND_BINDING, place);
-    }
-    if NAMES <= name {
-        return Answer::Refused(WRONG_FIELD, 0);
-    }
-    let scope = bindings.scope;
-    if !is_absent(Scope::value_of(scope, name)) {
-        return Answer::Refused(NAME_BOUND, 0);
-    }
-    match table::check(table, literal) {
-        Checked::Refused(number, place) => Answer::Refused(number, place),
-        Checked::Accepted => judge_table(
-            table,
-            literal,
-            cell_room(cells),
-            text_room(text),
-            bindings.cells,
-            bindings.bytes,
-        ),
-    }
-}
 
 // Brings in the value that a table spells, under a name that has none.
 pub fn bring_in(
@@ -137,7 +25,7 @@ pub fn bring_in(
             bindings,
         };
     }
-    let laid = laying::lay(
+    let laid = laid::lay(
         table,
         literal,
         cells,

@@ -1,6 +1,6 @@
 // What is written of a call: the answer, the used counts, and a digest each of the lent cells, the lent text and the slots.
 use crate::digest;
-use bindings::Answer;
+use admission::Answer;
 use cells::write_cell;
 use libc::STDOUT_FILENO;
 use rooms::scope::Scope;

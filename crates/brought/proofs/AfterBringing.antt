@@ -11,8 +11,8 @@ use Rattle.meaning.specs.WellFormed.{AllBytes}
 use Rattle.laws.proofs.BoundValues.{brought-value}
 use Rattle.laws.proofs.Bystanders.{others-kept}
 use Rattle.soundness.specs.declared.Bindings.{Bindings}
-use Rattle.soundness.specs.Held.{heldScope}
-use Rattle.bindings.specs.Bringing.{Outcome, outcomeOf}
+use Rattle.held.specs.Held.{heldScope}
+use Rattle.admission.specs.Bringing.{Outcome, outcomeOf}
 use Rattle.brought.specs.Brings.{StandsFor, Holds, Brings}
 use Rattle.brought.proofs.Brought.{brings-in}
 

@@ -38,16 +38,16 @@ use Rattle.rooms.proofs.ReadBack.{reads}
 use Rattle.rooms.proofs.Scopes.{scope-empty, no-slot, stored-same, stored-other}
 use Rattle.soundness.specs.declared.Bindings.{Bindings}
 use Rattle.soundness.specs.declared.Soundness.the-variants.{Sound}
-use Rattle.soundness.specs.Fits.{valueFits, isAbsent, slotFits}
+use Rattle.references.specs.Fits.{valueFits, isAbsent, slotFits}
 use Rattle.soundness.specs.Sound.{soundOf}
-use Rattle.soundness.specs.Held.{bindingRooms, heldScope, roomOf, aliveBelow}
-use Rattle.soundness.proofs.Goods.{SoundRoom, sound-room, room-sound}
-use Rattle.soundness.proofs.SoundScope.{absent-is, beyond, fits-held, held-read, room-scope}
-use Rattle.bindings.specs.Laying.{Room, room, laid}
-use Rattle.bindings.specs.Bringing.{literalFor, accepted, bound, after, outcomeOf, emptied}
-use Rattle.bindings.proofs.LayLaws.{laid-cells, laid-bytes}
-use Rattle.bindings.proofs.SpelledLaws.{spells-cells, spells-bytes}
-use Rattle.bindings.proofs.AcceptedLaws.{Fits, accepted-fits}
+use Rattle.held.specs.Held.{bindingRooms, heldScope, roomOf, aliveBelow}
+use Rattle.held.proofs.Goods.{SoundRoom, sound-room, room-sound}
+use Rattle.held.proofs.SoundScope.{absent-is, beyond, fits-held, held-read, room-scope}
+use Rattle.scalars.specs.Laying.{Room, room, laid}
+use Rattle.admission.specs.Bringing.{literalFor, accepted, bound, after, outcomeOf, emptied}
+use Rattle.laid.proofs.LayLaws.{laid-cells, laid-bytes}
+use Rattle.judged.proofs.SpelledLaws.{spells-cells, spells-bytes}
+use Rattle.admission.proofs.AcceptedLaws.{Fits, accepted-fits}
 use Rattle.brought.specs.Brings.{StandsFor, Holds, Brings, BringsIn}
 use Rattle.brought.proofs.Later.{Later, take-same, drop-same, later-cell, later-text, laid-later}
 use Rattle.brought.proofs.Older.{never, fits-kept, read-kept}

@@ -34,11 +34,11 @@ use Rattle.rooms.proofs.CellLaws.{Small}
 use Rattle.rooms.proofs.Frame.{part-same}
 use Rattle.comparing.specs.Seen.{sameSeen, seenIn}
 use Rattle.comparing.proofs.SeenMeaning.{scalar-seen}
-use Rattle.soundness.specs.Keys as Keys
-use Rattle.soundness.specs.Keys.{isKey, repeatedIn, keysFit}
-use Rattle.soundness.specs.Fits.{valueFits}
-use Rattle.soundness.specs.Held.{aliveBelow}
-use Rattle.bindings.specs.Laying.{Room, typed, laidScalar}
+use Rattle.mapkeys.specs.Keys as Keys
+use Rattle.mapkeys.specs.Keys.{isKey, repeatedIn, keysFit}
+use Rattle.references.specs.Fits.{valueFits}
+use Rattle.held.specs.Held.{aliveBelow}
+use Rattle.scalars.specs.Laying.{Room, typed, laidScalar}
 use Rattle.brought.proofs.Later.{typed-long, typed-away}
 use Rattle.brought.proofs.Older.{all-true, span-fits, string-fits}
 

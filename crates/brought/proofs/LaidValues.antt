@@ -22,13 +22,13 @@ use Rattle.rooms.specs.Cells.{cellIn}
 use Rattle.rooms.specs.Rooms.{rooms, cellAt}
 use Rattle.rooms.specs.Stands.{Stands, StandsCells, StandsEntries}
 use Rattle.rooms.proofs.CellLaws.{small-back, written-length, written-words, written-other}
-use Rattle.soundness.specs.Keys.{keysFit}
-use Rattle.soundness.specs.Fits.{deepestIn, valueFits}
-use Rattle.soundness.specs.Held.{aliveBelow}
-use Rattle.soundness.proofs.Goods.{row-good, map-good}
-use Rattle.bindings.specs.Laying.{Room, put, taking, laidScalar, countLiterals, countPairs, laid, laidRow, laidPairs}
-use Rattle.bindings.proofs.LayLaws.{laid-nesting}
-use Rattle.bindings.proofs.SpelledLaws.{Spells, spellsScalar, spellsList, spellsMap, SpellsAll, spellsNone, spellsMore, SpellsPairs, spellsNoPairs, spellsPair}
+use Rattle.mapkeys.specs.Keys.{keysFit}
+use Rattle.references.specs.Fits.{deepestIn, valueFits}
+use Rattle.held.specs.Held.{aliveBelow}
+use Rattle.held.proofs.Goods.{row-good, map-good}
+use Rattle.scalars.specs.Laying.{Room, put, taking, laidScalar, countLiterals, countPairs, laid, laidRow, laidPairs}
+use Rattle.laid.proofs.LayLaws.{laid-nesting}
+use Rattle.judged.proofs.SpelledLaws.{Spells, spellsScalar, spellsList, spellsMap, SpellsAll, spellsNone, spellsMore, SpellsPairs, spellsNoPairs, spellsPair}
 use Rattle.brought.proofs.Later.{Later, later-cell, later-text, put-later, later-then, laid-later, row-later, pairs-later}
 use Rattle.brought.proofs.Older.{never, row-fits, map-fits}
 use Rattle.brought.proofs.LaidScalars.{Good, scalar-laid, keys-laid}

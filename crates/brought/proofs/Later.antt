@@ -15,7 +15,7 @@ use Rattle.rooms.specs.declared.value.Value.{Value}
 use Rattle.rooms.specs.declared.value.Value.the-variants as Value
 use Rattle.rooms.specs.Cells.{cellOf, headOf, payloadOf, hasCell, cellIn, writtenIn}
 use Rattle.rooms.proofs.CellLaws.{written-length}
-use Rattle.bindings.specs.Laying.{Room, typed, withText, taking, put, laidScalar, countLiterals, countPairs, laid, laidRow, laidPairs}
+use Rattle.scalars.specs.Laying.{Room, typed, withText, taking, put, laidScalar, countLiterals, countPairs, laid, laidRow, laidPairs}
 
 -- ---- lists by their elements
 

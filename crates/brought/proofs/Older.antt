@@ -21,11 +21,11 @@ use Rattle.rooms.specs.Rooms.{cellAt, part}
 use Rattle.rooms.specs.Reading.{Reader, elementsIn, entriesIn, readBy, readTo}
 use Rattle.rooms.proofs.Frame.{part-same}
 use Rattle.comparing.specs.Seen.{seenScalar, seenOf, sameSeen}
-use Rattle.soundness.specs.Keys as Keys
-use Rattle.soundness.specs.Keys.{isKey, repeatedIn, keysFit}
-use Rattle.soundness.specs.Fits.{deepestIn, spanFits, stringFits, rowFits, mapFits, valueFits}
-use Rattle.soundness.specs.Held.{bindingRooms}
-use Rattle.soundness.proofs.Goods.{both-true, span-good, string-good, row-good, map-good}
+use Rattle.mapkeys.specs.Keys as Keys
+use Rattle.mapkeys.specs.Keys.{isKey, repeatedIn, keysFit}
+use Rattle.references.specs.Fits.{deepestIn, spanFits, stringFits, rowFits, mapFits, valueFits}
+use Rattle.held.specs.Held.{bindingRooms}
+use Rattle.held.proofs.Goods.{both-true, span-good, string-good, row-good, map-good}
 
 pub never : {A : Type 0} {b : Bool} → b ≡ true → b ≡ false → A
 never e f = let z : true ≡ false = sym e ∙ f in let y : _≡_ {A = ℕ} 1 0 = ap (λ b. cond b 1 0) z in absurd (omega arith)

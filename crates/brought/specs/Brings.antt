@@ -10,9 +10,9 @@ use Rattle.meaning.specs.Bindings.{BindingRoom, scopeOf, bring}
 use Rattle.soundness.specs.declared.Bindings.{Bindings}
 use Rattle.soundness.specs.declared.Soundness.the-variants.{Sound, Unsound}
 use Rattle.soundness.specs.Sound.{soundOf}
-use Rattle.soundness.specs.Held.{heldScope}
-use Rattle.bindings.specs.declared.Answer.the-variants.{Done, Refused}
-use Rattle.bindings.specs.Bringing.{Outcome, outcomeOf}
+use Rattle.held.specs.Held.{heldScope}
+use Rattle.admission.specs.declared.Answer.the-variants.{Done, Refused}
+use Rattle.admission.specs.Bringing.{Outcome, outcomeOf}
 
 -- a lent room is sound, and each name has in it what it has in a room of the definition
 pub record StandsFor (words text : List ℕ) (b : Bindings) (room : BindingRoom) : Type 0 where

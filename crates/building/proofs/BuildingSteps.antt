@@ -1,4 +1,4 @@
--- The turns of the loops of `building`, over plain variables. Assumes nothing.
+-- The turns of the loops that take, clear and copy, over plain variables. Assumes nothing.
 use Prim.Native.Nat.{ℕ, zero, suc, _+_, _-_, _*_, _/_, _≤_, _<_, min}
 use mathlib.Core.Path.{_≡_, refl, sym, ap, _∙_}
 use mathlib.Core.List.{List, [], _∷_}

@@ -1,6 +1,2 @@
--- Laws. Built, Copied, Pasted: what is built stands, and touches no other value; Zeroed: clearing. BuildingSteps: steps of the code.
+-- The laws that functions' proofs cite: the steps of the code (BuildingSteps).
 pub mod BuildingSteps
-pub mod Built
-pub mod Copied
-pub mod Pasted
-pub mod Zeroed

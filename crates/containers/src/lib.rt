@@ -39,7 +39,7 @@ pub fn begin(cells: &mut [u64], parts: usize, count: usize, used: Used) -> Begun
     ensures { λ r. ⌜ BegunIn r (now (cells .exit)) (begunOf parts count used (now (cells .entry))) ⌝ }
 {
     let first = used.cells;
-    let Taken::To(end) = building::take_cells(cells, first, count) else {
+    let Taken::To(end) = clearing::take_cells(cells, first, count) else {
         return Begun::Full;
     };
     Begun::At(first as u16, parts as u16, with_cells(used, end))

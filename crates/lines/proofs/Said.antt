@@ -17,9 +17,9 @@ use Rattle.answers.specs.declared.Answer.the-variants as Answer
 use Rattle.answers.specs.Meant.{Told, refused, value, error, countsIn, told, toldBy, Says}
 use Rattle.answers.specs.Meant as Told
 use Rattle.pieces.specs.Spelled.{ascii}
-use Rattle.shown.specs.Written.{written}
-use Rattle.shown.specs.Shown.{shownIn}
-use Rattle.shown.proofs.ReadOut.{shown-written}
+use Rattle.written.specs.Written.{written}
+use Rattle.written.specs.Shown.{shownIn}
+use Rattle.written.proofs.ReadOut.{shown-written}
 use Rattle.lines.specs.Written.{longestValue, shortened, placed, counted, exhausted, lineOf}
 use Rattle.lines.specs.Shown.{shownAnswer}
 

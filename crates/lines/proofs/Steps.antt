@@ -16,7 +16,7 @@ use Rattle.answers.specs.Meant.{countsIn}
 use Rattle.pieces.specs.Page.{Page, puts}
 use Rattle.pieces.specs.Spelled.{ascii, decimal}
 use Rattle.pieces.proofs.Putting.{puts-two, puts-three}
-use Rattle.shown.specs.Shown.{shownIn}
+use Rattle.written.specs.Shown.{shownIn}
 use Rattle.lines.specs.Written.{longestValue, shortened, placed, counted, exhausted}
 use Rattle.lines.specs.Shown.{shownAnswer}
 

@@ -8,7 +8,7 @@ use Rattle.answers.specs.declared.Answer.{Answer}
 use Rattle.answers.specs.declared.Answer.the-variants as Answer
 use Rattle.answers.specs.Meant.{countsIn}
 use Rattle.pieces.specs.Spelled.{ascii}
-use Rattle.shown.specs.Shown.{shownIn}
+use Rattle.written.specs.Shown.{shownIn}
 use Rattle.lines.specs.Written.{longestValue, shortened, placed, counted, exhausted}
 
 unfoldable pub shownAnswer : Rooms → Answer → List ℕ

@@ -9,7 +9,7 @@ use Rattle.meaning.specs.Errors.{Exhausted, Steps, Cells, Text, Nesting, errorN
 use Rattle.meaning.specs.Limited as Limited
 use Rattle.meaning.specs.Answer.{Answer, refusal, ran}
 use Rattle.pieces.specs.Spelled.{ascii, decimal}
-use Rattle.shown.specs.Written.{written}
+use Rattle.written.specs.Written.{written}
 
 -- so much of a value is shown
 abbrev pub longestValue : ℕ

@@ -27,7 +27,7 @@ use Rattle.rooms.specs.Stands.{Alive, StandsCells, Stands}
 use Rattle.rooms.specs.Scope.{StandsScope}
 use Rattle.building.specs.Building.{zeroed, cellsCleared, bytesCleared}
 use Rattle.rooms.proofs.ReadBack.{reads}
-use Rattle.building.proofs.Zeroed.{zeroed-length, cleared-words, cleared-bytes}
+use Rattle.built.proofs.Zeroed.{zeroed-length, cleared-words, cleared-bytes}
 use Rattle.machine.specs.declared.outcome.Outcome.{Outcome}
 use Rattle.machine.specs.declared.outcome.Outcome.the-variants as Outcome
 use Rattle.machine.specs.Machine.{machine}

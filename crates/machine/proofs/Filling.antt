@@ -21,7 +21,7 @@ use Rattle.rooms.specs.declared.scope.Scope.{Scope}
 use Rattle.rooms.specs.Cells.{settled, Fits}
 use Rattle.rooms.specs.Rooms.{Rooms, cellAt, part}
 use Rattle.rooms.specs.Stands.{Alive, StandsScalar, Stands, StandsCells, Agrees}
-use Rattle.building.proofs.Built.{settled-stands}
+use Rattle.built.proofs.Built.{settled-stands}
 use Rattle.rooms.proofs.Frame.{frame, frame-cells, part-same}
 use Rattle.machine.specs.Outcomes.{written}
 use Rattle.machine.specs.Refines.{Live, Upto, Roomy, Keeps, Logged, Start}

@@ -21,7 +21,7 @@ use Rattle.rooms.specs.Rooms.{Rooms, cellAt}
 use Rattle.rooms.specs.Stands.{Alive, Stands, StandsCells, Agrees}
 use Rattle.building.specs.Building.{cellRoom, zeroed, cellsTaken, copied}
 use Rattle.rooms.proofs.Frame.{frame, frame-cells}
-use Rattle.building.proofs.Built.{settled-stands}
+use Rattle.built.proofs.Built.{settled-stands}
 use Rattle.machine.specs.Outcomes.{withWords, written}
 use Rattle.machine.specs.Refines.{FitCells, Live, Upto, Roomy, Keeps, Below}
 use Rattle.machine.proofs.Words.{cell-low, cell-high, below-same, store-same, store-keeps}

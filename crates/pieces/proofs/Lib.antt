@@ -1,5 +1,3 @@
--- The laws of text put into memory (`Putting`), of what the memory holds then (`Split`), of numbers (`Numerals`), of quoted text (`Quoting`).
+-- The laws that functions' proofs cite (`Putting`); what the memory holds then (`Split`).
 pub mod Putting
 pub mod Split
-pub mod Numerals
-pub mod Quoting

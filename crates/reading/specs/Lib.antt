@@ -1,3 +1,2 @@
--- What the contracts cite: what is read off a value (`Values`). What the readers show of a value (`Shown`).
+-- What the contracts cite: what is read off a value (`Values`).
 pub mod Values
-pub mod Shown

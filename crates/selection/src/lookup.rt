@@ -36,7 +36,7 @@ pub fn present(cells: &mut [u64], v: Value, used: Used) -> Outcome
     ensures { λ r. ⌜ ((l b t x : List ℕ) → Gives r l b t (now (cells .exit)) x (present v used (rooms l b t (now (cells .entry)) x))) ⌝ }
 {
     let cell = used.cells;
-    let Taken::To(end) = building::take_cells(cells, cell, 1) else {
+    let Taken::To(end) = clearing::take_cells(cells, cell, 1) else {
         return out_of_cells(used);
     };
     cells::write_cell(cells, cell, v);

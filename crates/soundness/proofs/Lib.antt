@@ -1,5 +1,2 @@
--- The laws that the functions' proofs cite, from the leaves up.
+-- The laws that the functions' proofs cite.
 pub mod Steps
-pub mod Goods
-pub mod HeldLaws
-pub mod SoundScope

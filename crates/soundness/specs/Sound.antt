@@ -13,7 +13,7 @@ use Rattle.rooms.specs.declared.scope.Scope.{Scope}
 use Rattle.soundness.specs.declared.Bindings.{Bindings}
 use Rattle.soundness.specs.declared.Soundness.{Soundness}
 use Rattle.soundness.specs.declared.Soundness.the-variants.{Sound, Unsound}
-use Rattle.soundness.specs.Fits.{valueFits, slotFits}
+use Rattle.references.specs.Fits.{valueFits, slotFits}
 
 module _ (words text : List ℕ) where
   -- a cell may refer only to later ones

@@ -8,9 +8,6 @@ use cells::read_cell;
 use rooms::scope::NAMES;
 use rooms::scope::Scope;
 
-pub mod keys;
-pub mod values;
-
 // What the names hold, and how much of the lent cells and text is used.
 pub struct Bindings {
     pub scope: Scope,
@@ -38,7 +35,7 @@ fn first_bad(cells: &[u64], text: &[u8], used: usize, bytes: usize) -> usize
     let mut left = used;
     while 0 < left {
         let v = read_cell(cells, at);
-        if !values::value_fits(cells, text, used, bytes, at + 1, v) {
+        if !fitting::value_fits(cells, text, used, bytes, at + 1, v) {
             return at;
         }
         at += 1;
@@ -55,7 +52,7 @@ fn slots_fit(cells: &[u64], text: &[u8], used: usize, bytes: usize, scope: Scope
     while 0 < left {
         let slot = scope.slots[at];
         let value = slot.value;
-        if !values::slot_fits(cells, text, used, bytes, value) {
+        if !fitting::slot_fits(cells, text, used, bytes, value) {
             return false;
         }
         at += 1;

@@ -27,11 +27,11 @@ use Rattle.rooms.specs.Rooms.{Rooms, cellAt, part}
 use Rattle.rooms.specs.Stands.{Alive, TextAt, StandsScalar, Stands, StandsCells, StandsEntries}
 use Rattle.comparing.specs.Seen.{sameSeen, seenIn}
 use Rattle.comparing.proofs.SeenMeaning.{scalar-seen}
-use Rattle.soundness.specs.Keys as Keys
-use Rattle.soundness.specs.Keys.{isKey, repeatedIn, keysFit}
-use Rattle.soundness.specs.Fits.{valueFits}
-use Rattle.soundness.specs.Held.{bindingRooms, aliveBelow}
-use Rattle.soundness.proofs.Goods.{both-true, Span, span-good, string-good, row-good, map-good}
+use Rattle.mapkeys.specs.Keys as Keys
+use Rattle.mapkeys.specs.Keys.{isKey, repeatedIn, keysFit}
+use Rattle.references.specs.Fits.{valueFits}
+use Rattle.held.specs.Held.{bindingRooms, aliveBelow}
+use Rattle.held.proofs.Goods.{both-true, Span, span-good, string-good, row-good, map-good}
 use Rattle.machine.proofs.AnyCells.{cell-fits}
 
 neither : (a b : Bool) → (a || b) ≡ false → (a ≡ false) × (b ≡ false)

@@ -18,11 +18,11 @@ use Rattle.building.specs.Building.{cellRoom, textRoom}
 use Rattle.soundness.specs.declared.Bindings.{Bindings}
 use Rattle.soundness.specs.declared.Soundness.{Soundness}
 use Rattle.soundness.specs.declared.Soundness.the-variants.{Sound, Unsound}
-use Rattle.soundness.specs.Fits.{valueFits, isAbsent, slotFits}
+use Rattle.references.specs.Fits.{valueFits, isAbsent, slotFits}
 use Rattle.soundness.specs.Sound.{cellFits, firstBad, slotsFit, usedCells, usedBytes, soundOf}
-use Rattle.soundness.specs.Held.{bindingRooms, heldScope, aliveBelow}
-use Rattle.soundness.proofs.Goods.{SoundRoom, sound-room, room-sound, fits-nesting}
-use Rattle.soundness.proofs.SoundScope.{absent-is, beyond, fits-held, held-read}
+use Rattle.held.specs.Held.{bindingRooms, heldScope, aliveBelow}
+use Rattle.held.proofs.Goods.{SoundRoom, sound-room, room-sound, fits-nesting}
+use Rattle.held.proofs.SoundScope.{absent-is, beyond, fits-held, held-read}
 use Rattle.verdicts.specs.Verdicts.{Lent, HoldsFormed, FirstBadCell, BadElsewhere, Says}
 use Rattle.verdicts.proofs.Formed.{formed}
 use Rattle.verdicts.proofs.FirstBad.{before-good, first-bad}

@@ -14,9 +14,9 @@ use Rattle.rooms.specs.Scope.{slotOf}
 use Rattle.building.specs.Building.{cellRoom, textRoom}
 use Rattle.soundness.specs.declared.Bindings.{Bindings}
 use Rattle.soundness.specs.declared.Soundness.the-variants.{Sound, Unsound}
-use Rattle.soundness.specs.Fits.{slotFits}
+use Rattle.references.specs.Fits.{slotFits}
 use Rattle.soundness.specs.Sound.{cellFits, usedCells, usedBytes, soundOf}
-use Rattle.soundness.specs.Held.{heldScope}
+use Rattle.held.specs.Held.{heldScope}
 
 -- of whatever content: words of 64 bits, bytes, and a slot for each name, with a value that words can hold
 pub record Lent (w t : List ℕ) (b : Bindings) : Type 0 where

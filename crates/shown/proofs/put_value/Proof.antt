@@ -1,6 +1,6 @@
 -- `put_value` meets its contract. Assumes nothing.
 use borrow.Author.Needs.{needs}
-use Rattle.shown.proofs.Steps.{value-whole}
+use Rattle.written.proofs.Steps.{value-whole}
 use Rattle.shown.proofs.put_value.Statement.{statement}
 use Rattle.shown.proofs.put_value.Tie as tie
 

@@ -10,7 +10,7 @@ use Rattle.soundness.proofs.first_bad.Tie as tie
 use Rattle.soundness.proofs.first_bad.Reads as reads
 use Rattle.soundness.proofs.first_bad.Lts as lts
 use Rattle.cells.proofs.read_cell.Reads as read-cell-reads
-use Rattle.soundness.proofs.values.value_fits.Reads as value-fits-reads
+use Rattle.fitting.proofs.value_fits.Reads as value-fits-reads
 
 abbrev Inv-loop : tie.InvT-loop
 Inv-loop cells text used bytes at₀ left₀ at left = (at + left ≡ used) × (firstBad cells text used bytes at left ≡ firstBad cells text used bytes 0 used)

@@ -10,7 +10,7 @@ use Rattle.soundness.proofs.slots_fit.Statement.{statement}
 use Rattle.soundness.proofs.slots_fit.Tie as tie
 use Rattle.soundness.proofs.slots_fit.Reads as reads
 use Rattle.soundness.proofs.slots_fit.Lts as lts
-use Rattle.soundness.proofs.values.slot_fits.Reads as slot-fits-reads
+use Rattle.fitting.proofs.slot_fits.Reads as slot-fits-reads
 
 abbrev Inv-loop : tie.InvT-loop
 Inv-loop cells text used bytes scope at₀ left₀ at left = (at + left ≡ 128) × (slotsFit cells text used bytes scope at left ≡ slotsFit cells text used bytes scope 0 128)

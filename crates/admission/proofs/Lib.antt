@@ -1,0 +1,3 @@
+-- The laws that the functions' proofs cite, those of `bindings` too.
+pub mod BringSteps
+pub mod AcceptedLaws

@@ -1,0 +1,2 @@
+-- What the contracts cite: the number of a value (`Numbers`).
+pub mod Numbers

@@ -1,0 +1,24 @@
+use borrow.Author.Needs.{needs}
+use Rattle.findings.proofs.first_of.Statement.{statement}
+use Rattle.findings.proofs.first_of.Tie as tie
+use Rattle.findings.proofs.first_of.Reads as reads
+use Rattle.findings.proofs.first_of.Lts as lts
+
+-- src/judging.rt:44:19
+enum-known-a : tie.Need-enum-known-a
+enum-known-a c = search needs
+
+-- src/judging.rt:45:27
+enum-told : tie.Need-enum-told
+enum-told c = search needs
+
+-- src/judging.rt:40:1
+returns : tie.Need-returns
+returns c = simp (c .before .a .given .1)
+
+-- src/judging.rt:40:1
+returns-2 : tie.Need-returns-2
+returns-2 c = search needs
+
+pub first-of-spec : {M : Type 1} → statement M
+first-of-spec = tie.close (tie.spec enum-known-a enum-told returns returns-2)

@@ -1,0 +1,17 @@
+use borrow.Author.Needs.{needs}
+use Rattle.findings.proofs.with_key.Statement.{statement}
+use Rattle.findings.proofs.with_key.Tie as tie
+use Rattle.findings.proofs.with_key.Reads as reads
+use Rattle.findings.proofs.with_key.Lts as lts
+use Rattle.findings.proofs.first_of.Reads as first-of-reads
+
+-- src/judging.rt:80:14
+first-of-requires : tie.Need-first-of-requires
+first-of-requires c κs = search needs
+
+-- src/judging.rt:73:1
+returns : tie.Need-returns
+returns c = simp (← c .first-of .ensures)
+
+pub with-key-spec : {M : Type 1} → statement M
+with-key-spec = tie.close (tie.spec first-of-requires returns)

@@ -1,0 +1,2 @@
+-- What a sound room holds (`Held`).
+pub mod Held

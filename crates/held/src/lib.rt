@@ -1,0 +1,1 @@
+// What a sound binding room holds: the theorems. There is no code here.

@@ -1,0 +1,90 @@
+use borrow.Author.Needs.{needs}
+use mathlib.Core.Path.{_≡_, refl, sym, _∙_}
+use Prim.Native.Nat.{_+_, _*_, _-_, _≤_}
+use native.Mathlib.Omega.{arith}
+use Rattle.layout.specs.Layout.{wordAt}
+use Rattle.scalars.specs.Literals.{rowBytes, entryBytes}
+use Rattle.scalars.proofs.Rows.{Place, sound-place, part-place}
+use Rattle.scalars.proofs.PartLaws.{bare-part}
+use Rattle.judged.proofs.JudgingSteps.{ElementsLeft, elements-start, elements-here, elements-less, elements-fit, elements-again, elements-done, EntriesLeft, entries-start, entries-key, entries-value, entries-before, entries-less, entries-fit, entries-fit-value, entries-again, entries-done}
+use Rattle.judged.proofs.JudgeSteps.{list-row, list-less, list-whole, map-row, map-less, map-whole, list-body, map-body, leaf-whole}
+use Prim.Native.Nat.{ℕ, _<_}
+use borrow.Fn.Kinds.{In}
+use borrow.Fn.PlainCycle.{Measures, is, falls, and}
+use Rattle.judged.proofs.judge.Reads as judge
+use Rattle.judged.proofs.judge.Kinds as judge-kinds
+use Rattle.judged.proofs.+judge+judge_elements+judge_entries.Lts-judge as judge-lts
+use Rattle.judged.proofs.judge_elements.Reads as judge-elements
+use Rattle.judged.proofs.judge_elements.Kinds as judge-elements-kinds
+use Rattle.judged.proofs.+judge+judge_elements+judge_entries.Lts-judge_elements as judge-elements-lts
+use Rattle.judged.proofs.judge_entries.Reads as judge-entries
+use Rattle.judged.proofs.judge_entries.Kinds as judge-entries-kinds
+use Rattle.judged.proofs.+judge+judge_elements+judge_entries.Lts-judge_entries as judge-entries-lts
+use Rattle.findings.proofs.deepened.Reads as deepened-reads
+use Rattle.findings.proofs.joined.Reads as joined-reads
+use Rattle.repeats.proofs.key_fault.Reads as key-fault-reads
+use Rattle.findings.proofs.nothing_judged.Reads as nothing-judged-reads
+use Rattle.findings.proofs.with_key.Reads as with-key-reads
+use Rattle.judged.proofs.without_parts.Reads as without-parts-reads
+use Rattle.scalars.proofs.literal_at.Reads as literal-at-reads
+use Rattle.bodies.proofs.count_at.Reads as count-at-reads
+use Rattle.outline.proofs.end_at.Reads as end-at-reads
+use Rattle.outline.proofs.first_operand.Reads as first-operand-reads
+use Rattle.outline.proofs.kind_at.Reads as kind-at-reads
+use Rattle.judged.proofs.+judge+judge_elements+judge_entries.Proof.Kit.{μ-judge, μ-judge-elements, μ-judge-entries, judge-at, judge-below, judge-elements-at, judge-elements-below, judge-entries-at, judge-entries-below, judge-claims, judge-elements-claims, judge-entries-claims}
+
+-- src/judging.rt:176:9
+pub judge-kind-at-requires : (t : ℕ) → judge-lts.Need-kind-at-requires (judge-claims t) (judge-at t) judge.Post
+judge-kind-at-requires t c κs = let p = part-place (c .before .before .args .table .now) (c .before .before .args .literal .now) (c .before .before .args .at) (c .before .before .pre .1 .0) in omega (arith, p .three)
+
+-- src/judging.rt:178:13
+pub judge-first-operand-requires : (t : ℕ) → judge-lts.Need-first-operand-requires (judge-claims t) (judge-at t) judge.Post
+judge-first-operand-requires t c κs = let p = part-place (c .before .before .before .before .args .table .now) (c .before .before .before .before .args .literal .now) (c .before .before .before .before .args .at) (c .before .before .before .before .pre .1 .0) in (omega (arith, p .three), p .known)
+
+-- src/judging.rt:179:63
+pub judge-count-at-requires : (t : ℕ) → judge-lts.Need-count-at-requires (judge-claims t) (judge-at t) judge.Post
+judge-count-at-requires t c κs = list-body (c .before .before .before .before .before .args .table .now) (c .before .before .before .before .before .args .literal .now) (c .before .before .before .before .before .args .at) (c .before .before .before .before .before .pre .1 .0) (c .before .before .kind-at .result) (c .before .before .kind-at .ensures) (c .before .if1 .taken)
+
+-- src/judging.rt:179:25
+pub judge-judge-elements-requires : (t : ℕ) → judge-lts.Need-judge-elements-requires (judge-claims t) (judge-at t) judge.Post
+judge-judge-elements-requires t c κs = (omega (arith, list-less (c .before .before .before .before .before .before .args .table .now) (c .before .before .before .before .before .before .args .literal .now) (c .before .before .before .before .before .before .args .at) (c .before .before .before .before .before .before .pre .1 .0) (c .before .before .before .before .before .before .pre .1 .1) (c .before .before .before .kind-at .result) (c .before .before .before .kind-at .ensures) (c .before .first-operand .result) (c .count-at .result) (c .before .first-operand .ensures) (c .count-at .ensures .0) (c .before .before .if1 .taken), c .before .before .before .before .before .before .pre .0), list-row (c .before .before .before .before .before .before .args .table .now) (c .before .before .before .before .before .before .args .literal .now) (c .before .before .before .before .before .before .args .at) (c .before .before .before .before .before .before .pre .1 .0) (c .before .before .before .before .before .before .pre .1 .1) (c .before .before .before .kind-at .result) (c .before .before .before .kind-at .ensures) (c .before .first-operand .result) (c .count-at .result) (c .before .first-operand .ensures) (c .count-at .ensures .0) (c .before .before .if1 .taken))
+
+-- src/judging.rt:179:9
+pub judge-deepened-requires : (t : ℕ) → judge-lts.Need-deepened-requires (judge-claims t) (judge-at t) judge.Post
+judge-deepened-requires t c κs = let r = list-row (c .before .before .before .before .before .before .before .args .table .now) (c .before .before .before .before .before .before .before .args .literal .now) (c .before .before .before .before .before .before .before .args .at) (c .before .before .before .before .before .before .before .pre .1 .0) (c .before .before .before .before .before .before .before .pre .1 .1) (c .before .before .before .before .kind-at .result) (c .before .before .before .before .kind-at .ensures) (c .before .before .first-operand .result) (c .before .count-at .result) (c .before .before .first-operand .ensures) (c .before .count-at .ensures .0) (c .before .before .before .if1 .taken) in omega (arith, c .judge-elements .ensures .1 .nesting, r .1, r .2)
+
+-- src/judging.rt:179:9
+pub judge-returns : (t : ℕ) → judge-lts.Need-returns (judge-claims t) (judge-at t) judge.Post
+judge-returns t c = list-whole (c .before .before .before .before .before .before .before .before .args .table .now) (c .before .before .before .before .before .before .before .before .args .literal .now) (c .before .before .before .before .before .before .before .before .args .at) (c .before .before .before .before .before .before .before .before .pre .1 .0) (c .before .before .before .before .before .before .before .before .pre .1 .1) (c .before .before .before .before .before .kind-at .result) (c .before .before .before .before .before .kind-at .ensures) (c .before .before .before .first-operand .result) (c .before .before .count-at .result) (c .before .before .before .first-operand .ensures) (c .before .before .count-at .ensures .0) (c .before .before .before .before .if1 .taken) (c .before .judge-elements .result) (c .deepened .result) (c .before .judge-elements .ensures) (c .deepened .ensures)
+
+-- src/judging.rt:182:13
+pub judge-first-operand-requires-2 : (t : ℕ) → judge-lts.Need-first-operand-requires-2 (judge-claims t) (judge-at t) judge.Post
+judge-first-operand-requires-2 t c κs = let p = part-place (c .before .before .before .before .before .args .table .now) (c .before .before .before .before .before .args .literal .now) (c .before .before .before .before .before .args .at) (c .before .before .before .before .before .pre .1 .0) in (omega (arith, p .three), p .known)
+
+-- src/judging.rt:183:62
+pub judge-count-at-requires-2 : (t : ℕ) → judge-lts.Need-count-at-requires-2 (judge-claims t) (judge-at t) judge.Post
+judge-count-at-requires-2 t c κs = map-body (c .before .before .before .before .before .before .args .table .now) (c .before .before .before .before .before .before .args .literal .now) (c .before .before .before .before .before .before .args .at) (c .before .before .before .before .before .before .pre .1 .0) (c .before .before .before .kind-at .result) (c .before .before .before .kind-at .ensures) (c .before .if2 .taken)
+
+-- src/judging.rt:183:25
+pub judge-judge-entries-requires : (t : ℕ) → judge-lts.Need-judge-entries-requires (judge-claims t) (judge-at t) judge.Post
+judge-judge-entries-requires t c κs = (omega (arith, map-less (c .before .before .before .before .before .before .before .args .table .now) (c .before .before .before .before .before .before .before .args .literal .now) (c .before .before .before .before .before .before .before .args .at) (c .before .before .before .before .before .before .before .pre .1 .0) (c .before .before .before .before .before .before .before .pre .1 .1) (c .before .before .before .before .kind-at .result) (c .before .before .before .before .kind-at .ensures) (c .before .first-operand2 .result) (c .count-at2 .result) (c .before .first-operand2 .ensures) (c .count-at2 .ensures .0) (c .before .before .if2 .taken), c .before .before .before .before .before .before .before .pre .0), map-row (c .before .before .before .before .before .before .before .args .table .now) (c .before .before .before .before .before .before .before .args .literal .now) (c .before .before .before .before .before .before .before .args .at) (c .before .before .before .before .before .before .before .pre .1 .0) (c .before .before .before .before .before .before .before .pre .1 .1) (c .before .before .before .before .kind-at .result) (c .before .before .before .before .kind-at .ensures) (c .before .first-operand2 .result) (c .count-at2 .result) (c .before .first-operand2 .ensures) (c .count-at2 .ensures .0) (c .before .before .if2 .taken))
+
+-- src/judging.rt:183:9
+pub judge-deepened-requires-2 : (t : ℕ) → judge-lts.Need-deepened-requires-2 (judge-claims t) (judge-at t) judge.Post
+judge-deepened-requires-2 t c κs = let r = map-row (c .before .before .before .before .before .before .before .before .args .table .now) (c .before .before .before .before .before .before .before .before .args .literal .now) (c .before .before .before .before .before .before .before .before .args .at) (c .before .before .before .before .before .before .before .before .pre .1 .0) (c .before .before .before .before .before .before .before .before .pre .1 .1) (c .before .before .before .before .before .kind-at .result) (c .before .before .before .before .before .kind-at .ensures) (c .before .before .first-operand2 .result) (c .before .count-at2 .result) (c .before .before .first-operand2 .ensures) (c .before .count-at2 .ensures .0) (c .before .before .before .if2 .taken) in omega (arith, c .judge-entries .ensures .1 .nesting, r .1, r .2)
+
+-- src/judging.rt:183:9
+pub judge-returns-2 : (t : ℕ) → judge-lts.Need-returns-2 (judge-claims t) (judge-at t) judge.Post
+judge-returns-2 t c = map-whole (c .before .before .before .before .before .before .before .before .before .args .table .now) (c .before .before .before .before .before .before .before .before .before .args .literal .now) (c .before .before .before .before .before .before .before .before .before .args .at) (c .before .before .before .before .before .before .before .before .before .pre .1 .0) (c .before .before .before .before .before .before .before .before .before .pre .1 .1) (c .before .before .before .before .before .before .kind-at .result) (c .before .before .before .before .before .before .kind-at .ensures) (c .before .before .before .first-operand2 .result) (c .before .before .count-at2 .result) (c .before .before .before .first-operand2 .ensures) (c .before .before .count-at2 .ensures .0) (c .before .before .before .before .if2 .taken) (c .before .judge-entries .result) (c .deepened2 .result) (c .before .judge-entries .ensures) (c .deepened2 .ensures)
+
+-- src/judging.rt:185:19
+pub judge-literal-at-requires : (t : ℕ) → judge-lts.Need-literal-at-requires (judge-claims t) (judge-at t) judge.Post
+judge-literal-at-requires t c κs = let p = part-place (c .before .before .before .before .before .args .table .now) (c .before .before .before .before .before .args .literal .now) (c .before .before .before .before .before .args .at) (c .before .before .before .before .before .pre .1 .0) in (p .known, p .head)
+
+-- src/judging.rt:185:5
+pub judge-without-parts-requires : (t : ℕ) → judge-lts.Need-without-parts-requires (judge-claims t) (judge-at t) judge.Post
+judge-without-parts-requires t c κs = search needs
+
+-- src/judging.rt:172:1
+pub judge-returns-3 : (t : ℕ) → judge-lts.Need-returns-3 (judge-claims t) (judge-at t) judge.Post
+judge-returns-3 t c = leaf-whole (c .before .before .before .before .before .before .before .args .table .now) (c .before .before .before .before .before .before .before .args .literal .now) (c .before .before .before .before .before .before .before .args .at) (c .before .before .before .before .before .before .before .pre .1 .0) (c .before .before .before .before .kind-at .result) (c .before .before .before .before .kind-at .ensures) (λ i. omega (arith, c .before .before .before .before .before .before .shared-slice-known .given i)) (c .before .before .before .if1 .left) (c .before .before .if2 .left) (c .before .literal-at .result) (c .without-parts .result) (c .before .literal-at .ensures) (c .without-parts .ensures)

@@ -1,0 +1,76 @@
+use borrow.Author.Needs.{needs}
+use mathlib.Core.Path.{_≡_, refl, sym, _∙_}
+use Prim.Native.Nat.{_+_, _*_, _-_, _≤_}
+use native.Mathlib.Omega.{arith}
+use Rattle.layout.specs.Layout.{wordAt}
+use Rattle.scalars.specs.Literals.{rowBytes, entryBytes}
+use Rattle.scalars.proofs.Rows.{Place, sound-place, part-place}
+use Rattle.scalars.proofs.PartLaws.{bare-part}
+use Rattle.judged.proofs.JudgingSteps.{ElementsLeft, elements-start, elements-here, elements-less, elements-fit, elements-again, elements-done, EntriesLeft, entries-start, entries-key, entries-value, entries-before, entries-less, entries-fit, entries-fit-value, entries-again, entries-done}
+use Rattle.judged.proofs.JudgeSteps.{list-row, list-less, list-whole, map-row, map-less, map-whole, list-body, map-body, leaf-whole}
+use Prim.Native.Nat.{ℕ, _<_}
+use borrow.Fn.Kinds.{In}
+use borrow.Fn.PlainCycle.{Measures, is, falls, and}
+use Rattle.judged.proofs.judge.Reads as judge
+use Rattle.judged.proofs.judge.Kinds as judge-kinds
+use Rattle.judged.proofs.+judge+judge_elements+judge_entries.Lts-judge as judge-lts
+use Rattle.judged.proofs.judge_elements.Reads as judge-elements
+use Rattle.judged.proofs.judge_elements.Kinds as judge-elements-kinds
+use Rattle.judged.proofs.+judge+judge_elements+judge_entries.Lts-judge_elements as judge-elements-lts
+use Rattle.judged.proofs.judge_entries.Reads as judge-entries
+use Rattle.judged.proofs.judge_entries.Kinds as judge-entries-kinds
+use Rattle.judged.proofs.+judge+judge_elements+judge_entries.Lts-judge_entries as judge-entries-lts
+use Rattle.findings.proofs.deepened.Reads as deepened-reads
+use Rattle.findings.proofs.joined.Reads as joined-reads
+use Rattle.repeats.proofs.key_fault.Reads as key-fault-reads
+use Rattle.findings.proofs.nothing_judged.Reads as nothing-judged-reads
+use Rattle.findings.proofs.with_key.Reads as with-key-reads
+use Rattle.judged.proofs.without_parts.Reads as without-parts-reads
+use Rattle.scalars.proofs.literal_at.Reads as literal-at-reads
+use Rattle.bodies.proofs.count_at.Reads as count-at-reads
+use Rattle.outline.proofs.end_at.Reads as end-at-reads
+use Rattle.outline.proofs.first_operand.Reads as first-operand-reads
+use Rattle.outline.proofs.kind_at.Reads as kind-at-reads
+use Rattle.judged.proofs.+judge+judge_elements+judge_entries.Proof.Kit.{μ-judge, μ-judge-elements, μ-judge-entries, judge-at, judge-below, judge-elements-at, judge-elements-below, judge-entries-at, judge-entries-below, judge-claims, judge-elements-claims, judge-entries-claims}
+
+abbrev pub judge-elements-Inv-loop : judge-elements-lts.InvT-loop
+judge-elements-Inv-loop table literal first count sum₀ at₀ left₀ sum at left = ElementsLeft table literal first count sum at left
+
+abbrev pub judge-elements-μ-loop : judge-elements-lts.MeasureT-loop
+judge-elements-μ-loop table literal first count sum₀ at₀ left₀ sum at left = left
+
+-- src/judging.rt:192:9
+pub judge-elements-nothing-judged-requires : (t : ℕ) → judge-elements-lts.Need-nothing-judged-requires (judge-elements-claims t) (judge-elements-at t) judge-elements.Post judge-elements-Inv-loop judge-elements-μ-loop
+judge-elements-nothing-judged-requires t c κs = search needs
+
+-- src/judging.rt:195:5
+pub judge-elements-loop-holds : (t : ℕ) → judge-elements-lts.Need-loop-holds (judge-elements-claims t) (judge-elements-at t) judge-elements.Post judge-elements-Inv-loop judge-elements-μ-loop
+judge-elements-loop-holds t c = elements-start (c .before .before .before .args .table .now) (c .before .before .before .args .literal .now) (c .before .before .before .args .first) (c .before .before .before .args .count) (c .nothing-judged .result) (c .nothing-judged .ensures) (c .before .before .before .pre .1 .0)
+
+-- src/judging.rt:196:27
+pub judge-elements-judge-requires : (t : ℕ) → judge-elements-lts.Need-judge-requires (judge-elements-claims t) (judge-elements-at t) judge-elements.Post judge-elements-Inv-loop judge-elements-μ-loop
+judge-elements-judge-requires t c κs = (omega (arith, elements-less (c .before .before .before .before .before .args .table .now) (c .before .before .before .before .before .args .literal .now) (c .before .before .before .before .before .args .first) (c .before .before .before .before .before .args .count) (c .before .loop .sum) (c .before .loop .at) (c .before .loop .left) (c .before .loop .inv) (c .loop-test .taken), c .before .before .before .before .before .pre .0), (elements-here (c .before .before .before .before .before .args .table .now) (c .before .before .before .before .before .args .literal .now) (c .before .before .before .before .before .args .first) (c .before .before .before .before .before .args .count) (c .before .loop .sum) (c .before .loop .at) (c .before .loop .left) (c .before .loop .inv) (c .loop-test .taken), c .before .before .before .before .before .pre .1 .2))
+
+-- src/judging.rt:196:9
+pub judge-elements-joined-requires : (t : ℕ) → judge-elements-lts.Need-joined-requires (judge-elements-claims t) (judge-elements-at t) judge-elements.Post judge-elements-Inv-loop judge-elements-μ-loop
+judge-elements-joined-requires t c κs = elements-fit (c .before .before .before .before .before .before .args .table .now) (c .before .before .before .before .before .before .args .literal .now) (c .before .before .before .before .before .before .args .first) (c .before .before .before .before .before .before .args .count) (c .before .before .loop .sum) (c .before .before .loop .at) (c .before .before .loop .left) (c .before .before .loop .inv) (c .before .loop-test .taken) (c .before .before .before .before .before .before .pre .1 .1) (c .before .before .before .before .before .before .pre .1 .2) (c .judge .result) (c .judge .ensures .1)
+
+-- src/judging.rt:197:9
+pub judge-elements-end-at-requires : (t : ℕ) → judge-elements-lts.Need-end-at-requires (judge-elements-claims t) (judge-elements-at t) judge-elements.Post judge-elements-Inv-loop judge-elements-μ-loop
+judge-elements-end-at-requires t c κs = let p = part-place (c .before .before .before .before .before .before .before .args .table .now) (c .before .before .before .before .before .before .before .args .literal .now) (c .before .before .before .loop .at) (elements-here (c .before .before .before .before .before .before .before .args .table .now) (c .before .before .before .before .before .before .before .args .literal .now) (c .before .before .before .before .before .before .before .args .first) (c .before .before .before .before .before .before .before .args .count) (c .before .before .before .loop .sum) (c .before .before .before .loop .at) (c .before .before .before .loop .left) (c .before .before .before .loop .inv) (c .before .before .loop-test .taken)) in p .three
+
+-- src/judging.rt:198:9
+pub judge-elements-sub-left : (t : ℕ) → judge-elements-lts.Need-sub-left (judge-elements-claims t) (judge-elements-at t) judge-elements.Post judge-elements-Inv-loop judge-elements-μ-loop
+judge-elements-sub-left t c = search needs
+
+-- src/judging.rt:195:5
+pub judge-elements-loop-less : (t : ℕ) → judge-elements-lts.Need-loop-less (judge-elements-claims t) (judge-elements-at t) judge-elements.Post judge-elements-Inv-loop judge-elements-μ-loop
+judge-elements-loop-less t c = omega arith
+
+-- src/judging.rt:195:5
+pub judge-elements-loop-again : (t : ℕ) → judge-elements-lts.Need-loop-again (judge-elements-claims t) (judge-elements-at t) judge-elements.Post judge-elements-Inv-loop judge-elements-μ-loop
+judge-elements-loop-again t c = elements-again (c .before .before .before .before .before .before .before .before .args .table .now) (c .before .before .before .before .before .before .before .before .args .literal .now) (c .before .before .before .before .before .before .before .before .args .first) (c .before .before .before .before .before .before .before .before .args .count) (c .before .before .before .before .loop .sum) (c .before .before .before .before .loop .at) (c .before .before .before .before .loop .left) (c .before .before .before .before .loop .inv) (c .before .before .before .loop-test .taken) (c .before .before .before .before .before .before .before .before .pre .1 .1) (c .before .before .before .before .before .before .before .before .pre .1 .2) (c .before .before .judge .result) (c .before .before .judge .ensures .1) (c .before .joined .result) (c .end-at .result) (c .before .before .judge .ensures .0) (c .before .joined .ensures) (c .end-at .ensures)
+
+-- src/judging.rt:188:1
+pub judge-elements-returns : (t : ℕ) → judge-elements-lts.Need-returns (judge-elements-claims t) (judge-elements-at t) judge-elements.Post judge-elements-Inv-loop judge-elements-μ-loop
+judge-elements-returns t c = elements-done (c .before .before .before .before .before .args .table .now) (c .before .before .before .before .before .args .literal .now) (c .before .before .before .before .before .args .first) (c .before .before .before .before .before .args .count) (c .before .loop .sum) (c .before .loop .at) (c .before .loop .left) (c .before .loop .inv) (c .loop-test .left)

@@ -1,0 +1,76 @@
+use mathlib.Core.Path.{_≡_, refl, sym, _∙_}
+use Prim.Native.Nat.{_+_, _*_, _-_, _≤_}
+use native.Mathlib.Omega.{arith}
+use Rattle.layout.specs.Layout.{wordAt}
+use Rattle.scalars.specs.Literals.{rowBytes}
+use Rattle.scalars.proofs.Rows.{Place, part-place}
+use Rattle.judged.proofs.JudgeSteps.{list-body, map-body}
+use Rattle.laid.proofs.LayLaws.{count-cells}
+use Rattle.laid.proofs.LaySteps.{leaf-bytes, leaf-laid, list-fits, list-falls, list-laid, map-fits, map-falls, map-laid, RowLeft, row-start, row-done, row-here, row-falls, row-fits, row-again}
+use Prim.Native.Nat.{ℕ, _<_}
+use borrow.Fn.Kinds.{In}
+use borrow.Fn.PlainCycle.{Measures, is, falls, and}
+use Rattle.laid.proofs.lay.Reads as lay
+use Rattle.laid.proofs.lay.Kinds as lay-kinds
+use Rattle.laid.proofs.+lay+lay_row.Lts-lay as lay-lts
+use Rattle.laid.proofs.lay_row.Reads as lay-row
+use Rattle.laid.proofs.lay_row.Kinds as lay-row-kinds
+use Rattle.laid.proofs.+lay+lay_row.Lts-lay_row as lay-row-lts
+use Rattle.laid.proofs.lay_literal.Reads as lay-literal-reads
+use Rattle.scalars.proofs.literal_at.Reads as literal-at-reads
+use Rattle.cells.proofs.write_cell.Reads as write-cell-reads
+use Rattle.rooms.proofs.value.nesting_of.Reads as nesting-of-reads
+use Rattle.references.proofs.deeper.Reads as deeper-reads
+use Rattle.bodies.proofs.count_at.Reads as count-at-reads
+use Rattle.outline.proofs.end_at.Reads as end-at-reads
+use Rattle.outline.proofs.first_operand.Reads as first-operand-reads
+use Rattle.outline.proofs.kind_at.Reads as kind-at-reads
+
+abbrev pub μ-lay : Measures 4 lay-kinds.ps ℕ
+μ-lay κs a = 2 * wordAt (a .0 .now) (a .1 .1 .1 .1 .0 + 1)
+
+abbrev pub μ-lay-row : Measures 4 lay-row-kinds.ps ℕ
+μ-lay-row κs a = 2 * rowBytes (a .0 .now) (a .1 .1 .1 .1 .1 .0) (a .1 .1 .1 .1 .0) + 1
+
+abbrev pub lay-at : ℕ → In 4 lay-kinds.ps
+lay-at t = and 4 lay-kinds.ps (is 4 lay-kinds.ps μ-lay t) lay.Pre
+
+abbrev pub lay-below : ℕ → In 4 lay-kinds.ps
+lay-below t = and 4 lay-kinds.ps (falls 4 lay-kinds.ps _<_ μ-lay t) lay.Pre
+
+abbrev pub lay-row-at : ℕ → In 4 lay-row-kinds.ps
+lay-row-at t = and 4 lay-row-kinds.ps (is 4 lay-row-kinds.ps μ-lay-row t) lay-row.Pre
+
+abbrev pub lay-row-below : ℕ → In 4 lay-row-kinds.ps
+lay-row-below t = and 4 lay-row-kinds.ps (falls 4 lay-row-kinds.ps _<_ μ-lay-row t) lay-row.Pre
+
+-- what is asked of and learnt from the calls
+abbrev pub lay-claims : ℕ → lay-lts.Claims
+lay-claims t = (
+  kind-at-reads.Asked,
+  kind-at-reads.Learnt,
+  first-operand-reads.Asked,
+  first-operand-reads.Learnt,
+  count-at-reads.Asked,
+  count-at-reads.Learnt,
+  lay-row-below t,
+  lay-row.Post,
+  literal-at-reads.Asked,
+  literal-at-reads.Learnt,
+  lay-literal-reads.Asked,
+  lay-literal-reads.Learnt,
+)
+
+abbrev pub lay-row-claims : ℕ → lay-row-lts.Claims
+lay-row-claims t = (
+  lay-below t,
+  lay.Post,
+  write-cell-reads.Asked,
+  write-cell-reads.Learnt,
+  nesting-of-reads.Asked,
+  nesting-of-reads.Learnt,
+  deeper-reads.Asked,
+  deeper-reads.Learnt,
+  end-at-reads.Asked,
+  end-at-reads.Learnt,
+)

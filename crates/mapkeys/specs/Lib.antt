@@ -1,0 +1,2 @@
+-- What the contracts cite: the keys of a Map where they lie (`Keys`).
+pub mod Keys

@@ -1,0 +1,2 @@
+-- That the readers show all of a value (`Showing`).
+pub mod Showing

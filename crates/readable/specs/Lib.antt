@@ -1,0 +1,2 @@
+-- What the readers show of a value (`Shown`).
+pub mod Shown

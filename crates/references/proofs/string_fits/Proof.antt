@@ -1,0 +1,38 @@
+use mathlib.Core.Path.{sym, _∙_, ap}
+use borrow.Author.Tests.{not-true, not-false}
+use Rattle.text.specs.Utf8.{wellFormed}
+use Rattle.references.specs.Fits.{stringFits}
+use borrow.Author.Needs.{needs}
+use Rattle.references.proofs.string_fits.Statement.{statement}
+use Rattle.references.proofs.string_fits.Tie as tie
+use Rattle.references.proofs.string_fits.Reads as reads
+use Rattle.references.proofs.string_fits.Lts as lts
+use Rattle.spans.proofs.part.Reads as part-reads
+use Rattle.references.proofs.span_fits.Reads as span-fits-reads
+use Rattle.utf8.proofs.well_formed.Reads as well-formed-reads
+
+-- src/values.rt:86:9
+span-fits-requires : tie.Need-span-fits-requires
+span-fits-requires c κs = search needs
+
+-- src/values.rt:87:9
+returns : tie.Need-returns
+unfolding stringFits
+returns c = rw (← c .before .span-fits .ensures, not-true (c .before .span-fits .result) (c .if1 .taken))
+
+-- src/values.rt:89:29
+part-requires : tie.Need-part-requires
+part-requires c κs = search needs
+
+-- src/values.rt:89:5
+well-formed-requires : tie.Need-well-formed-requires
+well-formed-requires c κs = search needs
+
+-- src/values.rt:83:1
+returns-2 : tie.Need-returns-2
+unfolding stringFits
+returns-2 c = rw (← c .before .before .before .span-fits .ensures, not-false (c .before .before .before .span-fits .result) (c .before .before .if1 .left), ← c .before .part .ensures) (c .well-formed .ensures)
+
+pub string-fits-spec : {M : Type 1} → statement M
+string-fits-spec =
+    tie.close (tie.spec span-fits-requires returns part-requires well-formed-requires returns-2)

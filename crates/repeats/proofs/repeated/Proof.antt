@@ -1,0 +1,87 @@
+use borrow.Author.Needs.{needs}
+use mathlib.Core.Path.{_≡_, refl, sym, _∙_}
+use native.Mathlib.Omega.{arith}
+use Rattle.scalars.specs.Literals.{Entries}
+use Rattle.findings.specs.Judging.{repeatedIn}
+use Rattle.scalars.proofs.Rows.{Place, sound-place, part-place, first-entry}
+use Rattle.repeats.proofs.KeySteps.{repeated-none, repeated-found, repeated-on}
+use Rattle.repeats.proofs.repeated.Statement.{statement}
+use Rattle.repeats.proofs.repeated.Tie as tie
+use Rattle.repeats.proofs.repeated.Reads as reads
+use Rattle.repeats.proofs.repeated.Lts as lts
+use Rattle.scalars.proofs.literal_at.Reads as literal-at-reads
+use Rattle.comparing.proofs.plain.plain_equal.Reads as plain-equal-reads
+use Rattle.outline.proofs.end_at.Reads as end-at-reads
+
+abbrev Inv-loop : tie.InvT-loop
+Inv-loop table literal first count key at₀ left₀ t9 t10 at left = Entries table literal left at × (repeatedIn table literal key left at ≡ repeatedIn table literal key count first)
+
+abbrev μ-loop : tie.MeasureT-loop
+μ-loop table literal first count key at₀ left₀ t9 t10 at left = left
+
+-- src/judging.rt:145:5
+loop-holds : tie.Need-loop-holds Inv-loop μ-loop
+loop-holds c = (c .before .before .pre, refl)
+
+-- src/judging.rt:146:13
+literal-at-requires : tie.Need-literal-at-requires Inv-loop μ-loop
+literal-at-requires c κs = let f = first-entry (c .before .before .before .before .args .table .now) (c .before .before .before .before .args .literal .now) (c .before .loop .left) (c .before .loop .at) (c .loop-test .taken) (c .before .loop .inv .0) in let p = sound-place (c .before .before .before .before .args .table .now) (c .before .before .before .before .args .literal .now) (c .before .loop .at) (f .0) in (p .known, p .head)
+
+-- src/judging.rt:147:33
+slice-aggregate-plain-equal : tie.Need-slice-aggregate-plain-equal Inv-loop μ-loop
+slice-aggregate-plain-equal c = search needs
+
+-- src/judging.rt:147:38
+slice-aggregate-plain-equal-2 : tie.Need-slice-aggregate-plain-equal-2 Inv-loop μ-loop
+slice-aggregate-plain-equal-2 c = search needs
+
+-- src/judging.rt:147:12
+plain-equal-requires : tie.Need-plain-equal-requires Inv-loop μ-loop
+plain-equal-requires c κs = search needs
+
+-- src/judging.rt:148:13
+returns : tie.Need-returns Inv-loop μ-loop
+returns c = repeated-found (c .before .before .before .before .before .before .before .before .before .args .table .now) (c .before .before .before .before .before .before .before .before .before .args .literal .now) (c .before .before .before .before .before .before .before .before .before .args .key) (c .before .before .before .before .literal-at .result) (c .before .before .before .before .before .before .loop .left) (c .before .before .before .before .before .before .loop .at) (c .before .before .before .before .before .loop-test .taken) (c .before .before .before .before .literal-at .ensures) (sym (c .before .plain-equal .ensures) ∙ c .if1 .taken) ∙ c .before .before .before .before .before .before .loop .inv .1
+
+-- src/judging.rt:150:28
+end-at-requires : tie.Need-end-at-requires Inv-loop μ-loop
+end-at-requires c κs = let f = first-entry (c .before .before .before .before .before .before .before .before .before .args .table .now) (c .before .before .before .before .before .before .before .before .before .args .literal .now) (c .before .before .before .before .before .before .loop .left) (c .before .before .before .before .before .before .loop .at) (c .before .before .before .before .before .loop-test .taken) (c .before .before .before .before .before .before .loop .inv .0) in let p = sound-place (c .before .before .before .before .before .before .before .before .before .args .table .now) (c .before .before .before .before .before .before .before .before .before .args .literal .now) (c .before .before .before .before .before .before .loop .at) (f .0) in p .three
+
+-- src/judging.rt:150:9
+end-at-requires-2 : tie.Need-end-at-requires-2 Inv-loop μ-loop
+end-at-requires-2 c κs = let f = first-entry (c .before .before .before .before .before .before .before .before .before .before .args .table .now) (c .before .before .before .before .before .before .before .before .before .before .args .literal .now) (c .before .before .before .before .before .before .before .loop .left) (c .before .before .before .before .before .before .before .loop .at) (c .before .before .before .before .before .before .loop-test .taken) (c .before .before .before .before .before .before .before .loop .inv .0) in let p = sound-place (c .before .before .before .before .before .before .before .before .before .before .args .table .now) (c .before .before .before .before .before .before .before .before .before .before .args .literal .now) (c .before .before .before .before .before .before .before .loop .at) (f .0) in let r = part-place (c .before .before .before .before .before .before .before .before .before .before .args .table .now) (c .before .before .before .before .before .before .before .before .before .before .args .literal .now) _ (f .1) in rw (c .end-at .ensures) (r .three)
+
+-- src/judging.rt:151:9
+sub-left : tie.Need-sub-left Inv-loop μ-loop
+sub-left c = search needs
+
+-- src/judging.rt:145:5
+loop-less : tie.Need-loop-less Inv-loop μ-loop
+loop-less c = omega arith
+
+-- src/judging.rt:145:5
+loop-again : tie.Need-loop-again Inv-loop μ-loop
+loop-again c = let f = first-entry (c .before .before .before .before .before .before .before .before .before .before .before .args .table .now) (c .before .before .before .before .before .before .before .before .before .before .before .args .literal .now) (c .before .before .before .before .before .before .before .before .loop .left) (c .before .before .before .before .before .before .before .before .loop .at) (c .before .before .before .before .before .before .before .loop-test .taken) (c .before .before .before .before .before .before .before .before .loop .inv .0) in let p = sound-place (c .before .before .before .before .before .before .before .before .before .before .before .args .table .now) (c .before .before .before .before .before .before .before .before .before .before .before .args .literal .now) (c .before .before .before .before .before .before .before .before .loop .at) (f .0) in (rw (c .end-at2 .ensures, c .before .end-at .ensures) (f .2), repeated-on (c .before .before .before .before .before .before .before .before .before .before .before .args .table .now) (c .before .before .before .before .before .before .before .before .before .before .before .args .literal .now) (c .before .before .before .before .before .before .before .before .before .before .before .args .key) (c .before .before .before .before .before .before .literal-at .result) (c .before .before .before .before .before .before .before .before .loop .left) (c .before .before .before .before .before .before .before .before .loop .at) (c .before .before .before .before .before .before .before .loop-test .taken) (c .before .before .before .before .before .before .literal-at .ensures) (sym (c .before .before .before .plain-equal .ensures) ∙ c .before .before .if1 .left) (c .before .end-at .result) (c .end-at2 .result) (c .before .end-at .ensures) (c .end-at2 .ensures) ∙ c .before .before .before .before .before .before .before .before .loop .inv .1)
+
+-- src/judging.rt:139:1
+returns-2 : tie.Need-returns-2 Inv-loop μ-loop
+returns-2 c = repeated-none (c .before .before .before .before .args .table .now) (c .before .before .before .before .args .literal .now) (c .before .before .before .before .args .key) (c .before .loop .left) (c .before .loop .at) (c .loop-test .left) ∙ c .before .loop .inv .1
+
+pub repeated-spec : {M : Type 1} → statement M
+repeated-spec =
+    tie.close
+    (tie.spec
+    Inv-loop
+    μ-loop
+    loop-holds
+    literal-at-requires
+    slice-aggregate-plain-equal
+    slice-aggregate-plain-equal-2
+    plain-equal-requires
+    returns
+    end-at-requires
+    end-at-requires-2
+    sub-left
+    loop-less
+    loop-again
+    returns-2)

@@ -1,0 +1,3 @@
+-- The literals of a table (`Literals`), and how they are laid down (`Laying`).
+pub mod Literals
+pub mod Laying

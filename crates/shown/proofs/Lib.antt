@@ -1,3 +1,0 @@
--- The ways through the functions (`Steps`); and the theorem that what is shown is the text of what is read (`ReadOut`).
-pub mod Steps
-pub mod ReadOut

@@ -1,3 +1,0 @@
--- What the contracts cite: values as text (`Written`), which is the format that a reader has to believe; the same where they lie (`Shown`).
-pub mod Written
-pub mod Shown
