@@ -12,6 +12,11 @@ The parts, in this order, each on rooms of its own:
     elsewhere     rules under bindings that differ only where the rule names nothing: the same line each time
     bindings      bringing in and emptying, every refusal (tools/rules, family `bindings`)
     bad lines     lines that are none
+    refusals      tables that are refused, and those beside them that are not (tools/rules, family `refusals`)
+    nesting       values that nest up to 32 deep and deeper, records up to 64 and deeper (tools/rules, family `nesting`)
+    text limits   rules that join text, with each of the three limits by itself one below, at and one above what their runs need
+    most          999,999 to 1,000,001 steps, and a value whose line is cut
+    odd lines     spaces, numbers of any length, digits of either case, carriage returns; rooms of no length
 
 All answers are the model's (tools/rules), with places and counts; of part `crate` value and error are the crate's too.
 """
@@ -29,11 +34,12 @@ sys.path[:0] = [str(TOOLS / "rules"), str(TOOLS / "cel"), str(TOOLS / "conforman
 
 import conformance
 import generate
-from assemble import assemble
+from assemble import assemble, binary, byte_string, comprehension, equals, listing, null, size, string, true
 from compare import told, verdict
 from draw import Draw
 from families import FAMILIES
-from families.common import Case, Script
+from families.common import I, R, Case, Script
+from families.edges import counts_of, own_limits
 from model import CELLS_MAX, TEXT_MAX, read_table
 from model.table import K_COMPREHENSION, K_NAME
 from replay import Replay, bind_line, eval_line
@@ -129,10 +135,65 @@ def bad_part() -> Part:
            "bind one - 000300", "room 1", "room 1 1 1", "empty now", eval_line(b"\0\3\0", b"")]
 
 
+def family_part(family: str) -> Part:
+    """The cases of a family, each by itself."""
+    for case in FAMILIES[family]():
+        if isinstance(case, Case) and case.room is None and len(case.table) + len(case.text) <= LONGEST:
+            yield ["empty", *(bind_line(*one) for one in case.bindings), eval_line(case.table, case.text, case.limits)]
+
+
+def text_limits_part(rules: int = 120) -> Part:
+    """Rules that join text, each under limits of which one is off by one; what they need is counted with much lent."""
+    draw = Draw(6)
+    for _ in range(rules):
+        made = assemble(joins(draw))
+        need = counts_of(Case("", made.table, made.text))
+        for off in ((0, 0, 0), (-1, 0, 0), (1, 0, 0), (0, -1, 0), (0, 1, 0), (0, 0, -1), (0, 0, 1), (1, 1, 1)):
+            limits = tuple(count + more for count, more in zip(need, off))
+            if min(limits) >= 0:
+                yield [eval_line(made.table, made.text, limits)]
+
+
+def joins(draw: Draw):
+    """Strings or Bytes joined, one upon the other, in a list or a comprehension."""
+    spell, text = draw.pick(((string, ("", "a", "bc", "\u00e9", "def")), (byte_string, (b"", b"a", b"bc", b"\xff\x00", b"def"))))
+
+    def joined(fuel: int):
+        return spell(draw.pick(text)) if fuel == 0 else binary("+", joined(draw.below(fuel)), joined(draw.below(fuel)))
+
+    rule, form = joined(1 + draw.below(4)), draw.below(6)
+    over = listing(*([null] * (1 + draw.below(4))))
+    around = (rule, listing(rule, joined(1)), size(rule), equals(rule, joined(2)), binary("||", rule, true),
+              comprehension(3, 4, over, spell(text[1]), true, binary("+", R, rule), R), comprehension(3, 4, over, listing(), true, binary("+", R, listing(rule, I)), R))
+    return around[form if form < 5 else 5 + draw.below(2)]
+
+
+def most_part() -> Part:
+    for case in own_limits():
+        if case.tag == "heavy":
+            yield ["empty", *(bind_line(*one) for one in case.bindings), eval_line(case.table, case.text, case.limits)]
+    doubled = assemble(comprehension(3, 4, listing(*([null] * 20)), listing(), true, listing(R, R), R))
+    yield [eval_line(doubled.table, doubled.text)]
+
+
+def odd_part() -> Part:
+    true_table = "01040001"
+    yield ["", " ", "   empty   ", "empty\r", "\tempty", "Empty", f"eval 1 0 0 - {true_table}\r", f"  eval  1 0 0  -  {true_table}  ", f"eval 1 0 0 {true_table}",
+           f"eval 0 0 0 - {true_table}", f"eval {'0' * 40}1 0 0 - {true_table}", *(f"eval {most} {most} {most} - {true_table}" for most in (2**64 - 1, 2**64, 10**40)),
+           f"eval +1 0 0 - {true_table}", f"eval -1 0 0 - {true_table}", "eval 1 0 0 - -", f"eval 1 0 0 -- {true_table}", f"eval 1 0 0 - {true_table}-",
+           "eval 1 0 0 - 0C05000000", "eval 1 0 0 - 0c05000000", *(f"eval 1 0 0 - 0104000{digit}" for digit in "/:@Gg`"), "eval 1 0 0 - 0X040001"]
+    yield ["room 0 0", "bind 0 - 000300", "bind 0 - 000300", "bind 1 - 0c05000000", "bind 2 - 0c08000100000300", "bind 3 61 05070000000100", "bind 3 - 05070000000000",
+           *(f"eval 9 9 9 - 070400{name:02x}" for name in range(5))]
+    yield ["room 1 1", "bind 0 - 0c08000100000300", "bind 1 - 0c08000100000300", "bind 1 6162 05070000000200", "bind 1 6162 05070001000100", "bind 2 6162 05070001000100",
+           "empty", "bind 2 6162 05070001000100", *(f"eval 9 9 9 - 070400{name:02x}" for name in range(3))]
+    yield [f"room {2**64} {2**64}", *(f"bind {name} - 000300" for name in (127, 128, 255, 256, 2**64, 10**30)), "eval 9 9 9 - 0704007f", "eval 9 9 9 - 07040080"]
+
+
 def make(oracle: str, folder: Path) -> None:
     given, wanted, replay = [], [], Replay()
     parts = {"conformance": conformance_part, "crate": lambda: crate_part(oracle), "limits": limits_part, "elsewhere": elsewhere_part,
-             "bindings": bindings_part, "bad lines": bad_part}
+             "bindings": bindings_part, "bad lines": bad_part, "refusals": lambda: family_part("refusals"), "nesting": lambda: family_part("nesting"),
+             "text limits": text_limits_part, "most": most_part, "odd lines": odd_part}
     for name, part in parts.items():
         before = len(wanted)
         for lines in ([[f"room {CELLS_MAX} {TEXT_MAX}"]] + list(part())):
@@ -155,8 +216,8 @@ def same_elsewhere(rule: str, answer: str, last: list = []) -> None:
 
 
 def against(path: Path, folder: Path) -> None:
-    expect, wrote = (folder / "stdout").read_text().splitlines(), path.read_text().splitlines()
-    asked = [line for line in (folder / "stdin").read_text().splitlines() if not re.match(r"(room \d+ \d+|empty)$", line)]
+    given, expect, wrote = (file.read_bytes().decode().split("\n")[:-1] for file in (folder / "stdin", folder / "stdout", path))
+    asked = [line for line in given if not re.match(r" *(room \d+ \d+|empty) *$", line)]
     differences = [(line, want, found) for line, want, found in zip(asked, expect, wrote) if want != found]
     for line, want, found in differences[:20]:
         print(f"{line[:300]}\nexpected {want[:300]}\n   found {found[:300]}")

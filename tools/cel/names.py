@@ -1,7 +1,8 @@
 """Which number each name of a rule has in its table.
 
 The names of an explicit list are 0, 1, 2, .. ; `n0` to `n127` are the names of those numbers; what the macros bring in has
-numbers from the top; each other name gets, as it first appears, the lowest number that is free.
+numbers from the top; each other name gets, as it first appears, the lowest number that is free. Two names of one number are
+refused, but for `n0` and its like beside the listed name of that number.
 """
 
 from __future__ import annotations
@@ -17,10 +18,15 @@ class Names:
         if len(set(listed)) < len(listed) or len(listed) > 128:
             raise ValueError("a name stands twice in the list, or there are more than 128")
         self.numbers = {name: number for number, name in enumerate(listed)}
+        self.listed = frozenset(listed)
 
     def number(self, name: str) -> int:
         if name not in self.numbers:
-            self.numbers[name] = self.new_number(name)
+            number = self.new_number(name)
+            for other in self.numbers:
+                if self.numbers[other] == number and (name in MACRO_NAMES or other not in self.listed):
+                    raise ValueError(f"{other} and {name} would both have the number {number}: give the names with --names")
+            self.numbers[name] = number
         return self.numbers[name]
 
     def new_number(self, name: str) -> int:

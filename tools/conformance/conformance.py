@@ -3,6 +3,7 @@
 
     conformance.py                 holds every row of cases/ against the model in tools/rules
     conformance.py lines FOLDER    writes stdin and stdout of `replay` for them into a folder
+    conformance.py stored FOLDER   tests that stdin and stdout in a folder (crates/replay) begin with them and their answers
     conformance.py deviations      the deliberate deviations with their rows, for docs/DIFFERENCES.md
 
 A row of cases/*.txt is CEL text, bindings, and the answer that the language definition gives, in the words of `ask`:
@@ -130,6 +131,22 @@ def write(folder: Path) -> None:
     print(f"{len(given)} lines in, {len(wanted)} lines out")
 
 
+def stored(folder: Path) -> None:
+    """The list of `replay` has each row as it is written in cases/, and the answer that stands there."""
+    given, wanted = (iter((folder / name).read_bytes().decode().split("\n")) for name in ("stdin", "stdout"))
+    next(given)  # the room
+    count = 0
+    for one in rows():
+        asked = lines(one)
+        if asked != [next(given, "") for _ in asked]:
+            sys.exit(f"{one.at}: {one.cel}: not in {folder}/stdin at its place")
+        *bound, said = [next(wanted, "") for _ in asked[1:]]
+        if re.split(" at | steps ", said)[0] != one.answer or any(word != "ok" for word in bound):
+            sys.exit(f"{one.at}: {one.cel}: in {folder}/stdout {said}, in the row {one.answer}")
+        count += 1
+    print(f"{count} rows stand in {folder}")
+
+
 def deviations() -> None:
     for name, says in DEVIATIONS.items():
         some = [one for one in rows() if one.deviation == name]
@@ -143,6 +160,8 @@ def main() -> None:
         check()
     elif sys.argv[1] == "lines" and len(sys.argv) == 3:
         write(Path(sys.argv[2]))
+    elif sys.argv[1] == "stored" and len(sys.argv) == 3:
+        stored(Path(sys.argv[2]))
     elif sys.argv[1:] == ["deviations"]:
         deviations()
     else:

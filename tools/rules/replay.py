@@ -8,7 +8,8 @@
     empty                                 every name absent
     eval STEPS CELLS TEXT TEXTHEX TABLEHEX    the line of `ask`; what is lent, then the literal text and the table
 
-`-` stands for no bytes; words have spaces between them. A line that is none of these is answered with `bad line N`.
+`-` stands for no bytes; words have spaces between them. A line that is none of these, or has 524,288 bytes or more, is answered
+with `bad line N`.
 """
 
 from __future__ import annotations
@@ -22,6 +23,7 @@ from model.answers import answer_line
 from model.values import CELLS_MAX, TEXT_MAX, List, Map, Optional, Value
 
 LONGEST_VALUE = 1_000_000  # bytes of a value that a line shows
+LINE = 524_288  # a line of so many bytes is bad
 
 
 class Replay:
@@ -34,6 +36,8 @@ class Replay:
     def answer(self, line: str) -> "str | None":
         """The line that answers a line; None where nothing is printed."""
         self.number += 1
+        if len(line) >= LINE:
+            return f"bad line {self.number}"
         try:
             command, *words = (word for word in line.split(" ") if word)
             if command == "room" and len(words) == 2:

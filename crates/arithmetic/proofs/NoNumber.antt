@@ -16,7 +16,8 @@ use Rattle.rooms.specs.Rooms.{Rooms}
 use Rattle.machine.specs.declared.outcome.Used.{Used}
 use Rattle.machine.specs.Outcomes.{Res, noOverload}
 use Rattle.machine.specs.Numbers.{onlyAdd, partsArith, plainArith, arithmetic}
-use Rattle.arithmetic.specs.Sums.{sumParts, sumPlain, sumOf}
+use Rattle.listsum.specs.ListSums.{sumParts}
+use Rattle.arithmetic.specs.Sums.{sumPlain, sumOf}
 
 no-sum : (p : ℕ) (o : Arith) (u : Used) (r : Rooms) → onlyAdd p o (λ z q. (noOverload p z, q)) u r ≡ (noOverload p u, r)
 no-sum p add u r = refl

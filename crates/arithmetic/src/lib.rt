@@ -1,4 +1,3 @@
-// Arithmetic: on numbers of one kind, and `+` on texts and on lists, which copies both.
-pub mod numeric;
+// The arithmetic operators: on numbers by the crate numeric, `+` on texts and lists by textsum and listsum.
 pub mod operations;
 pub mod sums;

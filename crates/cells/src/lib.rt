@@ -22,6 +22,10 @@ use rooms::value::Value;
 fn value_of(head: u64, payload: u64) -> Value
     ensures { λ r. ⌜ r ≡ cellOf head payload ⌝ }
 {
+    // The kinds below have no fields in their heads, and most cells are of one of them.
+    if head < STRING {
+        return bare_value(head, payload);
+    }
     let kind = head % SPACE_UNIT;
     let space = head / SPACE_UNIT % SPACE_UNIT;
     let nesting = head / NESTING_UNIT % SPACE_UNIT;

@@ -1,16 +1,13 @@
-// `==`, `!=`, `in` and the orderings, by the rules of the crate comparing.
+// `==`, `!=` and the orderings, by the rules of the crates equality and ordering.
 ghost use mathlib.Core.Path.{_≡_};
-ghost use mathlib.Core.Bool.{true, false, Bool·beq};
+ghost use mathlib.Core.Bool.{Bool·beq};
 ghost use mathlib.Core.List.{List};
 ghost use Prim.Native.Nat.{ℕ};
 ghost use Rattle.meaning.specs.Comparison.{holds};
 ghost use Rattle.rooms.specs.Rooms.{rooms};
-ghost use Rattle.rooms.specs.Value.{partsOf};
 ghost use Rattle.machine.specs.Outcomes.{truthOut};
-ghost use Rattle.machine.specs.Comparison.{onPairs, onFound, equalOut, orderedOut, compareOut};
-ghost use Rattle.machine.specs.Selection.{inParts};
+ghost use Rattle.machine.specs.Comparison.{onPairs, equalOut, orderedOut, compareOut};
 ghost use Rattle.outcomes.specs.Seen.{comparisonSeen};
-use comparing::lookup::Found;
 use equality::Pairs;
 use machine::outcome::Error;
 use machine::outcome::Outcome;
@@ -18,12 +15,10 @@ use machine::outcome::Used;
 use numbers::order::Order;
 use ordering::Compared;
 use outcomes::operators::Comparison;
-use outcomes::outcomes::is_key;
 use outcomes::outcomes::no_overload;
 use outcomes::outcomes::out_of_steps;
 use outcomes::outcomes::truth_out;
 use outcomes::outcomes::with_steps;
-use rooms::value::Parts;
 use rooms::value::Value;
 
 // `same` is what two equal values give.
@@ -51,7 +46,7 @@ pub fn equals(
 ) -> Outcome
     ensures { λ r. ⌜ r ≡ equalOut limit same left right used (rooms (now (literal .entry)) (now («binding_cells» .entry)) (now («binding_text» .entry)) (now (cells .entry)) (now (text .entry))) ⌝ }
 {
-    let pairs = equality::equal(
+    let pairs = equals::equal(
         literal,
         binding_cells,
         binding_text,
@@ -63,83 +58,6 @@ pub fn equals(
         used.steps,
     );
     from_pairs(pairs, same, used)
-}
-
-fn from_found(found: Found, used: Used) -> Outcome
-    ensures { λ r. ⌜ r ≡ onFound found used (λ c u. truthOut true u) (λ u. truthOut false u) ⌝ }
-{
-    match found {
-        Found::At(_, steps) => truth_out(true, with_steps(used, steps)),
-        Found::Missing(steps) => truth_out(false, with_steps(used, steps)),
-        Found::Out(steps) => out_of_steps(with_steps(used, steps)),
-    }
-}
-
-fn from_among(pairs: Pairs, used: Used) -> Outcome
-    ensures { λ r. ⌜ r ≡ onPairs pairs used (λ b u. truthOut b u) ⌝ }
-{
-    match pairs {
-        Pairs::Same(steps) => truth_out(true, with_steps(used, steps)),
-        Pairs::Unlike(steps) => truth_out(false, with_steps(used, steps)),
-        Pairs::Out(steps) => out_of_steps(with_steps(used, steps)),
-    }
-}
-
-// `in`: among a list's elements or a map's keys.
-pub fn is_in(
-    literal: &[u8],
-    binding_cells: &[u64],
-    binding_text: &[u8],
-    cells: &[u64],
-    text: &[u8],
-    limit: usize,
-    v: Value,
-    container: Value,
-    at: usize,
-    used: Used,
-) -> Outcome
-    ensures { λ r. ⌜ r ≡ inParts limit at (rooms (now (literal .entry)) (now («binding_cells» .entry)) (now («binding_text» .entry)) (now (cells .entry)) (now (text .entry))) v used (partsOf container) ⌝ }
-{
-    match rooms::value::parts_of(container) {
-        Parts::Elements(space, first, length) => {
-            let pairs = equality::among(
-                literal,
-                binding_cells,
-                binding_text,
-                cells,
-                text,
-                limit,
-                v,
-                space,
-                first,
-                length,
-                used.steps,
-            );
-            from_among(pairs, used)
-        }
-        Parts::Entries(space, first, length) => {
-            if is_key(v) {
-                let found = comparing::lookup::find(
-                    literal,
-                    binding_cells,
-                    binding_text,
-                    cells,
-                    text,
-                    limit,
-                    v,
-                    space,
-                    first,
-                    length,
-                    used.steps,
-                );
-                from_found(found, used)
-            } else {
-                no_overload(at, used)
-            }
-        }
-        Parts::Present(_, _) => no_overload(at, used),
-        Parts::Nothing => no_overload(at, used),
-    }
 }
 
 fn holds_less(operator: Comparison) -> bool

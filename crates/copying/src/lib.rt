@@ -1,6 +1,8 @@
 // Parts of a value are copied to where room was taken for them.
 ghost use mathlib.Core.Path.{_≡_};
+ghost use mathlib.Core.Bool.{cond};
 ghost use lib.ListN.{length, getD, set};
+ghost use Rattle.rooms.specs.declared.value.TextSpace.the-variants.{Literal};
 ghost use Rattle.rooms.specs.Rooms.{textOf};
 ghost use Rattle.building.specs.Building.{copied, pasted};
 use cells::cell_at;
@@ -56,8 +58,8 @@ fn put_byte(bytes: &mut [u8], index: usize, byte: u8)
     }
 }
 
-// Bytes of a space are copied, one after the other, to the evaluation's text from `to` on.
-pub fn copy_text(
+// Bytes of a space are copied, one after the other, each where it is there and has room.
+fn copy_each(
     literal: &[u8],
     binding_text: &[u8],
     text: &mut [u8],
@@ -78,4 +80,62 @@ pub fn copy_text(
         place += 1;
         left -= 1;
     }
+}
+
+// Bytes of another slice are copied where all of them are there, with room for them. Nothing is asked between two of them, so the compiler copies
+// many at once.
+fn copied_whole(from: &[u8], text: &mut [u8], first: u16, length: u16, to: u16) -> bool
+    ensures { λ r. ⌜ now (text .exit) ≡ cond r (pasted (now (from .entry)) (now (from .entry)) Literal (now (text .entry)) first to length) (now (text .entry)) ⌝ }
+{
+    let start = first as usize;
+    let place = to as usize;
+    let count = length as usize;
+    if from.len() < start + count {
+        return false;
+    }
+    if text.len() < place + count {
+        return false;
+    }
+    let mut done = 0;
+    while done < count {
+        text[place + done] = from[start + done];
+        done += 1;
+    }
+    true
+}
+
+fn copied_at_once(
+    literal: &[u8],
+    binding_text: &[u8],
+    text: &mut [u8],
+    space: TextSpace,
+    first: u16,
+    length: u16,
+    to: u16,
+) -> bool
+    ensures { λ r. ⌜ now (text .exit) ≡ cond r (pasted (now (literal .entry)) (now («binding_text» .entry)) space (now (text .entry)) first to length) (now (text .entry)) ⌝ }
+{
+    match space {
+        TextSpace::Literal => copied_whole(literal, text, first, length, to),
+        TextSpace::Binding => copied_whole(binding_text, text, first, length, to),
+        TextSpace::Evaluation => false,
+    }
+}
+
+// Bytes of a space are copied, one after the other, to the evaluation's text from `to` on.
+pub fn copy_text(
+    literal: &[u8],
+    binding_text: &[u8],
+    text: &mut [u8],
+    space: TextSpace,
+    first: u16,
+    length: u16,
+    to: u16,
+)
+    ensures { λ _. ⌜ now (text .exit) ≡ pasted (now (literal .entry)) (now («binding_text» .entry)) space (now (text .entry)) first to length ⌝ }
+{
+    if copied_at_once(literal, binding_text, text, space, first, length, to) {
+        return;
+    }
+    copy_each(literal, binding_text, text, space, first, length, to);
 }

@@ -1,3 +1,2 @@
-// A record of fixed operands: what its rule says after the operand that is begun first, and after the other one.
+// A record of fixed operands: what its rule says after the operand that is begun last.
 pub mod both;
-pub mod first;

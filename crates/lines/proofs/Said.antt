@@ -20,7 +20,7 @@ use Rattle.pieces.specs.Spelled.{ascii}
 use Rattle.written.specs.Written.{written}
 use Rattle.written.specs.Shown.{shownIn}
 use Rattle.written.proofs.ReadOut.{shown-written}
-use Rattle.lines.specs.Written.{longestValue, shortened, placed, counted, exhausted, lineOf}
+use Rattle.phrases.specs.Written.{longestValue, shortened, placed, counted, exhausted, lineOf}
 use Rattle.lines.specs.Shown.{shownAnswer}
 
 abbrev Shows : Told → List ℕ → Type 0

@@ -9,7 +9,7 @@ use Rattle.answers.specs.declared.Answer.the-variants as Answer
 use Rattle.answers.specs.Meant.{countsIn}
 use Rattle.pieces.specs.Spelled.{ascii}
 use Rattle.written.specs.Shown.{shownIn}
-use Rattle.lines.specs.Written.{longestValue, shortened, placed, counted, exhausted}
+use Rattle.phrases.specs.Written.{longestValue, shortened, placed, counted, exhausted}
 
 unfoldable pub shownAnswer : Rooms → Answer → List ℕ
 shownAnswer r (Answer.Refused number place) = ascii "Refused " ++ placed number place

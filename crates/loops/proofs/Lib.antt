@@ -1,3 +1,2 @@
 -- Laws for the functions' proofs, and for those who call: a comprehension's decisions are the machine's (`Looped`). Assume nothing.
-pub mod Runs
 pub mod Looped

@@ -1,5 +1,3 @@
--- What the contracts cite beside the machine: the form of a contract with lent memory (`Gives`), the code's enums as the machine's views (`Seen`),
--- and what a condition decides (`Decisions`).
+-- What the contracts cite beside the machine: the form of a contract with lent memory (`Gives`), the code's enums as the machine's views (`Seen`).
 pub mod Gives
 pub mod Seen
-pub mod Decisions

@@ -1,10 +1,8 @@
 -- The enums of the code as the types of the definition and the machine.
-use Prim.Native.Nat.{ℕ}
 use mathlib.Core.Bool.{Bool, true, false}
 use mathlib.Core.Option.{Option, none, some}
 use Rattle.meaning.specs.Expr as Expr
 use Rattle.meaning.specs.Expr.{LogicalFold}
-use Rattle.machine.specs.declared.outcome.Used.{Used}
 use Rattle.machine.specs.Views as Views
 use Rattle.outcomes.specs.declared.outcomes.Truth.{Truth}
 use Rattle.outcomes.specs.declared.outcomes.Truth.the-variants as Truth
@@ -22,8 +20,6 @@ use Rattle.outcomes.specs.declared.operators.Binary.{Binary}
 use Rattle.outcomes.specs.declared.operators.Binary.the-variants as Binary
 use Rattle.outcomes.specs.declared.operators.Function.{Function}
 use Rattle.outcomes.specs.declared.operators.Function.the-variants as Function
-use Rattle.outcomes.specs.declared.logic.Go.{Go}
-use Rattle.outcomes.specs.declared.logic.Go.the-variants as Go
 
 -- ---- of values
 
@@ -77,10 +73,3 @@ functionSeen Function.Size = Expr.sizeCall
 functionSeen Function.Of = Expr.ofCall
 functionSeen Function.HasValue = Expr.hasValueCall
 functionSeen Function.Value = Expr.valueCall
-
--- ---- decisions
-
--- the right operand is begun from these counts, or not
-abbrev pub goSeen : Go → Option Used
-goSeen Go.Stop = none
-goSeen (Go.On u) = some u

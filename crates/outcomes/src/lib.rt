@@ -1,4 +1,3 @@
-// What the rules share: outcomes and what is seen of a value, the operators, logic and conditions.
-pub mod logic;
+// What the rules share: outcomes and what is seen of a value, the operators.
 pub mod operators;
 pub mod outcomes;

@@ -21,19 +21,20 @@ use Rattle.machine.specs.declared.outcome.Outcome.{Outcome}
 use Rattle.machine.specs.declared.outcome.Outcome.the-variants as Outcome
 use Rattle.machine.specs.Outcomes.{Res, Does, withWords, stepped}
 use Rattle.machine.specs.Machine.{machine}
-use Rattle.nodes.specs.Records.{slotIn, leafStep}
-use Rattle.nodes.proofs.Leaves.{literal-gives, leaf-machine}
+use Rattle.leaves.specs.Leaf.{slotIn, leafStep}
+use Rattle.leaves.proofs.Leaves.{literal-gives, leaf-machine}
 use Rattle.machine.specs.Comprehension.{Loop, AppendStep, Gathered, Gathering, asks, addRun, gathered, guarded, appendItems, appendTurns, nothingGathered}
-use Rattle.outcomes.specs.declared.logic.Asked.{Asked}
-use Rattle.outcomes.specs.declared.logic.Asked.the-variants as Asked
-use Rattle.outcomes.specs.Decisions.{askedOf, onAsked}
-use Rattle.loops.specs.declared.Collected.{Collected}
-use Rattle.loops.specs.declared.Gather.{Gather}
-use Rattle.loops.specs.declared.Gather.the-variants as Gather
-use Rattle.loops.specs.Loops.{gatheredIn, gatherOf, GatherIn, onGather}
-use Rattle.loops.proofs.Looped.{items-as}
-use Rattle.nodes.specs.declared.paths.Places.{Places}
-use Rattle.nodes.specs.Paths.{loopAt, guardAt, appendAt}
+use Rattle.conditions.specs.declared.Asked.{Asked}
+use Rattle.conditions.specs.declared.Asked.the-variants as Asked
+use Rattle.conditions.specs.Decisions.{askedOf, onAsked}
+use Rattle.runs.specs.declared.Collected.{Collected}
+use Rattle.gathering.specs.declared.Gather.{Gather}
+use Rattle.gathering.specs.declared.Gather.the-variants as Gather
+use Rattle.runs.specs.Collects.{gatheredIn}
+use Rattle.gathering.specs.Gathers.{gatherOf, GatherIn, onGather}
+use Rattle.gathering.proofs.GatherLaws.{items-as}
+use Rattle.paths.specs.declared.Places.{Places}
+use Rattle.paths.specs.Paths.{loopAt, guardAt, appendAt}
 use Rattle.recursion.proofs.Stops.{Is, after-operand}
 use Rattle.recursion.proofs.Turns.{asked}
 

@@ -24,15 +24,15 @@ use Rattle.machine.specs.declared.outcome.Outcome.the-variants as Outcome
 use Rattle.machine.specs.Outcomes.{Res}
 use Rattle.machine.specs.Comprehension.{Items, AppendStep, itemsParts, onItems, emptyParts, turns, appendTurns, nothingGathered, loopFrom}
 use Rattle.machine.specs.Machine.{body, machine, appendStep}
-use Rattle.loops.specs.declared.Range.{Range}
-use Rattle.loops.specs.declared.Range.the-variants as Range
-use Rattle.loops.specs.Loops.{rangeSeen}
-use Rattle.nodes.specs.declared.paths.Path.{Path}
-use Rattle.nodes.specs.declared.paths.Path.the-variants as Path
-use Rattle.nodes.specs.declared.paths.Places.{Places}
-use Rattle.nodes.specs.Paths.{placesAt, loopAt, pathOf, pathSeen, appendAt, PathIn}
-use Rattle.nodes.proofs.Sights.{literal-seen}
-use Rattle.nodes.proofs.Comprehensions.{ComprehensionAt, openPath, turns-taken, appends-taken}
+use Rattle.ranges.specs.declared.Range.{Range}
+use Rattle.ranges.specs.declared.Range.the-variants as Range
+use Rattle.ranges.specs.Ranges.{rangeSeen}
+use Rattle.paths.specs.declared.Path.{Path}
+use Rattle.paths.specs.declared.Path.the-variants as Path
+use Rattle.paths.specs.declared.Places.{Places}
+use Rattle.paths.specs.Paths.{placesAt, loopAt, pathOf, pathSeen, appendAt, PathIn}
+use Rattle.paths.proofs.Sights.{literal-seen}
+use Rattle.paths.proofs.Comprehensions.{ComprehensionAt, openPath, turns-taken, appends-taken}
 use Rattle.recursion.proofs.Stops.{Is, Stops, stops-there, goes-on}
 
 -- ---- the append path is only there with a literal for a condition

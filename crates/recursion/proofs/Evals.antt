@@ -22,19 +22,20 @@ use Rattle.containers.specs.declared.Begun.{Begun}
 use Rattle.containers.specs.declared.Begun.the-variants as Begun
 use Rattle.containers.specs.Filling.{begunOf, BegunIn, onBegun}
 use Rattle.containers.proofs.Filled.{begun, begun-within}
-use Rattle.joins.specs.declared.first.Fixed.{Fixed}
-use Rattle.joins.specs.declared.first.Next.{Next}
-use Rattle.joins.specs.declared.first.Next.the-variants as Next
-use Rattle.joins.specs.Joins.{joinOf, onNext}
-use Rattle.nodes.specs.declared.records.Shape.{Shape}
-use Rattle.nodes.specs.declared.records.Shape.the-variants as Shape
-use Rattle.nodes.specs.Records.{leafKinds, slotIn, leafOut, shapeOf, firstAt, nextOf, NextIn}
-use Rattle.nodes.proofs.Leaves.{leaf-body}
-use Rattle.nodes.proofs.Rows.{list-at, map-at}
+use Rattle.following.specs.declared.Fixed.{Fixed}
+use Rattle.following.specs.declared.Next.{Next}
+use Rattle.following.specs.declared.Next.the-variants as Next
+use Rattle.following.specs.Joins.{joinOf, onNext}
+use Rattle.forms.specs.declared.Shape.{Shape}
+use Rattle.forms.specs.declared.Shape.the-variants as Shape
+use Rattle.leaves.specs.Leaf.{leafKinds, slotIn, leafOut}
+use Rattle.forms.specs.Records.{shapeOf, firstAt, nextOf, NextIn}
+use Rattle.leaves.proofs.Leaves.{leaf-body}
+use Rattle.leaves.proofs.Rows.{list-at, map-at}
 use Rattle.recursion.proofs.Stops.{Is}
 use Rattle.recursion.proofs.Operands.{beyond}
-use Rattle.nodes.proofs.ShapeLaws.{none-body}
-use Rattle.nodes.proofs.Operands.{FixedAt}
+use Rattle.forms.proofs.ShapeLaws.{none-body}
+use Rattle.forms.proofs.Operands.{FixedAt}
 
 -- ---- its step
 

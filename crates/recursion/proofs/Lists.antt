@@ -25,8 +25,8 @@ use Rattle.machine.specs.Machine.{elements, machine}
 use Rattle.containers.specs.declared.Ready.{Ready}
 use Rattle.containers.specs.Filling.{addedOf, AddedIn}
 use Rattle.containers.proofs.Filled.{added}
-use Rattle.nodes.specs.Records.{unmarkedAt}
-use Rattle.nodes.proofs.Rows.{ElementsLeft, elements-next, element-does, list-at}
+use Rattle.leaves.specs.Leaf.{unmarkedAt}
+use Rattle.leaves.proofs.Rows.{ElementsLeft, elements-next, element-does, list-at}
 use Rattle.recursion.proofs.Stops.{Is, Stops, stops-there, goes-on}
 
 pub added-count : (p : Option Value) (base : ℕ) (g : Ready) (w : List ℕ) {h : Ready} {cells : List ℕ} → AddedIn h cells (addedOf base g p w) → h .count ≤ g .count + 1

@@ -32,8 +32,8 @@ use Rattle.containers.specs.declared.Entry.{Entry}
 use Rattle.containers.specs.declared.Entry.the-variants as Entry
 use Rattle.containers.specs.Filling.{keyedOf, onKey, insertedIf, enteredOf, EntryIn, onEntry}
 use Rattle.containers.proofs.Filled.{keyed, entered}
-use Rattle.nodes.specs.Records.{unmarkedAt}
-use Rattle.nodes.proofs.Rows.{EntriesLeft, pairs-next, entry-does, map-at}
+use Rattle.leaves.specs.Leaf.{unmarkedAt}
+use Rattle.leaves.proofs.Rows.{EntriesLeft, pairs-next, entry-does, map-at}
 use Rattle.recursion.proofs.Stops.{Is, Stops, after-operand, stops-there, goes-on}
 
 -- how many parts an entry leaves, if it is made

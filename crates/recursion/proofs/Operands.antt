@@ -17,8 +17,8 @@ use Rattle.accepted.specs.Records.{exprOf, Sound}
 use Rattle.machine.specs.declared.outcome.Used.{Used}
 use Rattle.machine.specs.declared.outcome.Outcome.{Outcome}
 use Rattle.machine.specs.Machine.{machine}
-use Rattle.nodes.specs.Records.{leafKinds, slotIn, leafStep}
-use Rattle.nodes.proofs.Leaves.{leaf-machine}
+use Rattle.leaves.specs.Leaf.{leafKinds, slotIn, leafStep}
+use Rattle.leaves.proofs.Leaves.{leaf-machine}
 use Rattle.recursion.proofs.Stops.{Is}
 
 -- as the code reads a slot that there is not

@@ -25,18 +25,18 @@ use Rattle.machine.specs.declared.outcome.Outcome.the-variants as Outcome
 use Rattle.machine.specs.Outcomes.{Res, Does}
 use Rattle.machine.specs.Comprehension as Machine
 use Rattle.machine.specs.Comprehension.{Loop, Binds, Holds, asks, finish, afterStep, turn, turns}
-use Rattle.outcomes.specs.declared.logic.Asked.{Asked}
-use Rattle.outcomes.specs.declared.logic.Asked.the-variants as Asked
-use Rattle.outcomes.specs.Decisions.{askedOf, onAsked}
-use Rattle.outcomes.proofs.Asking.{asked-as}
+use Rattle.conditions.specs.declared.Asked.{Asked}
+use Rattle.conditions.specs.declared.Asked.the-variants as Asked
+use Rattle.conditions.specs.Decisions.{askedOf, onAsked}
+use Rattle.conditions.proofs.Asking.{asked-as}
 use Rattle.loops.specs.declared.Pending.{Pending}
 use Rattle.loops.specs.declared.Pending.the-variants as Pending
 use Rattle.loops.specs.declared.Step.{Step}
 use Rattle.loops.specs.declared.Step.the-variants as Step
 use Rattle.loops.specs.Loops.{pendingSeen, stepOf, onStep}
 use Rattle.loops.proofs.Looped.{step-as}
-use Rattle.nodes.specs.declared.paths.Places.{Places}
-use Rattle.nodes.specs.Paths.{loopAt, finishWith}
+use Rattle.paths.specs.declared.Places.{Places}
+use Rattle.paths.specs.Paths.{loopAt, finishWith}
 use Rattle.recursion.proofs.Stops.{Is}
 
 -- ---- a condition

@@ -1,3 +1,2 @@
 -- Laws for the functions' proofs. Assume nothing.
-pub mod Places
 pub mod Selects

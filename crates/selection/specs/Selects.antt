@@ -1,18 +1,12 @@
 -- What a select decides, as the code has it.
 use Prim.Native.Nat.{ℕ}
-use mathlib.Core.Path.{_≡_}
 use mathlib.Core.Bool.{Bool}
-use Rattle.rooms.specs.Rooms.{Rooms}
 use Rattle.machine.specs.declared.outcome.Used.{Used}
 use Rattle.machine.specs.declared.outcome.Outcome.{Outcome}
-use Rattle.machine.specs.Outcomes.{Res, noOverload}
+use Rattle.machine.specs.Outcomes.{noOverload}
 use Rattle.machine.specs.Views as Views
 use Rattle.machine.specs.Views.{Optional, notOptional, nonePresent}
 use Rattle.machine.specs.Selection.{selectInNone}
-
--- an outcome that leaves the rooms as they are
-abbrev pub InMap : Outcome → Rooms → Res → Type 0
-InMap o q m = _≡_ {A = Res} (o, q) m
 
 -- from what has no parts
 abbrev pub selectPlainOut : ℕ → (test : Bool) → Used → Optional → Outcome

@@ -1,4 +1,2 @@
-// Look-ups: index, optional index, select, test and optional select.
-pub mod index;
-pub mod lookup;
+// Select and its test.
 pub mod select;

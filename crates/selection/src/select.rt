@@ -1,19 +1,15 @@
 // `e.field` and has(e.field).
 ghost use mathlib.Core.Path.{_≡_};
-ghost use mathlib.Core.List.{List};
-ghost use Prim.Native.Nat.{ℕ};
-ghost use Rattle.rooms.specs.Rooms.{Rooms, rooms};
+ghost use Rattle.rooms.specs.Rooms.{rooms};
 ghost use Rattle.rooms.specs.Value.{partsOf};
-ghost use Rattle.machine.specs.Outcomes.{present};
 ghost use Rattle.machine.specs.Views.{optionalIn};
-ghost use Rattle.machine.specs.Selection.{lookUp, optionally, tells, selectInContainer, selectInMap, selectInNone, selectInPresent, selectField};
+ghost use Rattle.machine.specs.Selection.{lookUp, selectInContainer, selectInNone, selectInPresent, selectField};
 ghost use Rattle.outcomes.specs.Gives.{Gives};
-ghost use Rattle.selection.specs.Selects.{selectPlainOut, InMap};
-use crate::lookup::look_up;
-use crate::lookup::optionally;
-use crate::lookup::present;
-use crate::lookup::tells;
+ghost use Rattle.selection.specs.Selects.{selectPlainOut};
 use cells::cell_at;
+use lookedup::select_in_container;
+use lookedup::select_in_map;
+use lookups::look_up;
 use machine::outcome::Error;
 use machine::outcome::Outcome;
 use machine::outcome::Used;
@@ -24,16 +20,6 @@ use outcomes::outcomes::truth_out;
 use rooms::value::Parts;
 use rooms::value::Value;
 use rooms::value::parts_of;
-
-fn select_in_container(cells: &mut [u64], test: bool, found: Outcome) -> Outcome
-    ensures { λ r. ⌜ ((l b t x : List ℕ) → Gives r l b t (now (cells .exit)) x (selectInContainer test found (rooms l b t (now (cells .entry)) x))) ⌝ }
-{
-    if test {
-        tells(found)
-    } else {
-        optionally(cells, found)
-    }
-}
 
 fn select_in_none(test: bool, used: Used) -> Outcome
     ensures { λ r. ⌜ r ≡ selectInNone test used ⌝ }
@@ -121,12 +107,6 @@ fn select_in_present(
         Parts::Present(_, _) => Outcome::Error(Error::NoSuchKey, at, used),
         Parts::Nothing => Outcome::Error(Error::NoSuchKey, at, used),
     }
-}
-
-fn select_in_map(test: bool, found: Outcome) -> Outcome
-    ensures { λ r. ⌜ ((q : Rooms) → InMap r q (selectInMap test found q)) ⌝ }
-{
-    if test { tells(found) } else { found }
 }
 
 // Of what has no parts, none alone has a field: there is none.

@@ -6,8 +6,8 @@ use native.Mathlib.Omega.{arith}
 use Rattle.rooms.specs.Rooms.{rooms}
 use Rattle.recursion.proofs.Appends.{AppendsLoop, no-append, append-ends, append-fails, guard-ends, list-ends, came-unguarded, came-guarded, literal-does, fails-again, gathers-again, run-added, appends-begin, appends-again}
 use Rattle.rooms.specs.Scope.{stored, absent}
-use Rattle.nodes.specs.Paths.{loopAt, appendAt}
-use Rattle.loops.specs.Loops.{gatheredIn}
+use Rattle.paths.specs.Paths.{loopAt, appendAt}
+use Rattle.runs.specs.Collects.{gatheredIn}
 use Prim.Native.Nat.{ℕ}
 use Rattle.recursion.proofs.eval.appends.Reads as appends
 use Rattle.recursion.proofs.eval.+appends+comprehend+eval+finish+list_parts+map_parts+turns.Lts-appends as appends-lts

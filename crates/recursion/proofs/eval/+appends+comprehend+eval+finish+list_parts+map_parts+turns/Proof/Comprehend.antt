@@ -5,8 +5,8 @@ use Prim.Native.Nat.{_+_}
 use native.Mathlib.Omega.{arith}
 use Rattle.rooms.specs.Rooms.{rooms}
 use Rattle.layout.specs.Layout.{after}
-use Rattle.nodes.proofs.KindLaws.{sound-stands}
-use Rattle.nodes.proofs.Comprehensions.{comprehension-at}
+use Rattle.leaves.proofs.KindLaws.{sound-stands}
+use Rattle.paths.proofs.Comprehensions.{comprehension-at}
 use Rattle.recursion.proofs.Comprehends.{init-stops, range-stops, no-range, turns-are, plain-are, guarded-are, condition-sound, step-sound, result-sound, accumulator-small, item-small, operands-smaller, plain-run, guarded-run}
 use Prim.Native.Nat.{ℕ}
 use Rattle.recursion.proofs.eval.comprehend.Reads as comprehend

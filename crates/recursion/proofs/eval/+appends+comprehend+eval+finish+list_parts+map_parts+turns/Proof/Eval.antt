@@ -6,9 +6,9 @@ use native.Mathlib.Omega.{arith}
 use mathlib.Core.List.{List}
 use Rattle.rooms.specs.Rooms.{rooms}
 use Rattle.rooms.proofs.Scopes.{mapped-length}
-use Rattle.nodes.proofs.Rows.{list-at, map-at}
-use Rattle.nodes.specs.declared.records.Shape.the-variants as Shape
-use Rattle.nodes.proofs.ShapeLaws.{leaf-byte, shape-byte}
+use Rattle.leaves.proofs.Rows.{list-at, map-at}
+use Rattle.forms.specs.declared.Shape.the-variants as Shape
+use Rattle.forms.proofs.ShapeLaws.{leaf-byte, shape-byte}
 use Rattle.recursion.proofs.Evals.{no-step, after-step, begun-places, leaf-is, none-is, list-full, list-is, map-full, map-is}
 use Prim.Native.Nat.{ℕ}
 use Rattle.recursion.proofs.eval.eval.Reads as eval

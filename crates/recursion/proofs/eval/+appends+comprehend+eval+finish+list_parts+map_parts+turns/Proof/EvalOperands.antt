@@ -5,9 +5,9 @@ use mathlib.Core.Path.{sym, _∙_}
 use native.Mathlib.Omega.{arith}
 use Rattle.rooms.specs.Rooms.{rooms}
 use Rattle.rooms.proofs.Scopes.{mapped-length}
-use Rattle.nodes.proofs.KindLaws.{sound-stands}
+use Rattle.leaves.proofs.KindLaws.{sound-stands}
 use Rattle.recursion.proofs.Operands.{leaf-here, came-leaf, came-record}
-use Rattle.nodes.proofs.Operands.{fixed-at}
+use Rattle.forms.proofs.Operands.{fixed-at}
 use Rattle.recursion.proofs.Evals.{after-step, stops-first, joins-both, second-at}
 use Prim.Native.Nat.{ℕ}
 use borrow.Fn.PlainCycle.{is}

@@ -4,7 +4,7 @@ use native.Mathlib.Omega.{arith}
 use Rattle.rooms.specs.Rooms.{rooms}
 use Rattle.rooms.proofs.Scopes.{mapped-length}
 use Rattle.accepted.specs.Records.{exprOf}
-use Rattle.nodes.proofs.KindLaws.{sound-stands}
+use Rattle.leaves.proofs.KindLaws.{sound-stands}
 use Rattle.recursion.proofs.Operands.{leaf-here, leaf-does}
 use Rattle.recursion.proofs.Turns.{held-is, result-is}
 use Rattle.machine.specs.Machine.{machine}

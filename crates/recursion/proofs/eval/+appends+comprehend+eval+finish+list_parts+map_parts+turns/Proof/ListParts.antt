@@ -6,8 +6,8 @@ use native.Mathlib.Omega.{arith}
 use Rattle.machine.specs.Views.{partIn}
 use Rattle.rooms.specs.Rooms.{rooms}
 use Rattle.rooms.proofs.Scopes.{mapped-length}
-use Rattle.nodes.proofs.KindLaws.{sound-stands}
-use Rattle.nodes.proofs.Rows.{element-next}
+use Rattle.leaves.proofs.KindLaws.{sound-stands}
+use Rattle.leaves.proofs.Rows.{element-next}
 use Rattle.recursion.proofs.Lists.{ListLoop, list-begins, added-count, no-element, element-stops, element-again}
 use Rattle.recursion.proofs.Operands.{leaf-here, came-leaf, came-record}
 use Prim.Native.Nat.{ℕ}

@@ -6,12 +6,12 @@ use native.Mathlib.Omega.{arith}
 use lib.Dec.{eqb}
 use lib.ListN.{getD}
 use Rattle.machine.specs.Views.{partIn}
-use Rattle.nodes.specs.Records.{unmarkedAt}
+use Rattle.leaves.specs.Leaf.{unmarkedAt}
 use Rattle.rooms.specs.Rooms.{rooms}
 use Rattle.rooms.proofs.Scopes.{mapped-length}
 use Rattle.layout.specs.Layout.{after}
-use Rattle.nodes.proofs.KindLaws.{sound-stands}
-use Rattle.nodes.proofs.Rows.{entry-next}
+use Rattle.leaves.proofs.KindLaws.{sound-stands}
+use Rattle.leaves.proofs.Rows.{entry-next}
 use Rattle.recursion.proofs.Operands.{leaf-here, came-leaf, came-record}
 use Rattle.recursion.proofs.Maps.{MapLoop, map-begins, entered-count, no-entry, key-ends, value-stops, entry-ends, entry-again}
 use Prim.Native.Nat.{ℕ, _<_}

@@ -6,11 +6,11 @@ use native.Mathlib.Omega.{arith}
 use lib.ListN.{length-set}
 use Rattle.rooms.specs.Rooms.{rooms}
 use Rattle.rooms.proofs.Scopes.{mapped-length}
-use Rattle.nodes.proofs.KindLaws.{sound-stands}
+use Rattle.leaves.proofs.KindLaws.{sound-stands}
 use Rattle.recursion.proofs.Operands.{leaf-here, came-leaf, came-record}
 use Rattle.recursion.proofs.Turns.{TurnsLoop, no-turn, turn-ends, turn-fails, step-ends, step-holds, step-binds, extent-least, turns-begin, turns-again}
 use Rattle.rooms.specs.Scope.{stored}
-use Rattle.nodes.specs.Paths.{loopAt}
+use Rattle.paths.specs.Paths.{loopAt}
 use Prim.Native.Nat.{ℕ}
 use borrow.Fn.PlainCycle.{is}
 use Rattle.recursion.proofs.eval.turns.Reads as turns

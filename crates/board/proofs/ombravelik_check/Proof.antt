@@ -1,0 +1,29 @@
+-- `board::ombravelik_check`. Assumes nothing.
+use Rattle.board.proofs.Boarding.{checks-so}
+use borrow.Author.Needs.{needs}
+use Rattle.board.proofs.ombravelik_check.Statement.{statement}
+use Rattle.board.proofs.ombravelik_check.Tie as tie
+use Rattle.board.proofs.ombravelik_check.Reads as reads
+use Rattle.board.proofs.ombravelik_check.Lts as lts
+use Rattle.reports.proofs.put_checked.Reads as put-checked-reads
+use Rattle.table.proofs.check.Reads as check-reads
+
+-- src/lib.rt:22:9
+check-requires : tie.Need-check-requires
+check-requires c κs = search needs
+
+-- src/lib.rt:23:5
+put-checked-requires : tie.Need-put-checked-requires
+put-checked-requires c κs = search needs
+
+-- src/lib.rt:18:1
+same-length : tie.Need-same-length
+same-length c = search needs
+
+-- src/lib.rt:18:1
+returns : tie.Need-returns
+returns c = let given = c .before .before .before .before .before .before .before .before .args in checks-so (given .table .now) (given .literal .now) (given .answer .now) (c .before .before .before .before .check .result) (c .before .before .put-checked .result, c .before .before .put-checked .last .0) (c .before .before .before .before .check .ensures) (c .before .before .put-checked .ensures)
+
+pub ombravelik-check-spec : {M : Type 1} → statement M
+ombravelik-check-spec =
+    tie.close (tie.spec check-requires put-checked-requires same-length returns)

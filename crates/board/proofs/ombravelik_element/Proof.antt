@@ -1,0 +1,43 @@
+-- `board::ombravelik_element`. Assumes nothing.
+use mathlib.Core.Path.{ap, _∙_}
+use Rattle.rooms.specs.declared.value.Value.{Value}
+use Rattle.rooms.specs.Value.{partsOf}
+use Rattle.elements.specs.Elements.{elementIn}
+use Rattle.board.proofs.Boarding.{part-so}
+use borrow.Author.Needs.{needs}
+use Rattle.board.proofs.ombravelik_element.Statement.{statement}
+use Rattle.board.proofs.ombravelik_element.Tie as tie
+use Rattle.board.proofs.ombravelik_element.Reads as reads
+use Rattle.board.proofs.ombravelik_element.Lts as lts
+use Rattle.overlay.proofs.value_of.Reads as value-of-reads
+use Rattle.elements.proofs.element_of.Reads as element-of-reads
+use Rattle.shapes.proofs.put_part.Reads as put-part-reads
+
+-- src/lib.rt:120:9
+value-of-requires : tie.Need-value-of-requires
+value-of-requires c κs = search needs
+
+-- src/lib.rt:121:9
+element-of-requires : tie.Need-element-of-requires
+element-of-requires c κs = search needs
+
+-- src/lib.rt:122:5
+put-part-requires : tie.Need-put-part-requires
+put-part-requires c κs = search needs
+
+-- src/lib.rt:109:1
+same-length : tie.Need-same-length
+same-length c = search needs
+
+-- src/lib.rt:109:1
+returns : tie.Need-returns
+returns c =
+    let given = c .before .before .before .before .before .before .before .before .before .args in
+    part-so (given .part .now) (c .before .before .before .before .element-of .result) _ (c .before .before .put-part .result, c .before .before .put-part .last .0)
+    (c .before .before .before .before .element-of .ensures ∙ ap (λ (v : Value). elementIn (given .binding-cells .now) (given .cells .now) (partsOf v) (given .index)) (c .before .before .before .before .before .value-of .ensures))
+    (c .before .before .put-part .ensures)
+
+pub ombravelik-element-spec : {M : Type 1} → statement M
+ombravelik-element-spec =
+    tie.close
+    (tie.spec value-of-requires element-of-requires put-part-requires same-length returns)

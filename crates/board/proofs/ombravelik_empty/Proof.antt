@@ -1,0 +1,33 @@
+-- `board::ombravelik_empty`. Assumes nothing.
+use Rattle.board.proofs.Boarding.{empties-none, empties-so}
+use borrow.Author.Needs.{needs}
+use Rattle.board.proofs.ombravelik_empty.Statement.{statement}
+use Rattle.board.proofs.ombravelik_empty.Tie as tie
+use Rattle.board.proofs.ombravelik_empty.Reads as reads
+use Rattle.board.proofs.ombravelik_empty.Lts as lts
+use Rattle.bindings.proofs.empty.Reads as empty-reads
+use Rattle.slots.proofs.put_bindings.Reads as put-bindings-reads
+
+-- src/lib.rt:32:9
+returns : tie.Need-returns
+returns c = empties-none (c .before .before .args .state .now) (c .if1 .taken)
+
+-- src/lib.rt:34:32
+empty-requires : tie.Need-empty-requires
+empty-requires c κs = search needs
+
+-- src/lib.rt:34:5
+put-bindings-requires : tie.Need-put-bindings-requires
+put-bindings-requires c κs = search needs
+
+-- src/lib.rt:27:1
+same-length : tie.Need-same-length
+same-length c = search needs
+
+-- src/lib.rt:27:1
+returns-2 : tie.Need-returns-2
+returns-2 c = empties-so (c .before .before .before .before .before .before .before .args .state .now) (c .before .before .put-bindings .last .0) (c .before .before .before .empty .result) (c .before .before .before .before .before .if1 .left) (c .before .before .before .empty .ensures) (c .before .before .put-bindings .ensures)
+
+pub ombravelik-empty-spec : {M : Type 1} → statement M
+ombravelik-empty-spec =
+    tie.close (tie.spec returns empty-requires put-bindings-requires same-length returns-2)

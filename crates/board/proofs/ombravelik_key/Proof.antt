@@ -1,0 +1,42 @@
+-- `board::ombravelik_key`. Assumes nothing.
+use mathlib.Core.Path.{ap, _∙_}
+use Rattle.rooms.specs.declared.value.Value.{Value}
+use Rattle.rooms.specs.Value.{partsOf}
+use Rattle.entries.specs.Entries.{keyIn}
+use Rattle.board.proofs.Boarding.{part-so}
+use borrow.Author.Needs.{needs}
+use Rattle.board.proofs.ombravelik_key.Statement.{statement}
+use Rattle.board.proofs.ombravelik_key.Tie as tie
+use Rattle.board.proofs.ombravelik_key.Reads as reads
+use Rattle.board.proofs.ombravelik_key.Lts as lts
+use Rattle.overlay.proofs.value_of.Reads as value-of-reads
+use Rattle.entries.proofs.key_of.Reads as key-of-reads
+use Rattle.shapes.proofs.put_part.Reads as put-part-reads
+
+-- src/lib.rt:137:9
+value-of-requires : tie.Need-value-of-requires
+value-of-requires c κs = search needs
+
+-- src/lib.rt:138:9
+key-of-requires : tie.Need-key-of-requires
+key-of-requires c κs = search needs
+
+-- src/lib.rt:139:5
+put-part-requires : tie.Need-put-part-requires
+put-part-requires c κs = search needs
+
+-- src/lib.rt:126:1
+same-length : tie.Need-same-length
+same-length c = search needs
+
+-- src/lib.rt:126:1
+returns : tie.Need-returns
+returns c =
+    let given = c .before .before .before .before .before .before .before .before .before .args in
+    part-so (given .part .now) (c .before .before .before .before .key-of .result) _ (c .before .before .put-part .result, c .before .before .put-part .last .0)
+    (c .before .before .before .before .key-of .ensures ∙ ap (λ (v : Value). keyIn (given .binding-cells .now) (given .cells .now) (partsOf v) (given .index)) (c .before .before .before .before .before .value-of .ensures))
+    (c .before .before .put-part .ensures)
+
+pub ombravelik-key-spec : {M : Type 1} → statement M
+ombravelik-key-spec =
+    tie.close (tie.spec value-of-requires key-of-requires put-part-requires same-length returns)

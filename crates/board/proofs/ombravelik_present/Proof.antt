@@ -1,0 +1,43 @@
+-- `board::ombravelik_present`. Assumes nothing.
+use mathlib.Core.Path.{ap, _∙_}
+use Rattle.rooms.specs.declared.value.Value.{Value}
+use Rattle.rooms.specs.Value.{partsOf}
+use Rattle.elements.specs.Elements.{presentIn}
+use Rattle.board.proofs.Boarding.{part-so}
+use borrow.Author.Needs.{needs}
+use Rattle.board.proofs.ombravelik_present.Statement.{statement}
+use Rattle.board.proofs.ombravelik_present.Tie as tie
+use Rattle.board.proofs.ombravelik_present.Reads as reads
+use Rattle.board.proofs.ombravelik_present.Lts as lts
+use Rattle.overlay.proofs.value_of.Reads as value-of-reads
+use Rattle.elements.proofs.present_in.Reads as present-in-reads
+use Rattle.shapes.proofs.put_part.Reads as put-part-reads
+
+-- src/lib.rt:170:9
+value-of-requires : tie.Need-value-of-requires
+value-of-requires c κs = search needs
+
+-- src/lib.rt:171:9
+present-in-requires : tie.Need-present-in-requires
+present-in-requires c κs = search needs
+
+-- src/lib.rt:172:5
+put-part-requires : tie.Need-put-part-requires
+put-part-requires c κs = search needs
+
+-- src/lib.rt:160:1
+same-length : tie.Need-same-length
+same-length c = search needs
+
+-- src/lib.rt:160:1
+returns : tie.Need-returns
+returns c =
+    let given = c .before .before .before .before .before .before .before .before .before .args in
+    part-so (given .part .now) (c .before .before .before .before .present-in .result) _ (c .before .before .put-part .result, c .before .before .put-part .last .0)
+    (c .before .before .before .before .present-in .ensures ∙ ap (λ (v : Value). presentIn (given .binding-cells .now) (given .cells .now) (partsOf v)) (c .before .before .before .before .before .value-of .ensures))
+    (c .before .before .put-part .ensures)
+
+pub ombravelik-present-spec : {M : Type 1} → statement M
+ombravelik-present-spec =
+    tie.close
+    (tie.spec value-of-requires present-in-requires put-part-requires same-length returns)

@@ -1,0 +1,29 @@
+-- `board::ombravelik_read`. Assumes nothing.
+use Rattle.board.proofs.Boarding.{reads-so}
+use borrow.Author.Needs.{needs}
+use Rattle.board.proofs.ombravelik_read.Statement.{statement}
+use Rattle.board.proofs.ombravelik_read.Tie as tie
+use Rattle.board.proofs.ombravelik_read.Reads as reads
+use Rattle.board.proofs.ombravelik_read.Lts as lts
+use Rattle.overlay.proofs.value_of.Reads as value-of-reads
+use Rattle.shapes.proofs.put_shape.Reads as put-shape-reads
+
+-- src/lib.rt:104:9
+value-of-requires : tie.Need-value-of-requires
+value-of-requires c κs = search needs
+
+-- src/lib.rt:105:5
+put-shape-requires : tie.Need-put-shape-requires
+put-shape-requires c κs = search needs
+
+-- src/lib.rt:100:1
+same-length : tie.Need-same-length
+same-length c = search needs
+
+-- src/lib.rt:100:1
+returns : tie.Need-returns
+returns c = reads-so (c .before .before .before .before .before .before .args .shape .now) (c .before .before .before .before .value-of .result) _ (c .before .before .put-shape .result, c .before .before .put-shape .last .0) (c .before .before .before .before .value-of .ensures) (c .before .before .put-shape .ensures)
+
+pub ombravelik-read-spec : {M : Type 1} → statement M
+ombravelik-read-spec =
+    tie.close (tie.spec value-of-requires put-shape-requires same-length returns)

@@ -1,0 +1,43 @@
+-- `board::ombravelik_value`. Assumes nothing.
+use mathlib.Core.Path.{ap, _∙_}
+use Rattle.rooms.specs.declared.value.Value.{Value}
+use Rattle.rooms.specs.Value.{partsOf}
+use Rattle.entries.specs.Entries.{valueIn}
+use Rattle.board.proofs.Boarding.{part-so}
+use borrow.Author.Needs.{needs}
+use Rattle.board.proofs.ombravelik_value.Statement.{statement}
+use Rattle.board.proofs.ombravelik_value.Tie as tie
+use Rattle.board.proofs.ombravelik_value.Reads as reads
+use Rattle.board.proofs.ombravelik_value.Lts as lts
+use Rattle.overlay.proofs.value_of.Reads as value-of-reads
+use Rattle.entries.proofs.value_of.Reads as value-of-reads′
+use Rattle.shapes.proofs.put_part.Reads as put-part-reads
+
+-- src/lib.rt:154:9
+value-of-requires : tie.Need-value-of-requires
+value-of-requires c κs = search needs
+
+-- src/lib.rt:155:9
+value-of-requires-2 : tie.Need-value-of-requires-2
+value-of-requires-2 c κs = search needs
+
+-- src/lib.rt:156:5
+put-part-requires : tie.Need-put-part-requires
+put-part-requires c κs = search needs
+
+-- src/lib.rt:143:1
+same-length : tie.Need-same-length
+same-length c = search needs
+
+-- src/lib.rt:143:1
+returns : tie.Need-returns
+returns c =
+    let given = c .before .before .before .before .before .before .before .before .before .args in
+    part-so (given .part .now) (c .before .before .before .before .value-of2 .result) _ (c .before .before .put-part .result, c .before .before .put-part .last .0)
+    (c .before .before .before .before .value-of2 .ensures ∙ ap (λ (v : Value). valueIn (given .binding-cells .now) (given .cells .now) (partsOf v) (given .index)) (c .before .before .before .before .before .value-of .ensures))
+    (c .before .before .put-part .ensures)
+
+pub ombravelik-value-spec : {M : Type 1} → statement M
+ombravelik-value-spec =
+    tie.close
+    (tie.spec value-of-requires value-of-requires-2 put-part-requires same-length returns)

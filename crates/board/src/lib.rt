@@ -1,0 +1,174 @@
+// The evaluator for callers in C and Rust: numbers and slices only. Whatever is lent, there is an answer. include/ombravelik.h says how they are called.
+ghost use mathlib.Core.Path.{_≡_};
+ghost use mathlib.Core.List.{List};
+ghost use Prim.Native.Nat.{ℕ};
+ghost use Rattle.rooms.specs.Rooms.{rooms};
+ghost use Rattle.rooms.specs.Cells.{cellOf};
+ghost use Rattle.rooms.specs.Value.{partsOf};
+ghost use Rattle.elements.specs.Elements.{elementIn, presentIn};
+ghost use Rattle.entries.specs.Entries.{keyIn, valueIn};
+ghost use Rattle.board.specs.Board.{checks, empties, BindingRoom, bindingRoom, brings, EvaluatesInto, reads, readsPart};
+use admission::Answer;
+use overlay::NO_ROOM;
+use overlay::value_of;
+use reports::ANSWER_WORDS;
+use reports::DONE;
+use slots::STATE_WORDS;
+
+// Whether a table is accepted, with its literal text.
+#[no_mangle]
+pub extern "C" fn ombravelik_check(table: &[u8], literal: &[u8], answer: &mut [u64]) -> u8
+    ensures { λ r. ⌜ _≡_ {A = ℕ × List ℕ} (r, now (answer .exit)) (checks (now (table .entry)) (now (literal .entry)) (now (answer .entry))) ⌝ }
+{
+    let checked = table::check(table, literal);
+    reports::put_checked(answer, checked)
+}
+
+// A state of no bindings, whatever it was.
+#[no_mangle]
+pub extern "C" fn ombravelik_empty(state: &mut [u64]) -> u8
+    ensures { λ r. ⌜ _≡_ {A = ℕ × List ℕ} (r, now (state .exit)) (empties (now (state .entry))) ⌝ }
+{
+    if state.len() != STATE_WORDS {
+        return NO_ROOM;
+    }
+    slots::put_bindings(state, bindings::empty());
+    DONE
+}
+
+// Brings the value that a table spells into a binding room, under a name that has none.
+#[no_mangle]
+pub extern "C" fn ombravelik_bring_in(
+    state: &mut [u64],
+    binding_cells: &mut [u64],
+    binding_text: &mut [u8],
+    name: usize,
+    table: &[u8],
+    literal: &[u8],
+    answer: &mut [u64],
+) -> u8
+    ensures { λ r. ⌜ _≡_ {A = (ℕ × List ℕ) × BindingRoom} ((r, now (answer .exit)), bindingRoom (now (state .exit)) (now («binding_cells» .exit)) (now («binding_text» .exit))) (brings (bindingRoom (now (state .entry)) (now («binding_cells» .entry)) (now («binding_text» .entry))) name (now (table .entry)) (now (literal .entry)) (now (answer .entry))) ⌝ }
+{
+    if answer.len() < ANSWER_WORDS {
+        return NO_ROOM;
+    }
+    let before = slots::bindings_in(state);
+    let brought = bindings::bring_in(binding_cells, binding_text, before, name, table, literal);
+    let said = brought.answer;
+    match said {
+        Answer::Done => {
+            let after = brought.bindings;
+            slots::put_bindings(state, after);
+            reports::put_done(answer)
+        }
+        Answer::Refused(number, place) => reports::put_refusal(answer, number, place),
+    }
+}
+
+// Evaluates a rule over a binding room.
+#[no_mangle]
+pub extern "C" fn ombravelik_evaluate(
+    table: &[u8],
+    literal: &[u8],
+    state: &[u64],
+    binding_cells: &[u64],
+    binding_text: &[u8],
+    cells: &mut [u64],
+    text: &mut [u8],
+    steps: usize,
+    answer: &mut [u64],
+) -> u8
+    ensures { λ r. ⌜ EvaluatesInto (now (table .entry)) (now (state .entry)) steps (rooms (now (literal .entry)) (now («binding_cells» .entry)) (now («binding_text» .entry)) (now (cells .entry)) (now (text .entry))) (now (answer .entry)) r (now (answer .exit)) (rooms (now (literal .entry)) (now («binding_cells» .entry)) (now («binding_text» .entry)) (now (cells .exit)) (now (text .exit))) ⌝ }
+{
+    if answer.len() < ANSWER_WORDS {
+        return NO_ROOM;
+    }
+    let bindings = slots::bindings_in(state);
+    let said = evaluator::evaluate(
+        table,
+        literal,
+        bindings,
+        binding_cells,
+        binding_text,
+        cells,
+        text,
+        steps,
+    );
+    reports::put_answer(answer, said)
+}
+
+// What a value is by itself.
+#[no_mangle]
+pub extern "C" fn ombravelik_read(head: u64, payload: u64, shape: &mut [u64]) -> u8
+    ensures { λ r. ⌜ _≡_ {A = ℕ × List ℕ} (r, now (shape .exit)) (reads (cellOf head payload) (now (shape .entry))) ⌝ }
+{
+    let value = value_of(head, payload);
+    shapes::put_shape(shape, value)
+}
+
+// Element `index` of a List.
+#[no_mangle]
+pub extern "C" fn ombravelik_element(
+    binding_cells: &[u64],
+    cells: &[u64],
+    head: u64,
+    payload: u64,
+    index: usize,
+    part: &mut [u64],
+) -> u8
+    ensures { λ r. ⌜ _≡_ {A = ℕ × List ℕ} (r, now (part .exit)) (readsPart (elementIn (now («binding_cells» .entry)) (now (cells .entry)) (partsOf (cellOf head payload)) index) (now (part .entry))) ⌝ }
+{
+    let value = value_of(head, payload);
+    let found = elements::element_of(binding_cells, cells, value, index);
+    shapes::put_part(part, found)
+}
+
+// The key of entry `index` of a Map.
+#[no_mangle]
+pub extern "C" fn ombravelik_key(
+    binding_cells: &[u64],
+    cells: &[u64],
+    head: u64,
+    payload: u64,
+    index: usize,
+    part: &mut [u64],
+) -> u8
+    ensures { λ r. ⌜ _≡_ {A = ℕ × List ℕ} (r, now (part .exit)) (readsPart (keyIn (now («binding_cells» .entry)) (now (cells .entry)) (partsOf (cellOf head payload)) index) (now (part .entry))) ⌝ }
+{
+    let value = value_of(head, payload);
+    let found = entries::key_of(binding_cells, cells, value, index);
+    shapes::put_part(part, found)
+}
+
+// The value of entry `index` of a Map.
+#[no_mangle]
+pub extern "C" fn ombravelik_value(
+    binding_cells: &[u64],
+    cells: &[u64],
+    head: u64,
+    payload: u64,
+    index: usize,
+    part: &mut [u64],
+) -> u8
+    ensures { λ r. ⌜ _≡_ {A = ℕ × List ℕ} (r, now (part .exit)) (readsPart (valueIn (now («binding_cells» .entry)) (now (cells .entry)) (partsOf (cellOf head payload)) index) (now (part .entry))) ⌝ }
+{
+    let value = value_of(head, payload);
+    let found = entries::value_of(binding_cells, cells, value, index);
+    shapes::put_part(part, found)
+}
+
+// What a present Optional holds.
+#[no_mangle]
+pub extern "C" fn ombravelik_present(
+    binding_cells: &[u64],
+    cells: &[u64],
+    head: u64,
+    payload: u64,
+    part: &mut [u64],
+) -> u8
+    ensures { λ r. ⌜ _≡_ {A = ℕ × List ℕ} (r, now (part .exit)) (readsPart (presentIn (now («binding_cells» .entry)) (now (cells .entry)) (partsOf (cellOf head payload))) (now (part .entry))) ⌝ }
+{
+    let value = value_of(head, payload);
+    let found = elements::present_in(binding_cells, cells, value);
+    shapes::put_part(part, found)
+}

@@ -1,0 +1,2 @@
+-- What the contract cites: what a condition decides (`Decisions`).
+pub mod Decisions

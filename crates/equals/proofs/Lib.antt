@@ -1,0 +1,3 @@
+-- The ways through the functions.
+pub mod EqualitySteps
+pub mod PairSteps

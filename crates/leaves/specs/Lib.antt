@@ -1,0 +1,2 @@
+-- What the contracts cite beside the machine: literals, names and marks (`Leaf`).
+pub mod Leaf

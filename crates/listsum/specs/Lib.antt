@@ -1,0 +1,2 @@
+-- What the contracts cite: `+` of what has parts (`ListSums`).
+pub mod ListSums

@@ -1,0 +1,79 @@
+// `||` and `&&`, from what both operands gave.
+ghost use mathlib.Core.Path.{_≡_};
+ghost use mathlib.Core.Bool.{Bool};
+ghost use mathlib.Core.Option.{some};
+ghost use Rattle.machine.specs.Logic.{leftError, bothBools, undecided, logicRight};
+ghost use Rattle.outcomes.specs.Seen.{boolSeen, foldSeen};
+use deciding::absorbing;
+use deciding::absorbs;
+use machine::outcome::Error;
+use machine::outcome::Outcome;
+use machine::outcome::Used;
+use outcomes::operators::Fold;
+use outcomes::outcomes::Truth;
+use outcomes::outcomes::no_overload;
+use outcomes::outcomes::truth_of;
+use outcomes::outcomes::truth_out;
+use rooms::value::Value;
+
+// A left error stays the answer, but one that wanted a Bool says that there is no overload.
+fn left_error(error: Error, place: usize, at: usize, used: Used) -> Outcome
+    ensures { λ r. ⌜ r ≡ leftError at used error place ⌝ }
+{
+    match error {
+        Error::UndeclaredReference => Outcome::Error(Error::UndeclaredReference, place, used),
+        Error::BoolWanted => no_overload(at, used),
+        Error::NoOverload => Outcome::Error(Error::NoOverload, place, used),
+        Error::FunctionError => Outcome::Error(Error::FunctionError, place, used),
+        Error::NoSuchKey => Outcome::Error(Error::NoSuchKey, place, used),
+        Error::Arithmetic(a) => Outcome::Error(Error::Arithmetic(a), place, used),
+        Error::DuplicateKey => Outcome::Error(Error::DuplicateKey, place, used),
+        Error::IndexOutOfBounds => Outcome::Error(Error::IndexOutOfBounds, place, used),
+        Error::UnsupportedKeyType => Outcome::Error(Error::UnsupportedKeyType, place, used),
+        Error::Unordered => Outcome::Error(Error::Unordered, place, used),
+        Error::IterableWanted => Outcome::Error(Error::IterableWanted, place, used),
+    }
+}
+
+fn both_bools(left: Truth, right: Truth, at: usize, used: Used) -> Outcome
+    ensures { λ r. ⌜ r ≡ bothBools at used (boolSeen left) (boolSeen right) ⌝ }
+{
+    match left {
+        Truth::Yes => right_bool(right, at, used),
+        Truth::No => right_bool(right, at, used),
+        Truth::Other => no_overload(at, used),
+    }
+}
+
+fn right_bool(right: Truth, at: usize, used: Used) -> Outcome
+    ensures { λ r. ⌜ ((a : Bool) → r ≡ bothBools at used (some a) (boolSeen right)) ⌝ }
+{
+    match right {
+        Truth::Yes => truth_out(true, used),
+        Truth::No => truth_out(false, used),
+        Truth::Other => no_overload(at, used),
+    }
+}
+
+// The right operand is a value that does not decide.
+fn undecided(left: Outcome, right: Truth, at: usize, used: Used) -> Outcome
+    ensures { λ r. ⌜ r ≡ undecided at left used (boolSeen right) ⌝ }
+{
+    match left {
+        Outcome::Value(v, _) => both_bools(truth_of(v), right, at, used),
+        Outcome::Error(error, place, _) => left_error(error, place, at, used),
+        Outcome::Exhausted(limit, _) => Outcome::Exhausted(limit, used),
+    }
+}
+
+// The left operand did not decide, and the right one is a value.
+pub fn logic_right(fold: Fold, left: Outcome, v: Value, at: usize, used: Used) -> Outcome
+    ensures { λ r. ⌜ r ≡ logicRight (foldSeen fold) at left v used ⌝ }
+{
+    let right = truth_of(v);
+    if absorbs(fold, right) {
+        truth_out(absorbing(fold), used)
+    } else {
+        undecided(left, right, at, used)
+    }
+}

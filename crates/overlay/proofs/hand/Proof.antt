@@ -1,0 +1,28 @@
+-- `overlay::hand`: too few words are lent, or enough. Assumes nothing.
+use native.Mathlib.Omega.{arith}
+use Rattle.overlay.proofs.Laying.{too-few, enough}
+use borrow.Author.Needs.{needs}
+use Rattle.overlay.proofs.hand.Statement.{statement}
+use Rattle.overlay.proofs.hand.Tie as tie
+use Rattle.overlay.proofs.hand.Reads as reads
+use Rattle.overlay.proofs.hand.Lts as lts
+use Rattle.overlay.proofs.lay.Reads as lay-reads
+
+-- src/lib.rt:31:9
+returns : tie.Need-returns
+returns c = too-few (c .before .before .before .args .number) (c .before .before .before .args .words .now) (c .before .before .before .args .lent .now) (c .if1 .taken)
+
+-- src/lib.rt:33:5
+lay-requires : tie.Need-lay-requires
+lay-requires c κs = search needs
+
+-- src/lib.rt:27:1
+same-length : tie.Need-same-length
+same-length c = search needs
+
+-- src/lib.rt:27:1
+returns-2 : tie.Need-returns-2
+returns-2 c = enough (c .before .before .before .before .before .before .before .args .number) (c .before .before .before .before .before .before .before .args .words .now) (c .before .before .before .before .before .before .before .args .lent .now) (c .before .before .lay .last .0) (omega arith) (c .before .before .lay .ensures)
+
+pub hand-spec : {M : Type 1} → statement M
+hand-spec = tie.close (tie.spec returns lay-requires same-length returns-2)

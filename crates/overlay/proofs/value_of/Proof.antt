@@ -1,0 +1,24 @@
+-- `overlay::value_of`: a cell by itself is read. Assumes nothing.
+use mathlib.Core.Path.{_∙_}
+use Rattle.overlay.proofs.Laying.{cell-alone}
+use borrow.Author.Needs.{needs}
+use Rattle.overlay.proofs.value_of.Statement.{statement}
+use Rattle.overlay.proofs.value_of.Tie as tie
+use Rattle.overlay.proofs.value_of.Reads as reads
+use Rattle.overlay.proofs.value_of.Lts as lts
+use Rattle.cells.proofs.read_cell.Reads as read-cell-reads
+
+-- src/lib.rt:51:15
+slice-aggregate-read-cell : tie.Need-slice-aggregate-read-cell
+slice-aggregate-read-cell c = search needs
+
+-- src/lib.rt:51:5
+read-cell-requires : tie.Need-read-cell-requires
+read-cell-requires c κs = search needs
+
+-- src/lib.rt:47:1
+returns : tie.Need-returns
+returns c = c .read-cell .ensures ∙ cell-alone (c .before .before .args .head) (c .before .before .args .payload)
+
+pub value-of-spec : {M : Type 1} → statement M
+value-of-spec = tie.close (tie.spec slice-aggregate-read-cell read-cell-requires returns)

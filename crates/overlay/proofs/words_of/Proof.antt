@@ -1,0 +1,24 @@
+-- `overlay::words_of`: a cell by itself is written. Assumes nothing.
+use mathlib.Core.Path.{_∙_}
+use Rattle.overlay.proofs.Laying.{written-alone}
+use borrow.Author.Needs.{needs}
+use Rattle.overlay.proofs.words_of.Statement.{statement}
+use Rattle.overlay.proofs.words_of.Tie as tie
+use Rattle.overlay.proofs.words_of.Reads as reads
+use Rattle.overlay.proofs.words_of.Lts as lts
+use Rattle.cells.proofs.write_cell.Reads as write-cell-reads
+
+-- src/lib.rt:42:16
+slice-aggregate-write-cell : tie.Need-slice-aggregate-write-cell
+slice-aggregate-write-cell c = search needs
+
+-- src/lib.rt:42:5
+write-cell-requires : tie.Need-write-cell-requires
+write-cell-requires c κs = search needs
+
+-- src/lib.rt:38:1
+returns : tie.Need-returns
+returns c = c .before .write-cell .ensures ∙ written-alone (c .before .before .before .args .value) 0 0
+
+pub words-of-spec : {M : Type 1} → statement M
+words-of-spec = tie.close (tie.spec slice-aggregate-write-cell write-cell-requires returns)

@@ -1,0 +1,2 @@
+-- What the contracts cite: words laid over lent ones.
+pub mod Over

@@ -1,0 +1,2 @@
+-- The ways through the functions.
+pub mod PhraseSteps

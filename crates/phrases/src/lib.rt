@@ -1,0 +1,41 @@
+// Parts of the line of an answer: counts, a number with its place, a limit.
+ghost use mathlib.Core.Path.{_≡_};
+ghost use Rattle.reasons.specs.Numbers.{limitMeant};
+ghost use Rattle.answers.specs.Meant.{countsIn};
+ghost use Rattle.pieces.specs.Page.{Page, puts};
+ghost use Rattle.phrases.specs.Written.{placed, counted, exhausted};
+use decimals::put_number;
+use machine::outcome::Limit;
+use machine::outcome::Used;
+use pieces::put_word;
+
+pub fn put_counts(out: &mut [u8], at: usize, used: Used) -> usize
+    ensures { λ r. ⌜ _≡_ {A = Page} (r, now (out .exit)) (puts (counted (countsIn used)) (at, now (out .entry))) ⌝ }
+{
+    let steps = put_word(out, at, b" steps ");
+    let after_steps = put_number(out, steps, used.steps as u64);
+    let cells = put_word(out, after_steps, b" cells ");
+    let after_cells = put_number(out, cells, used.cells as u64);
+    let bytes = put_word(out, after_cells, b" bytes ");
+    put_number(out, bytes, used.bytes as u64)
+}
+
+// A number and the place that it is about.
+pub fn put_placed(out: &mut [u8], at: usize, number: u8, place: usize) -> usize
+    ensures { λ r. ⌜ _≡_ {A = Page} (r, now (out .exit)) (puts (placed number place) (at, now (out .entry))) ⌝ }
+{
+    let next = put_number(out, at, number as u64);
+    let last = put_word(out, next, b" at ");
+    put_number(out, last, place as u64)
+}
+
+pub fn put_limit(out: &mut [u8], at: usize, limit: Limit) -> usize
+    ensures { λ r. ⌜ _≡_ {A = Page} (r, now (out .exit)) (puts (exhausted (limitMeant limit)) (at, now (out .entry))) ⌝ }
+{
+    match limit {
+        Limit::Steps => put_word(out, at, b"Exhausted Steps"),
+        Limit::Cells => put_word(out, at, b"Exhausted Cells"),
+        Limit::Text => put_word(out, at, b"Exhausted Text"),
+        Limit::Nesting => put_word(out, at, b"Exhausted Nesting"),
+    }
+}

@@ -1,0 +1,2 @@
+-- The laws of lent memory that the proofs of `memory` cite (`Kept`).
+pub mod Kept

@@ -1,0 +1,30 @@
+-- `reports::put_done`. Assumes nothing.
+use Rattle.rooms.specs.declared.value.Value.the-variants as Value
+use Rattle.reports.specs.Report.{nothingUsed}
+use Rattle.reports.proofs.Reporting.{used-as}
+use borrow.Author.Needs.{needs}
+use Rattle.reports.proofs.put_done.Statement.{statement}
+use Rattle.reports.proofs.put_done.Tie as tie
+use Rattle.reports.proofs.put_done.Reads as reads
+use Rattle.reports.proofs.put_done.Lts as lts
+use Rattle.reports.proofs.nothing.Reads as nothing-reads
+use Rattle.reports.proofs.put.Reads as put-reads
+
+-- src/lib.rt:64:27
+nothing-requires : tie.Need-nothing-requires
+nothing-requires c κs = search needs
+
+-- src/lib.rt:64:5
+put-requires : tie.Need-put-requires
+put-requires c κs = search needs
+
+-- src/lib.rt:61:1
+same-length : tie.Need-same-length
+same-length c = search needs
+
+-- src/lib.rt:61:1
+returns : tie.Need-returns
+returns c = used-as 0 0 0 (c .before .before .before .nothing .result) nothingUsed Value.Absent (c .before .before .before .before .before .before .args .lent .now) (c .before .before .put .result, c .before .before .put .last .0) (c .before .before .before .nothing .ensures) (c .before .before .put .ensures)
+
+pub put-done-spec : {M : Type 1} → statement M
+put-done-spec = tie.close (tie.spec nothing-requires put-requires same-length returns)

@@ -1,0 +1,2 @@
+-- What the contracts cite: an answer as words.
+pub mod Report

@@ -1,0 +1,21 @@
+-- `run_at` meets its contract. Assumes nothing.
+use mathlib.Core.Path.{sym}
+use borrow.Author.Needs.{needs}
+use Rattle.building.proofs.BuildingSteps.{beyond}
+use Rattle.runs.proofs.run_at.Statement.{statement}
+use Rattle.runs.proofs.run_at.Tie as tie
+
+mul-result : tie.Need-mul-result
+mul-result c = search needs
+
+shared-slice-read-result : tie.Need-shared-slice-read-result
+shared-slice-read-result c = search needs
+
+returns : tie.Need-returns
+returns c = search needs
+
+returns-2 : tie.Need-returns-2
+returns-2 c = sym (beyond (c .before .args .list .now) (c .before .args .i) (c .if1 .left))
+
+pub run-at-spec : {M : Type 1} → statement M
+run-at-spec = tie.close (tie.spec mul-result shared-slice-read-result returns returns-2)

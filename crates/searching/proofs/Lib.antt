@@ -1,0 +1,2 @@
+-- The ways through the function.
+pub mod AmongSteps

@@ -1,0 +1,45 @@
+-- `shapes::put_part`. Assumes nothing.
+use Rattle.shapes.proofs.Shaping.{part-as}
+use borrow.Author.Needs.{needs}
+use Rattle.shapes.proofs.put_part.Statement.{statement}
+use Rattle.shapes.proofs.put_part.Tie as tie
+use Rattle.shapes.proofs.put_part.Reads as reads
+use Rattle.shapes.proofs.put_part.Lts as lts
+use Rattle.overlay.proofs.hand.Reads as hand-reads
+use Rattle.overlay.proofs.words_of.Reads as words-of-reads
+use Rattle.reading.proofs.kind_of.Reads as kind-of-reads
+
+-- src/lib.rt:66:17
+words-of-requires : tie.Need-words-of-requires
+words-of-requires c κs = search needs
+
+-- src/lib.rt:67:16
+slice-aggregate-hand : tie.Need-slice-aggregate-hand
+slice-aggregate-hand c = search needs
+
+-- src/lib.rt:67:24
+kind-of-requires : tie.Need-kind-of-requires
+kind-of-requires c κs = search needs
+
+-- src/lib.rt:67:5
+hand-requires : tie.Need-hand-requires
+hand-requires c κs = search needs
+
+-- src/lib.rt:63:1
+same-length : tie.Need-same-length
+same-length c = search needs
+
+-- src/lib.rt:63:1
+returns : tie.Need-returns
+returns c = part-as (c .before .before .before .before .before .before .before .before .args .part) (c .before .before .before .kind-of .result) (c .before .before .before .before .before .before .words-of .result) (c .before .before .before .before .before .before .before .before .args .lent .now) (c .before .before .hand .result, c .before .before .hand .last .0) (c .before .before .before .kind-of .ensures) (c .before .before .before .before .before .before .words-of .ensures) (c .before .before .hand .ensures)
+
+pub put-part-spec : {M : Type 1} → statement M
+put-part-spec =
+    tie.close
+    (tie.spec
+    words-of-requires
+    slice-aggregate-hand
+    kind-of-requires
+    hand-requires
+    same-length
+    returns)

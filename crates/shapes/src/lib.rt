@@ -1,0 +1,68 @@
+// A value as a caller in another language reads it: six words that say what it is by itself, and the two words of a part.
+ghost use mathlib.Core.Path.{_≡_};
+ghost use mathlib.Core.List.{List, [], _∷_};
+ghost use Prim.Native.Nat.{ℕ};
+ghost use Rattle.rooms.specs.Cells.{textNumber};
+ghost use Rattle.overlay.specs.Over.{handed};
+ghost use Rattle.reading.specs.Values.{kindOf};
+ghost use Rattle.shapes.specs.Shape.{numberWord, spanWords, shapeOf, partOf};
+use extents::Span;
+use extents::count_of;
+use extents::text_of;
+use overlay::hand;
+use overlay::words_of;
+use reading::kind_of;
+use rooms::value::TextSpace;
+use rooms::value::Value;
+
+// The kinds up to this one are Null, Bools and numbers.
+const DOUBLE: u8 = 4;
+
+fn number_word(value: Value) -> u64
+    ensures { λ r. ⌜ r ≡ numberWord value ⌝ }
+{
+    let words = words_of(value);
+    if DOUBLE < kind_of(value) {
+        return 0;
+    }
+    words[1]
+}
+
+fn space_number(space: TextSpace) -> u64
+    ensures { λ r. ⌜ r ≡ textNumber space ⌝ }
+{
+    match space {
+        TextSpace::Literal => 0,
+        TextSpace::Binding => 1,
+        TextSpace::Evaluation => 2,
+    }
+}
+
+fn span_words(span: Span) -> [u64; 3]
+    ensures { λ r. ⌜ r ≡ spanWords span ⌝ }
+{
+    match span {
+        Span::At(space, first, length) => [space_number(space), first as u64, length as u64],
+        Span::NoText => [0, 0, 0],
+    }
+}
+
+// The kind is returned too.
+pub fn put_shape(lent: &mut [u64], value: Value) -> u8
+    ensures { λ r. ⌜ _≡_ {A = ℕ × List ℕ} (r, now (lent .exit)) (handed (kindOf value) (shapeOf value) (now (lent .entry))) ⌝ }
+{
+    let kind = kind_of(value);
+    let number = number_word(value);
+    let span = span_words(text_of(value));
+    let count = count_of(value);
+    let words = [kind as u64, number, span[0], span[1], span[2], count as u64];
+    hand(lent, &words, kind)
+}
+
+// Its kind is returned.
+pub fn put_part(lent: &mut [u64], part: Value) -> u8
+    ensures { λ r. ⌜ _≡_ {A = ℕ × List ℕ} (r, now (lent .exit)) (handed (kindOf part) (partOf part) (now (lent .entry))) ⌝ }
+{
+    let words = words_of(part);
+    hand(lent, &words, kind_of(part))
+}

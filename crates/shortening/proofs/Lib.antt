@@ -1,0 +1,2 @@
+-- A value that is cut.
+pub mod Cut

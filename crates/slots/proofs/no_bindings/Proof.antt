@@ -1,0 +1,29 @@
+-- `slots::no_bindings`. Assumes nothing.
+use mathlib.Core.Path.{ap, _∙_}
+use Rattle.rooms.specs.declared.value.Value.the-variants as Value
+use Rattle.rooms.specs.declared.scope.Scope.{Scope}
+use Rattle.rooms.specs.Scope.{stored}
+use Rattle.slots.specs.State.{noBindings}
+use borrow.Author.Needs.{needs}
+use Rattle.slots.proofs.no_bindings.Statement.{statement}
+use Rattle.slots.proofs.no_bindings.Tie as tie
+use Rattle.slots.proofs.no_bindings.Reads as reads
+use Rattle.slots.proofs.no_bindings.Lts as lts
+use Rattle.rooms.proofs.scope.Scope.empty.Reads as empty-reads
+use Rattle.rooms.proofs.scope.Scope.with.Reads as with-reads
+
+-- src/lib.rt:80:28
+empty-requires : tie.Need-empty-requires
+empty-requires c κs = search needs
+
+-- src/lib.rt:80:16
+with-requires : tie.Need-with-requires
+with-requires c κs = search needs
+
+-- src/lib.rt:76:1
+returns : tie.Need-returns
+unfolding noBindings
+returns c = ap (λ (s : Scope). record { scope = s; cells = 0; bytes = 0 }) (c .with .ensures ∙ ap (λ (s : Scope). stored s 0 Value.OptionalNone) (c .before .empty .ensures))
+
+pub no-bindings-spec : {M : Type 1} → statement M
+no-bindings-spec = tie.close (tie.spec empty-requires with-requires returns)

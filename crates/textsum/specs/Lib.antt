@@ -1,0 +1,2 @@
+-- What the contracts cite: two texts one after the other (`TextSums`).
+pub mod TextSums
