@@ -1,2 +1,3 @@
--- The ways through the function.
+-- The ways through the functions (`AmongSteps`), and those for a value without parts (`PlainSteps`).
 pub mod AmongSteps
+pub mod PlainSteps
