@@ -2,7 +2,7 @@
 use Prim.Native.Nat.{_-_}
 use native.Mathlib.Omega.{arith}
 use borrow.Author.Needs.{needs}
-use Rattle.text.proofs.BytesSteps.{OrderFrom, order-behind, both-ended, left-ended, right-ended, less-here, same-here, greater-here}
+use Rattle.text.proofs.BytesSteps.{OrderFrom, order-start, both-ended, left-ended, right-ended, less-here, same-here, greater-here}
 use Rattle.text.proofs.bytes.compare.Statement.{statement}
 use Rattle.text.proofs.bytes.compare.Tie as tie
 
@@ -15,14 +15,8 @@ abbrev μ-loop : tie.MeasureT-loop
 shorter-requires : tie.Need-shorter-requires Inv-loop μ-loop
 shorter-requires c κs = search needs
 
-behind-same-requires : tie.Need-behind-same-requires Inv-loop μ-loop
-behind-same-requires c κs = (omega (arith, c .shorter .ensures), omega (arith, c .shorter .ensures))
-
 loop-holds : tie.Need-loop-holds Inv-loop μ-loop
-loop-holds c =
-    let e = c .before .shorter .ensures in
-    let w = c .behind-same .ensures .0 in
-    order-behind _ _ _ (omega (arith, e, w)) (omega (arith, e, w)) (c .behind-same .ensures .1)
+loop-holds c = order-start _ _
 
 shared-slice-read-left-byte : tie.Need-shared-slice-read-left-byte Inv-loop μ-loop
 shared-slice-read-left-byte c = search needs
@@ -61,7 +55,6 @@ compare-spec =
     Inv-loop
     μ-loop
     shorter-requires
-    behind-same-requires
     loop-holds
     shared-slice-read-left-byte
     shared-slice-read-right-byte

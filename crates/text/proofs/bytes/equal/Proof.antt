@@ -3,7 +3,7 @@ use Prim.Native.Nat.{_-_}
 use native.Mathlib.Omega.{arith}
 use lib.ListN.{length}
 use borrow.Author.Needs.{needs}
-use Rattle.text.proofs.BytesSteps.{EqualFrom, equal-behind, equal-ended, unlike-here, alike-here, unlike-lengths}
+use Rattle.text.proofs.BytesSteps.{EqualFrom, equal-start, equal-ended, unlike-here, alike-here, unlike-lengths}
 use Rattle.text.proofs.bytes.equal.Statement.{statement}
 use Rattle.text.proofs.bytes.equal.Tie as tie
 
@@ -16,13 +16,8 @@ abbrev μ-loop : tie.MeasureT-loop
 returns : tie.Need-returns Inv-loop μ-loop
 returns c = unlike-lengths _ _ (omega arith)
 
-behind-same-requires : tie.Need-behind-same-requires Inv-loop μ-loop
-behind-same-requires c κs = search needs
-
 loop-holds : tie.Need-loop-holds Inv-loop μ-loop
-loop-holds c =
-    let w = c .behind-same .ensures .0 in
-    equal-behind _ _ _ w (omega (arith, w)) (c .behind-same .ensures .1)
+loop-holds c = equal-start _ _
 
 shared-slice-read-if2 : tie.Need-shared-slice-read-if2 Inv-loop μ-loop
 shared-slice-read-if2 c = search needs
@@ -52,7 +47,6 @@ equal-spec =
     Inv-loop
     μ-loop
     returns
-    behind-same-requires
     loop-holds
     shared-slice-read-if2
     shared-slice-read-if2-2
