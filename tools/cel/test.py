@@ -112,6 +112,12 @@ def rows_by_hand() -> None:
     names = Names(["b", "a"])
     parse("a + c + b.map(x, x)", names)
     check("names", str(names), "b=0 a=1 c=2 x=3 @result=127")
+    check("n0 beside its listed name", parse("n0 + b", Names(["b"])).says, "(n0 + n0)")
+    for text in ("a + n0", "n0.all(a, a) && n1"):
+        try:
+            check(text, parse(text).says, "two names of one number, refused")
+        except ValueError as wrong:
+            check(text, "would both have" in str(wrong), True)
 
 
 def compiled(text: str) -> "tuple[bytes, bytes]":
