@@ -3,7 +3,7 @@
  * the caller lends. docs/FORMAT.md has tables, values, charges and answers; the library is the crate `board`.
  *
  * Every function takes any numbers and any contents of what is lent, and answers. It allocates nothing, keeps nothing between calls, and
- * reads and writes only what is lent to that call and the stack. Any number of threads may call, each with memory of its own.
+ * reads and writes only what is lent to that call and the stack. Any number of threads may call, each with memory of its own for what is written.
  *
  * Slices. A slice is a pointer and then a length, in elements and not in bytes. What a C caller must see to, as of every pointer: so many
  * elements are there, aligned for their type, and what is lent for writing overlaps with nothing else that is lent to the same call. Of a
@@ -15,6 +15,10 @@
  * A value's text and parts lie in what was lent: it can be read as long as that is unchanged.
  *
  * Stack. A call takes up to 1,200 KiB of the calling thread's stack, however deep a rule nests; a thread that has less must not call.
+ *
+ * Time. Steps bound what a rule does. No step is counted for checking a table, and none for judging a binding room: of a room that bindings made
+ * that takes time linear in its cells, but for the pairs of a Map's keys; a room that someone made up can make it take hours (docs/FORMAT.md,
+ * "Binding rooms"). Know where stored states and rooms come from.
  */
 #ifndef OMBRAVELIK_H
 #define OMBRAVELIK_H
@@ -121,14 +125,20 @@ extern "C" {
 /* In the text room of the evaluation. */
 #define OMBRAVELIK_SPACE_EVALUATION 2
 
-/* ---- Limits. What is lent beyond them is not used; a higher step limit counts as the highest. ---- */
+/* ---- Limits. ---- */
 
+/* A longer table is refused (1). The literal text beside it may have any length; a String or Bytes of it has at most 65,535 bytes. */
 #define OMBRAVELIK_MOST_TABLE_BYTES 16384
+/* A higher step limit counts as this one. */
 #define OMBRAVELIK_MOST_STEPS 1000000
+/* Of each room, the bindings' and the evaluation's: what is lent beyond is not used. */
 #define OMBRAVELIK_MOST_CELLS 4096
 #define OMBRAVELIK_MOST_TEXT_BYTES 16384
+/* Names are the numbers below this one; another one is refused (5). */
 #define OMBRAVELIK_NAMES 128
+/* A table that nests deeper is refused (4). */
 #define OMBRAVELIK_MOST_RECORD_NESTING 64
+/* A binding that nests deeper is refused (8); an evaluation that would build such a value is exhausted (OMBRAVELIK_LIMIT_NESTING). */
 #define OMBRAVELIK_MOST_VALUE_NESTING 32
 
 /* ---- A state: 259 words that say what a binding room holds. ---- */
@@ -136,8 +146,8 @@ extern "C" {
 /*
  * Words 2n and 2n + 1 are the value of name n, for the names 0 to 127: a caller reads a binding out by these two words. Then come the used cells,
  * the used bytes, and the number of names, by which a state is known. A state belongs to the cells and the text that its bindings were brought into.
- * It is made by `ombravelik_empty` and changed by `ombravelik_bring_in`. It may be copied, stored and lent again with its cells and text: at every
- * call all of it is judged, and what no bindings make is refused.
+ * It is made by `ombravelik_empty` and changed by `ombravelik_bring_in`. It may be copied, stored and lent again with its cells and text:
+ * `ombravelik_bring_in` and `ombravelik_evaluate` judge all of it at every call, and refuse a room that is not sound (docs/FORMAT.md, "Binding rooms").
  */
 #define OMBRAVELIK_STATE_WORDS 259
 #define OMBRAVELIK_STATE_CELLS 256

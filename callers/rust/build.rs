@@ -9,6 +9,10 @@ fn main() {
         );
         return;
     };
+    if Path::new(&folder).is_relative() {
+        println!("cargo::error=OMBRAVELIK_LIB is {folder}, a path that does not begin at the root: cargo builds in another folder than its caller's");
+        return;
+    }
     let library = Path::new(&folder).join("libboard.a");
     if !library.is_file() {
         println!("cargo::error=there is no libboard.a in {folder}, the folder that OMBRAVELIK_LIB names; tools/library writes it");

@@ -95,7 +95,7 @@ impl<const CELLS: usize, const BYTES: usize> Bindings<CELLS, BYTES> {
         (&self.state, &self.cells, &self.text)
     }
 
-    /// Bindings from stored words, of whatever contents: what no bindings make is refused, with the first bad cell.
+    /// Bindings from stored words, of whatever contents: what is not sound (docs/FORMAT.md, "Binding rooms") is refused, with the first bad cell.
     ///
     /// Judging what bindings made takes time linear in the cells, but for the pairs of a Map's keys. Words made up by someone else can make it take
     /// hours (docs/FORMAT.md, "Binding rooms"): know where they come from.

@@ -40,6 +40,8 @@ macro_rules! numbered {
                 })
             }
         }
+
+        impl std::error::Error for $name {}
     };
 }
 
@@ -60,7 +62,7 @@ numbered! {
         MisplacedMark = c::REFUSAL_MISPLACED_MARK, "a mark where none may stand";
         /// Bytes after the root record.
         BytesAfterRoot = c::REFUSAL_BYTES_AFTER_ROOT, "bytes after the root";
-        /// The binding room is not one that bindings make; or a new binding's keys or nesting would make it so.
+        /// The binding room is not sound; or a new binding's keys or nesting would make it so.
         UnsoundBinding = c::REFUSAL_UNSOUND_BINDING, "an unsound binding";
         /// A binding is not made of literals, Lists and Maps alone.
         NotALiteral = c::REFUSAL_NOT_A_LITERAL, "a binding that is no literal";

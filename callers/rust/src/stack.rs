@@ -1,6 +1,6 @@
-//! Stack for a call. The library was compiled without stack probes, so a call on a thread that has too little stack left could step over the
-//! guard page. Before a call the stack that it can need is touched here in small steps: where it is not there, the thread ends at its guard page,
-//! as of any Rust function that overflows its stack. What a thread has touched once is remembered, so a call costs one comparison.
+//! Stack for a call. Before a call the stack that it can need is touched here in small steps: where it is not there, the thread ends at its guard
+//! page, as of any Rust function that overflows its stack, whatever the rule is. (As the kit compiles it the library touches the pages of its
+//! frames too; nothing promises that, and nothing here rests on it.) What a thread has touched once is remembered, so a call costs one comparison.
 use std::cell::Cell;
 use std::hint::black_box;
 
