@@ -11,15 +11,14 @@ use Rattle.table.specs.declared.Checked.{Checked}
 use Rattle.table.specs.Check.{checkOf}
 use Rattle.soundness.specs.declared.Bindings.{Bindings}
 use Rattle.admission.specs.declared.Answer.{Answer}
-use Rattle.admission.specs.declared.Brought.{Brought}
-use Rattle.admission.specs.Bringing.{Outcome, outcomeOf, emptied}
+use Rattle.admission.specs.Bringing.{emptied}
 use Rattle.answers.specs.declared.Answer as Answers
-use Rattle.answers.specs.Evaluated.{evaluated}
 use Rattle.answers.specs.Meant.{Says, meant, Evaluates}
 use Rattle.overlay.specs.Over.{noRoom, handed}
 use Rattle.slots.specs.State.{bindingsIn, statePut}
+use Rattle.stowing.specs.Stowing.{BindingRoom, stows}
 use Rattle.reports.specs.Report.{whichDone, whichChecked, reportChecked, whichAnswer, reportAnswer}
-use Rattle.board.specs.Board.{checks, empties, BindingRoom, bindingRoom, handsBrought, stateAfter, broughtInto, brings, answeredInto, evaluates, EvaluatesInto, reads, readsPart}
+use Rattle.board.specs.Board.{checks, empties, handsBrought, broughtInto, brings, answeredInto, evaluates, EvaluatesInto, reads, readsPart}
 
 pub checks-so : (table literal answer : List ℕ) (checked : Checked) (x : ℕ × List ℕ) → checked ≡ checkOf table literal
     → x ≡ handed (whichChecked checked) (reportChecked checked) answer → x ≡ checks table literal answer
@@ -41,16 +40,13 @@ module _ (room : BindingRoom) (name : ℕ) (table literal answer : List ℕ) whe
   unfolding brings
   brings-none h = rw (lt-ltb (length answer) 8 h) refl
 
-  pub brings-so : (before : Bindings) (brought : Brought) (words text left : List ℕ) (said : Answer) (x : ℕ × List ℕ)
-      → 8 ≤ length answer → before ≡ bindingsIn (room .state)
-      → _≡_ {A = Outcome} (record { brought = brought; words = words; text = text }) (outcomeOf (room .cells) (room .text) before name table literal)
-      → brought .answer ≡ said → x ≡ handsBrought said answer → left ≡ stateAfter said (brought .bindings) (room .state)
-      → _≡_ {A = (ℕ × List ℕ) × BindingRoom} (x, bindingRoom left words text) (brings room name table literal answer)
+  pub brings-so : (said other : Answer) (left : BindingRoom) (x : ℕ × List ℕ) → 8 ≤ length answer
+      → _≡_ {A = Answer × BindingRoom} (said, left) (stows room name table literal) → said ≡ other → x ≡ handsBrought other answer
+      → _≡_ {A = (ℕ × List ℕ) × BindingRoom} (x, left) (brings room name table literal answer)
   unfolding brings
-  brings-so before brought words text left said x h e o a f g =
-      (λ i. (f i, bindingRoom (g i) words text))
-      ∙ ap (λ (k : Answer). (handsBrought k answer, bindingRoom (stateAfter k (brought .bindings) (room .state)) words text)) (sym a)
-      ∙ ap (λ (k : Outcome). broughtInto k (room .state) answer) (o ∙ ap (λ (b : Bindings). outcomeOf (room .cells) (room .text) b name table literal) e)
+  brings-so said other left x h o a f =
+      ap (λ (k : ℕ × List ℕ). (k, left)) (f ∙ ap (λ (k : Answer). handsBrought k answer) (sym a))
+      ∙ ap (λ (k : Answer × BindingRoom). broughtInto k answer) o
       ∙ rw (le-ltb (length answer) 8 h) refl
 
 -- ---- evaluating
@@ -60,18 +56,17 @@ module _ (table state : List ℕ) (steps : ℕ) (lent : Rooms) (answer : List �
   unfolding evaluates
   evaluates-none h = record { exactly = rw (lt-ltb (length answer) 8 h) refl; says = λ k. absurd (omega (arith, h, k)) }
 
-  pub evaluates-so : (bindings : Bindings) (said : Answers.Answer) (left : Rooms) (returned : ℕ) (answerLeft : List ℕ) → 8 ≤ length answer → bindings ≡ bindingsIn state
-      → Evaluates table bindings steps lent said left → _≡_ {A = ℕ × List ℕ} (returned, answerLeft) (handed (whichAnswer said) (reportAnswer said) answer)
+  pub evaluates-so : (said : Answers.Answer) (left : Rooms) (returned : ℕ) (answerLeft : List ℕ) → 8 ≤ length answer
+      → Evaluates table (bindingsIn state) steps lent said left → _≡_ {A = ℕ × List ℕ} (returned, answerLeft) (handed (whichAnswer said) (reportAnswer said) answer)
       → EvaluatesInto table state steps lent answer returned answerLeft left
   unfolding evaluates
-  evaluates-so bindings said left returned answerLeft h e g f =
+  evaluates-so said left returned answerLeft h g f =
       record {
         exactly =
             ap (λ (k : ℕ × List ℕ). (k, left)) f
-            ∙ ap (λ (k : Answers.Answer × Rooms). answeredInto k answer) (g .exactly ∙ ap (λ (b : Bindings). evaluated table b steps lent) e)
+            ∙ ap (λ (k : Answers.Answer × Rooms). answeredInto k answer) (g .exactly)
             ∙ rw (le-ltb (length answer) 8 h) refl;
-        says = λ _. subst (λ (b : Bindings). Says (meant table b steps lent) lent (evaluated table b steps lent .0) left) e
-            (subst (λ (a : Answers.Answer). Says (meant table bindings steps lent) lent a left) (ap (λ (k : Answers.Answer × Rooms). k .0) (g .exactly)) (g .says));
+        says = λ _. subst (λ (a : Answers.Answer). Says (meant table (bindingsIn state) steps lent) lent a left) (ap (λ (k : Answers.Answer × Rooms). k .0) (g .exactly)) (g .says);
       }
 
 -- ---- reading

@@ -9,16 +9,15 @@ use Rattle.rooms.specs.declared.value.Value.{Value}
 use Rattle.rooms.specs.Rooms.{Rooms}
 use Rattle.reading.specs.Values.{kindOf}
 use Rattle.table.specs.Check.{checkOf}
-use Rattle.soundness.specs.declared.Bindings.{Bindings}
 use Rattle.admission.specs.declared.Answer.{Answer}
 use Rattle.admission.specs.declared.Answer.the-variants as Bringing
-use Rattle.admission.specs.declared.Brought.{Brought}
-use Rattle.admission.specs.Bringing.{Outcome, outcomeOf, emptied}
+use Rattle.admission.specs.Bringing.{emptied}
 use Rattle.answers.specs.declared.Answer as Answers
 use Rattle.answers.specs.Evaluated.{evaluated}
 use Rattle.answers.specs.Meant.{Says, meant}
 use Rattle.overlay.specs.Over.{noRoom, handed}
-use Rattle.slots.specs.State.{bindingsIn, stateOf, statePut}
+use Rattle.slots.specs.State.{bindingsIn, stateOf}
+use Rattle.stowing.specs.Stowing.{BindingRoom, stows}
 use Rattle.shapes.specs.Shape.{shapeOf, partOf}
 use Rattle.reports.specs.Report.{whichDone, whichRefused, done, refusal, whichChecked, reportChecked, whichAnswer, reportAnswer}
 
@@ -34,31 +33,16 @@ empties state = cond (eqb (length state) 259) (whichDone, stateOf emptied) (noRo
 
 -- ---- bringing in: what is returned with the answer's words; and the binding room
 
-pub record BindingRoom : Type 0 where
-  pub state : List ℕ
-  pub cells : List ℕ
-  pub text : List ℕ
-
-abbrev pub bindingRoom : (state cells text : List ℕ) → BindingRoom
-bindingRoom s c t = record { state = s; cells = c; text = t }
-
 abbrev pub handsBrought : Answer → (answer : List ℕ) → ℕ × List ℕ
 handsBrought Bringing.Done answer = handed whichDone done answer
 handsBrought (Bringing.Refused number place) answer = handed whichRefused (refusal number place) answer
 
--- a refusal leaves the state as it is
-abbrev pub stateAfter : Answer → Bindings → (state : List ℕ) → List ℕ
-stateAfter Bringing.Done b state = statePut state b
-stateAfter (Bringing.Refused number place) b state = state
-
-abbrev pub broughtInto : Outcome → (state answer : List ℕ) → (ℕ × List ℕ) × BindingRoom
-broughtInto o state answer = (handsBrought (o .brought .answer) answer, bindingRoom (stateAfter (o .brought .answer) (o .brought .bindings) state) (o .words) (o .text))
+abbrev pub broughtInto : Answer × BindingRoom → (answer : List ℕ) → (ℕ × List ℕ) × BindingRoom
+broughtInto b answer = (handsBrought (b .0) answer, b .1)
 
 -- without room for an answer nothing is done
 unfoldable pub brings : BindingRoom → (name : ℕ) → (table literal answer : List ℕ) → (ℕ × List ℕ) × BindingRoom
-brings room name table literal answer =
-    cond (ltb (length answer) 8) ((noRoom, answer), room)
-    (broughtInto (outcomeOf (room .cells) (room .text) (bindingsIn (room .state)) name table literal) (room .state) answer)
+brings room name table literal answer = cond (ltb (length answer) 8) ((noRoom, answer), room) (broughtInto (stows room name table literal) answer)
 
 -- ---- evaluating: what is returned with the answer's words; and the rooms
 

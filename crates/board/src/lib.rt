@@ -7,7 +7,8 @@ ghost use Rattle.rooms.specs.Cells.{cellOf};
 ghost use Rattle.rooms.specs.Value.{partsOf};
 ghost use Rattle.elements.specs.Elements.{elementIn, presentIn};
 ghost use Rattle.entries.specs.Entries.{keyIn, valueIn};
-ghost use Rattle.board.specs.Board.{checks, empties, BindingRoom, bindingRoom, brings, EvaluatesInto, reads, readsPart};
+ghost use Rattle.stowing.specs.Stowing.{BindingRoom, bindingRoom};
+ghost use Rattle.board.specs.Board.{checks, empties, brings, EvaluatesInto, reads, readsPart};
 use admission::Answer;
 use overlay::NO_ROOM;
 use overlay::value_of;
@@ -52,15 +53,9 @@ pub extern "C" fn ombravelik_bring_in(
     if answer.len() < ANSWER_WORDS {
         return NO_ROOM;
     }
-    let before = slots::bindings_in(state);
-    let brought = bindings::bring_in(binding_cells, binding_text, before, name, table, literal);
-    let said = brought.answer;
+    let said = stowing::bring_in(state, binding_cells, binding_text, name, table, literal);
     match said {
-        Answer::Done => {
-            let after = brought.bindings;
-            slots::put_bindings(state, after);
-            reports::put_done(answer)
-        }
+        Answer::Done => reports::put_done(answer),
         Answer::Refused(number, place) => reports::put_refusal(answer, number, place),
     }
 }
@@ -83,11 +78,10 @@ pub extern "C" fn ombravelik_evaluate(
     if answer.len() < ANSWER_WORDS {
         return NO_ROOM;
     }
-    let bindings = slots::bindings_in(state);
-    let said = evaluator::evaluate(
+    let said = ruling::evaluate(
         table,
         literal,
-        bindings,
+        state,
         binding_cells,
         binding_text,
         cells,

@@ -1,105 +1,94 @@
 -- `board::ombravelik_bring_in`. Assumes nothing.
-use mathlib.Core.Path.{refl}
-use Rattle.board.specs.Board.{bindingRoom}
+use Rattle.stowing.specs.Stowing.{bindingRoom}
 use Rattle.board.proofs.Boarding.{brings-none, brings-so}
 use borrow.Author.Needs.{needs}
 use Rattle.board.proofs.ombravelik_bring_in.Statement.{statement}
 use Rattle.board.proofs.ombravelik_bring_in.Tie as tie
 use Rattle.board.proofs.ombravelik_bring_in.Reads as reads
 use Rattle.board.proofs.ombravelik_bring_in.Lts as lts
-use Rattle.bindings.proofs.bring_in.Reads as bring-in-reads
 use Rattle.reports.proofs.put_done.Reads as put-done-reads
 use Rattle.reports.proofs.put_refusal.Reads as put-refusal-reads
-use Rattle.slots.proofs.bindings_in.Reads as bindings-in-reads
-use Rattle.slots.proofs.put_bindings.Reads as put-bindings-reads
+use Rattle.stowing.proofs.bring_in.Reads as bring-in-reads
 
--- src/lib.rt:52:9
+-- src/lib.rt:53:9
 returns : tie.Need-returns
 returns c = let given = c .before .before .before .before .before .before .before .args in brings-none (bindingRoom (given .state .now) (given .binding-cells .now) (given .binding-text .now)) (given .name) (given .table .now) (given .literal .now) (given .answer .now) (c .if1 .taken)
-
--- src/lib.rt:54:9
-bindings-in-requires : tie.Need-bindings-in-requires
-bindings-in-requires c κs = search needs
 
 -- src/lib.rt:55:9
 bring-in-requires : tie.Need-bring-in-requires
 bring-in-requires c κs = search needs
 
--- src/lib.rt:59:17
+-- src/lib.rt:57:43
 enum-told : tie.Need-enum-told
 enum-told c = search needs
 
--- src/lib.rt:60:13
-put-bindings-requires : tie.Need-put-bindings-requires
-put-bindings-requires c κs = search needs
-
--- src/lib.rt:61:13
+-- src/lib.rt:57:25
 put-done-requires : tie.Need-put-done-requires
 put-done-requires c κs = search needs
 
--- src/lib.rt:63:25
+-- src/lib.rt:58:25
 enum-known-said : tie.Need-enum-known-said
 enum-known-said c = search needs
 
--- src/lib.rt:63:43
+-- src/lib.rt:58:43
 put-refusal-requires : tie.Need-put-refusal-requires
 put-refusal-requires c κs = search needs
 
--- src/lib.rt:39:1
+-- src/lib.rt:40:1
 same-length : tie.Need-same-length
 same-length c = search needs
 
--- src/lib.rt:39:1
+-- src/lib.rt:40:1
 same-length-2 : tie.Need-same-length-2
 same-length-2 c = search needs
 
--- src/lib.rt:39:1
+-- src/lib.rt:40:1
 same-length-3 : tie.Need-same-length-3
 same-length-3 c = search needs
 
--- src/lib.rt:39:1
+-- src/lib.rt:40:1
 same-length-4 : tie.Need-same-length-4
 same-length-4 c = search needs
 
--- src/lib.rt:39:1
+-- src/lib.rt:40:1
 returns-2 : tie.Need-returns-2
 returns-2 c =
-    let given = c .before .before .before .before .before .before .before .before .before .before .before .before .before .before .before .before .before .before .before .before .before .before .before .before .before .before .before .args in
-    brings-so (bindingRoom (given .state .now) (given .binding-cells .now) (given .binding-text .now)) (given .name) (given .table .now) (given .literal .now) (given .answer .now) (c .before .before .before .before .before .before .before .before .before .before .before .before .before .before .before .before .before .before .bindings-in .result) (c .before .before .before .before .before .before .before .before .before .before .before .before .before .before .before .bring-in .result) (c .before .before .before .before .before .before .before .before .before .before .before .before .before .before .before .bring-in .last .0) (c .before .before .before .before .before .before .before .before .before .before .before .before .before .before .before .bring-in .last .1 .0)
-    (c .before .before .before .before .before .before .put-bindings .last .0) _ (c .before .before .put-done .result, c .before .before .put-done .last .0) (c .before .before .before .before .before .before .before .before .before .before .before .before .before .before .before .before .before .before .before .before .if1 .left) (c .before .before .before .before .before .before .before .before .before .before .before .before .before .before .before .before .before .before .bindings-in .ensures) (c .before .before .before .before .before .before .before .before .before .before .before .before .before .before .before .bring-in .ensures) (c .before .before .before .before .before .before .before .before .before .enum-told .given .1) (c .before .before .put-done .ensures) (c .before .before .before .before .before .before .put-bindings .ensures)
+    let given = c .before .before .before .before .before .before .before .before .before .before .before .before .before .before .before .before .before .before .before .before .before .before .before .args in
+    brings-so (bindingRoom (given .state .now) (given .binding-cells .now) (given .binding-text .now)) (given .name) (given .table .now) (given .literal .now) (given .answer .now) (c .before .before .before .before .before .before .before .before .before .before .before .before .bring-in .result) _
+    (bindingRoom (c .before .before .before .before .before .before .before .before .before .before .before .before .bring-in .last .0) (c .before .before .before .before .before .before .before .before .before .before .before .before .bring-in .last .1 .0) (c .before .before .before .before .before .before .before .before .before .before .before .before .bring-in .last .1 .1 .0))
+    (c .before .before .put-done .result, c .before .before .put-done .last .0) (c .before .before .before .before .before .before .before .before .before .before .before .before .before .before .before .before .if1 .left) (c .before .before .before .before .before .before .before .before .before .before .before .before .bring-in .ensures) (c .before .before .before .before .enum-told .given .1) (c .before .before .put-done .ensures)
 
--- src/lib.rt:39:1
+-- src/lib.rt:40:1
 same-length-5 : tie.Need-same-length-5
 same-length-5 c = search needs
 
--- src/lib.rt:39:1
+-- src/lib.rt:40:1
 same-length-6 : tie.Need-same-length-6
 same-length-6 c = search needs
 
--- src/lib.rt:39:1
+-- src/lib.rt:40:1
 same-length-7 : tie.Need-same-length-7
 same-length-7 c = search needs
 
--- src/lib.rt:39:1
+-- src/lib.rt:40:1
 same-length-8 : tie.Need-same-length-8
 same-length-8 c = search needs
 
--- src/lib.rt:39:1
+-- src/lib.rt:40:1
 returns-3 : tie.Need-returns-3
 returns-3 c =
-    let given = c .before .before .before .before .before .before .before .before .before .before .before .before .before .before .before .before .before .before .before .before .before .before .before .args in
-    brings-so (bindingRoom (given .state .now) (given .binding-cells .now) (given .binding-text .now)) (given .name) (given .table .now) (given .literal .now) (given .answer .now) (c .before .before .before .before .before .before .before .before .before .before .before .before .before .before .bindings-in .result) (c .before .before .before .before .before .before .before .before .before .before .before .bring-in .result) (c .before .before .before .before .before .before .before .before .before .before .before .bring-in .last .0) (c .before .before .before .before .before .before .before .before .before .before .before .bring-in .last .1 .0)
-    (given .state .now) _ (c .before .before .put-refusal .result, c .before .before .put-refusal .last .0) (c .before .before .before .before .before .before .before .before .before .before .before .before .before .before .before .before .if1 .left) (c .before .before .before .before .before .before .before .before .before .before .before .before .before .before .bindings-in .ensures) (c .before .before .before .before .before .before .before .before .before .before .before .bring-in .ensures) (c .before .before .before .before .before .said .given .1) (c .before .before .put-refusal .ensures) refl
+    let given = c .before .before .before .before .before .before .before .before .before .before .before .before .before .before .before .before .before .before .before .before .before .before .before .before .args in
+    brings-so (bindingRoom (given .state .now) (given .binding-cells .now) (given .binding-text .now)) (given .name) (given .table .now) (given .literal .now) (given .answer .now) (c .before .before .before .before .before .before .before .before .before .before .before .before .before .bring-in .result) _
+    (bindingRoom (c .before .before .before .before .before .before .before .before .before .before .before .before .before .bring-in .last .0) (c .before .before .before .before .before .before .before .before .before .before .before .before .before .bring-in .last .1 .0) (c .before .before .before .before .before .before .before .before .before .before .before .before .before .bring-in .last .1 .1 .0))
+    (c .before .before .put-refusal .result, c .before .before .put-refusal .last .0) (c .before .before .before .before .before .before .before .before .before .before .before .before .before .before .before .before .before .if1 .left) (c .before .before .before .before .before .before .before .before .before .before .before .before .before .bring-in .ensures) (c .before .before .before .before .before .said .given .1) (c .before .before .put-refusal .ensures)
 
 pub ombravelik-bring-in-spec : {M : Type 1} → statement M
 ombravelik-bring-in-spec =
     tie.close
     (tie.spec
     returns
-    bindings-in-requires
     bring-in-requires
     enum-told
-    put-bindings-requires
     put-done-requires
     enum-known-said
     put-refusal-requires

@@ -6,52 +6,46 @@ use Rattle.board.proofs.ombravelik_evaluate.Statement.{statement}
 use Rattle.board.proofs.ombravelik_evaluate.Tie as tie
 use Rattle.board.proofs.ombravelik_evaluate.Reads as reads
 use Rattle.board.proofs.ombravelik_evaluate.Lts as lts
-use Rattle.evaluator.proofs.evaluate.Reads as evaluate-reads
+use Rattle.ruling.proofs.evaluate.Reads as evaluate-reads
 use Rattle.reports.proofs.put_answer.Reads as put-answer-reads
-use Rattle.slots.proofs.bindings_in.Reads as bindings-in-reads
 
--- src/lib.rt:83:9
+-- src/lib.rt:78:9
 returns : tie.Need-returns
 returns c = let given = c .before .before .before .before .before .before .before .before .before .args in evaluates-none (given .table .now) (given .state .now) (given .steps) (rooms (given .literal .now) (given .binding-cells .now) (given .binding-text .now) (given .cells .now) (given .text .now)) (given .answer .now) (c .if1 .taken)
 
--- src/lib.rt:85:9
-bindings-in-requires : tie.Need-bindings-in-requires
-bindings-in-requires c κs = search needs
-
--- src/lib.rt:86:9
+-- src/lib.rt:80:9
 evaluate-requires : tie.Need-evaluate-requires
 evaluate-requires c κs = search needs
 
--- src/lib.rt:96:5
+-- src/lib.rt:90:5
 put-answer-requires : tie.Need-put-answer-requires
 put-answer-requires c κs = search needs
 
--- src/lib.rt:68:1
+-- src/lib.rt:63:1
 same-length : tie.Need-same-length
 same-length c = search needs
 
--- src/lib.rt:68:1
+-- src/lib.rt:63:1
 same-length-2 : tie.Need-same-length-2
 same-length-2 c = search needs
 
--- src/lib.rt:68:1
+-- src/lib.rt:63:1
 same-length-3 : tie.Need-same-length-3
 same-length-3 c = search needs
 
--- src/lib.rt:68:1
+-- src/lib.rt:63:1
 returns-2 : tie.Need-returns-2
 returns-2 c =
-    let given = c .before .before .before .before .before .before .before .before .before .before .before .before .before .before .before .before .before .before .before .before .before .args in
-    evaluates-so (given .table .now) (given .state .now) (given .steps) (rooms (given .literal .now) (given .binding-cells .now) (given .binding-text .now) (given .cells .now) (given .text .now)) (given .answer .now) (c .before .before .before .before .before .before .before .before .before .before .before .bindings-in .result) (c .before .before .before .before .before .before .before .before .evaluate .result)
+    let given = c .before .before .before .before .before .before .before .before .before .before .before .before .before .before .before .before .before .before .before .before .args in
+    evaluates-so (given .table .now) (given .state .now) (given .steps) (rooms (given .literal .now) (given .binding-cells .now) (given .binding-text .now) (given .cells .now) (given .text .now)) (given .answer .now) (c .before .before .before .before .before .before .before .before .evaluate .result)
     (rooms (given .literal .now) (given .binding-cells .now) (given .binding-text .now) (c .before .before .before .before .before .before .before .before .evaluate .last .1 .1 .1 .1 .1 .0) (c .before .before .before .before .before .before .before .before .evaluate .last .1 .1 .1 .1 .1 .1 .0))
-    (c .before .before .put-answer .result) (c .before .before .put-answer .last .0) (c .before .before .before .before .before .before .before .before .before .before .before .before .if1 .left) (c .before .before .before .before .before .before .before .before .before .before .before .bindings-in .ensures) (c .before .before .before .before .before .before .before .before .evaluate .ensures) (c .before .before .put-answer .ensures)
+    (c .before .before .put-answer .result) (c .before .before .put-answer .last .0) (c .before .before .before .before .before .before .before .before .before .before .before .if1 .left) (c .before .before .before .before .before .before .before .before .evaluate .ensures) (c .before .before .put-answer .ensures)
 
 pub ombravelik-evaluate-spec : {M : Type 1} → statement M
 ombravelik-evaluate-spec =
     tie.close
     (tie.spec
     returns
-    bindings-in-requires
     evaluate-requires
     put-answer-requires
     same-length

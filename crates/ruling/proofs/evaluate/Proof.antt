@@ -1,0 +1,41 @@
+-- `ruling::evaluate`. Assumes nothing.
+use mathlib.Core.Path.{subst}
+use Rattle.rooms.specs.Rooms.{rooms}
+use Rattle.soundness.specs.declared.Bindings.{Bindings}
+use Rattle.answers.specs.Meant.{Evaluates}
+use borrow.Author.Needs.{needs}
+use Rattle.ruling.proofs.evaluate.Statement.{statement}
+use Rattle.ruling.proofs.evaluate.Tie as tie
+use Rattle.ruling.proofs.evaluate.Reads as reads
+use Rattle.ruling.proofs.evaluate.Lts as lts
+use Rattle.evaluator.proofs.evaluate.Reads as evaluate-reads
+use Rattle.slots.proofs.bindings_in.Reads as bindings-in-reads
+
+-- src/lib.rt:20:9
+bindings-in-requires : tie.Need-bindings-in-requires
+bindings-in-requires c κs = search needs
+
+-- src/lib.rt:21:5
+evaluate-requires : tie.Need-evaluate-requires
+evaluate-requires c κs = search needs
+
+-- src/lib.rt:8:1
+same-length : tie.Need-same-length
+same-length c = search needs
+
+-- src/lib.rt:8:1
+same-length-2 : tie.Need-same-length-2
+same-length-2 c = search needs
+
+-- src/lib.rt:8:1
+returns : tie.Need-returns
+returns c =
+    let given = c .before .before .before .before .before .before .before .before .before .before .before .before .before .before .before .args in
+    subst
+    (λ (b : Bindings). Evaluates (given .table .now) b (given .steps) (rooms (given .literal .now) (given .binding-cells .now) (given .binding-text .now) (given .cells .now) (given .text .now)) (c .before .before .before .before .evaluate .result) (rooms (given .literal .now) (given .binding-cells .now) (given .binding-text .now) (c .before .before .before .before .evaluate .last .1 .1 .1 .1 .1 .0) (c .before .before .before .before .evaluate .last .1 .1 .1 .1 .1 .1 .0)))
+    (c .before .before .before .before .before .before .before .bindings-in .ensures)
+    (c .before .before .before .before .evaluate .ensures)
+
+pub evaluate-spec : {M : Type 1} → statement M
+evaluate-spec =
+    tie.close (tie.spec bindings-in-requires evaluate-requires same-length same-length-2 returns)

@@ -1,0 +1,2 @@
+-- What the proof of the function uses.
+pub mod Stows

@@ -1,0 +1,88 @@
+-- `stowing::bring_in`. Assumes nothing.
+use mathlib.Core.Path.{refl}
+use Rattle.stowing.specs.Stowing.{bindingRoom}
+use Rattle.stowing.proofs.Stows.{stows-so}
+use borrow.Author.Needs.{needs}
+use Rattle.stowing.proofs.bring_in.Statement.{statement}
+use Rattle.stowing.proofs.bring_in.Tie as tie
+use Rattle.stowing.proofs.bring_in.Reads as reads
+use Rattle.stowing.proofs.bring_in.Lts as lts
+use Rattle.bindings.proofs.bring_in.Reads as bring-in-reads
+use Rattle.slots.proofs.bindings_in.Reads as bindings-in-reads
+use Rattle.slots.proofs.put_bindings.Reads as put-bindings-reads
+
+-- src/lib.rt:18:9
+bindings-in-requires : tie.Need-bindings-in-requires
+bindings-in-requires c κs = search needs
+
+-- src/lib.rt:19:9
+bring-in-requires : tie.Need-bring-in-requires
+bring-in-requires c κs = search needs
+
+-- src/lib.rt:23:17
+enum-told : tie.Need-enum-told
+enum-told c = search needs
+
+-- src/lib.rt:24:13
+put-bindings-requires : tie.Need-put-bindings-requires
+put-bindings-requires c κs = search needs
+
+-- src/lib.rt:27:25
+enum-known-said : tie.Need-enum-known-said
+enum-known-said c = search needs
+
+-- src/lib.rt:8:1
+same-length : tie.Need-same-length
+same-length c = search needs
+
+-- src/lib.rt:8:1
+same-length-2 : tie.Need-same-length-2
+same-length-2 c = search needs
+
+-- src/lib.rt:8:1
+same-length-3 : tie.Need-same-length-3
+same-length-3 c = search needs
+
+-- src/lib.rt:8:1
+returns : tie.Need-returns
+returns c =
+    let given = c .before .before .before .before .before .before .before .before .before .before .before .before .before .before .before .before .before .before .before .before .before .args in
+    stows-so (bindingRoom (given .state .now) (given .cells .now) (given .text .now)) (given .name) (given .table .now) (given .literal .now) (c .before .before .before .before .before .before .before .before .before .before .before .before .before .before .bindings-in .result) (c .before .before .before .before .before .before .before .before .before .before .before .bring-in .result) (c .before .before .before .before .before .before .before .before .before .before .before .bring-in .last .0) (c .before .before .before .before .before .before .before .before .before .before .before .bring-in .last .1 .0)
+    (c .before .before .put-bindings .last .0) _ (c .before .before .before .before .before .before .before .before .before .before .before .before .before .before .bindings-in .ensures) (c .before .before .before .before .before .before .before .before .before .before .before .bring-in .ensures) (c .before .before .before .before .before .enum-told .given .1) (c .before .before .put-bindings .ensures)
+
+-- src/lib.rt:8:1
+same-length-4 : tie.Need-same-length-4
+same-length-4 c = search needs
+
+-- src/lib.rt:8:1
+same-length-5 : tie.Need-same-length-5
+same-length-5 c = search needs
+
+-- src/lib.rt:8:1
+same-length-6 : tie.Need-same-length-6
+same-length-6 c = search needs
+
+-- src/lib.rt:8:1
+returns-2 : tie.Need-returns-2
+returns-2 c =
+    let given = c .before .before .before .before .before .before .before .before .before .before .before .before .before .before .before .before .before .args in
+    stows-so (bindingRoom (given .state .now) (given .cells .now) (given .text .now)) (given .name) (given .table .now) (given .literal .now) (c .before .before .before .before .before .before .before .before .before .before .bindings-in .result) (c .before .before .before .before .before .before .before .bring-in .result) (c .before .before .before .before .before .before .before .bring-in .last .0) (c .before .before .before .before .before .before .before .bring-in .last .1 .0)
+    (given .state .now) _ (c .before .before .before .before .before .before .before .before .before .before .bindings-in .ensures) (c .before .before .before .before .before .before .before .bring-in .ensures) (c .before .said .given .1) refl
+
+pub bring-in-spec : {M : Type 1} → statement M
+bring-in-spec =
+    tie.close
+    (tie.spec
+    bindings-in-requires
+    bring-in-requires
+    enum-told
+    put-bindings-requires
+    enum-known-said
+    same-length
+    same-length-2
+    same-length-3
+    returns
+    same-length-4
+    same-length-5
+    same-length-6
+    returns-2)
