@@ -1,2 +1,2 @@
--- What the proofs of the functions share.
+-- What the proof of an evaluation uses.
 pub mod Boarding

@@ -8,21 +8,18 @@ ghost use Rattle.rooms.specs.Value.{partsOf};
 ghost use Rattle.elements.specs.Elements.{elementIn, presentIn};
 ghost use Rattle.entries.specs.Entries.{keyIn, valueIn};
 ghost use Rattle.stowing.specs.Stowing.{BindingRoom, bindingRoom};
-ghost use Rattle.board.specs.Board.{checks, empties, brings, EvaluatesInto, reads, readsPart};
-use admission::Answer;
+ghost use Rattle.intake.specs.Intake.{checks, empties, brings};
+ghost use Rattle.readout.specs.ReadOut.{reads, readsPart};
+ghost use Rattle.board.specs.Board.{EvaluatesInto};
 use overlay::NO_ROOM;
-use overlay::value_of;
 use reports::ANSWER_WORDS;
-use reports::DONE;
-use slots::STATE_WORDS;
 
 // Whether a table is accepted, with its literal text.
 #[no_mangle]
 pub extern "C" fn ombravelik_check(table: &[u8], literal: &[u8], answer: &mut [u64]) -> u8
     ensures { λ r. ⌜ _≡_ {A = ℕ × List ℕ} (r, now (answer .exit)) (checks (now (table .entry)) (now (literal .entry)) (now (answer .entry))) ⌝ }
 {
-    let checked = table::check(table, literal);
-    reports::put_checked(answer, checked)
+    intake::check(table, literal, answer)
 }
 
 // A state of no bindings, whatever it was.
@@ -30,11 +27,7 @@ pub extern "C" fn ombravelik_check(table: &[u8], literal: &[u8], answer: &mut [u
 pub extern "C" fn ombravelik_empty(state: &mut [u64]) -> u8
     ensures { λ r. ⌜ _≡_ {A = ℕ × List ℕ} (r, now (state .exit)) (empties (now (state .entry))) ⌝ }
 {
-    if state.len() != STATE_WORDS {
-        return NO_ROOM;
-    }
-    slots::put_bindings(state, bindings::empty());
-    DONE
+    intake::empty(state)
 }
 
 // Brings the value that a table spells into a binding room, under a name that has none.
@@ -50,14 +43,15 @@ pub extern "C" fn ombravelik_bring_in(
 ) -> u8
     ensures { λ r. ⌜ _≡_ {A = (ℕ × List ℕ) × BindingRoom} ((r, now (answer .exit)), bindingRoom (now (state .exit)) (now («binding_cells» .exit)) (now («binding_text» .exit))) (brings (bindingRoom (now (state .entry)) (now («binding_cells» .entry)) (now («binding_text» .entry))) name (now (table .entry)) (now (literal .entry)) (now (answer .entry))) ⌝ }
 {
-    if answer.len() < ANSWER_WORDS {
-        return NO_ROOM;
-    }
-    let said = stowing::bring_in(state, binding_cells, binding_text, name, table, literal);
-    match said {
-        Answer::Done => reports::put_done(answer),
-        Answer::Refused(number, place) => reports::put_refusal(answer, number, place),
-    }
+    intake::bring_in(
+        state,
+        binding_cells,
+        binding_text,
+        name,
+        table,
+        literal,
+        answer,
+    )
 }
 
 // Evaluates a rule over a binding room.
@@ -96,8 +90,7 @@ pub extern "C" fn ombravelik_evaluate(
 pub extern "C" fn ombravelik_read(head: u64, payload: u64, shape: &mut [u64]) -> u8
     ensures { λ r. ⌜ _≡_ {A = ℕ × List ℕ} (r, now (shape .exit)) (reads (cellOf head payload) (now (shape .entry))) ⌝ }
 {
-    let value = value_of(head, payload);
-    shapes::put_shape(shape, value)
+    readout::read(head, payload, shape)
 }
 
 // Element `index` of a List.
@@ -112,9 +105,7 @@ pub extern "C" fn ombravelik_element(
 ) -> u8
     ensures { λ r. ⌜ _≡_ {A = ℕ × List ℕ} (r, now (part .exit)) (readsPart (elementIn (now («binding_cells» .entry)) (now (cells .entry)) (partsOf (cellOf head payload)) index) (now (part .entry))) ⌝ }
 {
-    let value = value_of(head, payload);
-    let found = elements::element_of(binding_cells, cells, value, index);
-    shapes::put_part(part, found)
+    readout::element(binding_cells, cells, head, payload, index, part)
 }
 
 // The key of entry `index` of a Map.
@@ -129,9 +120,7 @@ pub extern "C" fn ombravelik_key(
 ) -> u8
     ensures { λ r. ⌜ _≡_ {A = ℕ × List ℕ} (r, now (part .exit)) (readsPart (keyIn (now («binding_cells» .entry)) (now (cells .entry)) (partsOf (cellOf head payload)) index) (now (part .entry))) ⌝ }
 {
-    let value = value_of(head, payload);
-    let found = entries::key_of(binding_cells, cells, value, index);
-    shapes::put_part(part, found)
+    readout::key(binding_cells, cells, head, payload, index, part)
 }
 
 // The value of entry `index` of a Map.
@@ -146,9 +135,7 @@ pub extern "C" fn ombravelik_value(
 ) -> u8
     ensures { λ r. ⌜ _≡_ {A = ℕ × List ℕ} (r, now (part .exit)) (readsPart (valueIn (now («binding_cells» .entry)) (now (cells .entry)) (partsOf (cellOf head payload)) index) (now (part .entry))) ⌝ }
 {
-    let value = value_of(head, payload);
-    let found = entries::value_of(binding_cells, cells, value, index);
-    shapes::put_part(part, found)
+    readout::value(binding_cells, cells, head, payload, index, part)
 }
 
 // What a present Optional holds.
@@ -162,7 +149,5 @@ pub extern "C" fn ombravelik_present(
 ) -> u8
     ensures { λ r. ⌜ _≡_ {A = ℕ × List ℕ} (r, now (part .exit)) (readsPart (presentIn (now («binding_cells» .entry)) (now (cells .entry)) (partsOf (cellOf head payload))) (now (part .entry))) ⌝ }
 {
-    let value = value_of(head, payload);
-    let found = elements::present_in(binding_cells, cells, value);
-    shapes::put_part(part, found)
+    readout::present(binding_cells, cells, head, payload, part)
 }

@@ -1,14 +1,14 @@
--- `board::ombravelik_value`. Assumes nothing.
+-- `readout::value`. Assumes nothing.
 use mathlib.Core.Path.{ap, _∙_}
 use Rattle.rooms.specs.declared.value.Value.{Value}
 use Rattle.rooms.specs.Value.{partsOf}
 use Rattle.entries.specs.Entries.{valueIn}
-use Rattle.board.proofs.Boarding.{part-so}
+use Rattle.readout.proofs.ReadsOut.{part-so}
 use borrow.Author.Needs.{needs}
-use Rattle.board.proofs.ombravelik_value.Statement.{statement}
-use Rattle.board.proofs.ombravelik_value.Tie as tie
-use Rattle.board.proofs.ombravelik_value.Reads as reads
-use Rattle.board.proofs.ombravelik_value.Lts as lts
+use Rattle.readout.proofs.value.Statement.{statement}
+use Rattle.readout.proofs.value.Tie as tie
+use Rattle.readout.proofs.value.Reads as reads
+use Rattle.readout.proofs.value.Lts as lts
 use Rattle.overlay.proofs.value_of.Reads as value-of-reads
 use Rattle.entries.proofs.value_of.Reads as value-of-reads′
 use Rattle.shapes.proofs.put_part.Reads as put-part-reads
@@ -37,7 +37,7 @@ returns c =
     (c .before .before .before .before .value-of2 .ensures ∙ ap (λ (v : Value). valueIn (given .binding-cells .now) (given .cells .now) (partsOf v) (given .index)) (c .before .before .before .before .before .value-of .ensures))
     (c .before .before .put-part .ensures)
 
-pub ombravelik-value-spec : {M : Type 1} → statement M
-ombravelik-value-spec =
+pub value-spec : {M : Type 1} → statement M
+value-spec =
     tie.close
     (tie.spec value-of-requires value-of-requires-2 put-part-requires same-length returns)

@@ -1,10 +1,10 @@
--- `board::ombravelik_empty`. Assumes nothing.
-use Rattle.board.proofs.Boarding.{empties-none, empties-so}
+-- `intake::empty`. Assumes nothing.
+use Rattle.intake.proofs.TakesIn.{empties-none, empties-so}
 use borrow.Author.Needs.{needs}
-use Rattle.board.proofs.ombravelik_empty.Statement.{statement}
-use Rattle.board.proofs.ombravelik_empty.Tie as tie
-use Rattle.board.proofs.ombravelik_empty.Reads as reads
-use Rattle.board.proofs.ombravelik_empty.Lts as lts
+use Rattle.intake.proofs.empty.Statement.{statement}
+use Rattle.intake.proofs.empty.Tie as tie
+use Rattle.intake.proofs.empty.Reads as reads
+use Rattle.intake.proofs.empty.Lts as lts
 use Rattle.bindings.proofs.empty.Reads as empty-reads
 use Rattle.slots.proofs.put_bindings.Reads as put-bindings-reads
 
@@ -28,6 +28,6 @@ same-length c = search needs
 returns-2 : tie.Need-returns-2
 returns-2 c = empties-so (c .before .before .before .before .before .before .before .args .state .now) (c .before .before .put-bindings .last .0) (c .before .before .before .empty .result) (c .before .before .before .before .before .if1 .left) (c .before .before .before .empty .ensures) (c .before .before .put-bindings .ensures)
 
-pub ombravelik-empty-spec : {M : Type 1} → statement M
-ombravelik-empty-spec =
+pub empty-spec : {M : Type 1} → statement M
+empty-spec =
     tie.close (tie.spec returns empty-requires put-bindings-requires same-length returns-2)

@@ -1,14 +1,14 @@
--- `board::ombravelik_element`. Assumes nothing.
+-- `readout::element`. Assumes nothing.
 use mathlib.Core.Path.{ap, _∙_}
 use Rattle.rooms.specs.declared.value.Value.{Value}
 use Rattle.rooms.specs.Value.{partsOf}
 use Rattle.elements.specs.Elements.{elementIn}
-use Rattle.board.proofs.Boarding.{part-so}
+use Rattle.readout.proofs.ReadsOut.{part-so}
 use borrow.Author.Needs.{needs}
-use Rattle.board.proofs.ombravelik_element.Statement.{statement}
-use Rattle.board.proofs.ombravelik_element.Tie as tie
-use Rattle.board.proofs.ombravelik_element.Reads as reads
-use Rattle.board.proofs.ombravelik_element.Lts as lts
+use Rattle.readout.proofs.element.Statement.{statement}
+use Rattle.readout.proofs.element.Tie as tie
+use Rattle.readout.proofs.element.Reads as reads
+use Rattle.readout.proofs.element.Lts as lts
 use Rattle.overlay.proofs.value_of.Reads as value-of-reads
 use Rattle.elements.proofs.element_of.Reads as element-of-reads
 use Rattle.shapes.proofs.put_part.Reads as put-part-reads
@@ -37,7 +37,7 @@ returns c =
     (c .before .before .before .before .element-of .ensures ∙ ap (λ (v : Value). elementIn (given .binding-cells .now) (given .cells .now) (partsOf v) (given .index)) (c .before .before .before .before .before .value-of .ensures))
     (c .before .before .put-part .ensures)
 
-pub ombravelik-element-spec : {M : Type 1} → statement M
-ombravelik-element-spec =
+pub element-spec : {M : Type 1} → statement M
+element-spec =
     tie.close
     (tie.spec value-of-requires element-of-requires put-part-requires same-length returns)

@@ -1,10 +1,10 @@
--- `board::ombravelik_read`. Assumes nothing.
-use Rattle.board.proofs.Boarding.{reads-so}
+-- `readout::read`. Assumes nothing.
+use Rattle.readout.proofs.ReadsOut.{reads-so}
 use borrow.Author.Needs.{needs}
-use Rattle.board.proofs.ombravelik_read.Statement.{statement}
-use Rattle.board.proofs.ombravelik_read.Tie as tie
-use Rattle.board.proofs.ombravelik_read.Reads as reads
-use Rattle.board.proofs.ombravelik_read.Lts as lts
+use Rattle.readout.proofs.read.Statement.{statement}
+use Rattle.readout.proofs.read.Tie as tie
+use Rattle.readout.proofs.read.Reads as reads
+use Rattle.readout.proofs.read.Lts as lts
 use Rattle.overlay.proofs.value_of.Reads as value-of-reads
 use Rattle.shapes.proofs.put_shape.Reads as put-shape-reads
 
@@ -24,6 +24,6 @@ same-length c = search needs
 returns : tie.Need-returns
 returns c = reads-so (c .before .before .before .before .before .before .args .shape .now) (c .before .before .before .before .value-of .result) _ (c .before .before .put-shape .result, c .before .before .put-shape .last .0) (c .before .before .before .before .value-of .ensures) (c .before .before .put-shape .ensures)
 
-pub ombravelik-read-spec : {M : Type 1} → statement M
-ombravelik-read-spec =
+pub read-spec : {M : Type 1} → statement M
+read-spec =
     tie.close (tie.spec value-of-requires put-shape-requires same-length returns)

@@ -1,14 +1,14 @@
--- `board::ombravelik_key`. Assumes nothing.
+-- `readout::key`. Assumes nothing.
 use mathlib.Core.Path.{ap, _∙_}
 use Rattle.rooms.specs.declared.value.Value.{Value}
 use Rattle.rooms.specs.Value.{partsOf}
 use Rattle.entries.specs.Entries.{keyIn}
-use Rattle.board.proofs.Boarding.{part-so}
+use Rattle.readout.proofs.ReadsOut.{part-so}
 use borrow.Author.Needs.{needs}
-use Rattle.board.proofs.ombravelik_key.Statement.{statement}
-use Rattle.board.proofs.ombravelik_key.Tie as tie
-use Rattle.board.proofs.ombravelik_key.Reads as reads
-use Rattle.board.proofs.ombravelik_key.Lts as lts
+use Rattle.readout.proofs.key.Statement.{statement}
+use Rattle.readout.proofs.key.Tie as tie
+use Rattle.readout.proofs.key.Reads as reads
+use Rattle.readout.proofs.key.Lts as lts
 use Rattle.overlay.proofs.value_of.Reads as value-of-reads
 use Rattle.entries.proofs.key_of.Reads as key-of-reads
 use Rattle.shapes.proofs.put_part.Reads as put-part-reads
@@ -37,6 +37,6 @@ returns c =
     (c .before .before .before .before .key-of .ensures ∙ ap (λ (v : Value). keyIn (given .binding-cells .now) (given .cells .now) (partsOf v) (given .index)) (c .before .before .before .before .before .value-of .ensures))
     (c .before .before .put-part .ensures)
 
-pub ombravelik-key-spec : {M : Type 1} → statement M
-ombravelik-key-spec =
+pub key-spec : {M : Type 1} → statement M
+key-spec =
     tie.close (tie.spec value-of-requires key-of-requires put-part-requires same-length returns)

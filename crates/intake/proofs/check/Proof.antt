@@ -1,10 +1,10 @@
--- `board::ombravelik_check`. Assumes nothing.
-use Rattle.board.proofs.Boarding.{checks-so}
+-- `intake::check`. Assumes nothing.
+use Rattle.intake.proofs.TakesIn.{checks-so}
 use borrow.Author.Needs.{needs}
-use Rattle.board.proofs.ombravelik_check.Statement.{statement}
-use Rattle.board.proofs.ombravelik_check.Tie as tie
-use Rattle.board.proofs.ombravelik_check.Reads as reads
-use Rattle.board.proofs.ombravelik_check.Lts as lts
+use Rattle.intake.proofs.check.Statement.{statement}
+use Rattle.intake.proofs.check.Tie as tie
+use Rattle.intake.proofs.check.Reads as reads
+use Rattle.intake.proofs.check.Lts as lts
 use Rattle.reports.proofs.put_checked.Reads as put-checked-reads
 use Rattle.table.proofs.check.Reads as check-reads
 
@@ -24,6 +24,6 @@ same-length c = search needs
 returns : tie.Need-returns
 returns c = let given = c .before .before .before .before .before .before .before .before .args in checks-so (given .table .now) (given .literal .now) (given .answer .now) (c .before .before .before .before .check .result) (c .before .before .put-checked .result, c .before .before .put-checked .last .0) (c .before .before .before .before .check .ensures) (c .before .before .put-checked .ensures)
 
-pub ombravelik-check-spec : {M : Type 1} → statement M
-ombravelik-check-spec =
+pub check-spec : {M : Type 1} → statement M
+check-spec =
     tie.close (tie.spec check-requires put-checked-requires same-length returns)

@@ -1,14 +1,14 @@
--- `board::ombravelik_present`. Assumes nothing.
+-- `readout::present`. Assumes nothing.
 use mathlib.Core.Path.{ap, _∙_}
 use Rattle.rooms.specs.declared.value.Value.{Value}
 use Rattle.rooms.specs.Value.{partsOf}
 use Rattle.elements.specs.Elements.{presentIn}
-use Rattle.board.proofs.Boarding.{part-so}
+use Rattle.readout.proofs.ReadsOut.{part-so}
 use borrow.Author.Needs.{needs}
-use Rattle.board.proofs.ombravelik_present.Statement.{statement}
-use Rattle.board.proofs.ombravelik_present.Tie as tie
-use Rattle.board.proofs.ombravelik_present.Reads as reads
-use Rattle.board.proofs.ombravelik_present.Lts as lts
+use Rattle.readout.proofs.present.Statement.{statement}
+use Rattle.readout.proofs.present.Tie as tie
+use Rattle.readout.proofs.present.Reads as reads
+use Rattle.readout.proofs.present.Lts as lts
 use Rattle.overlay.proofs.value_of.Reads as value-of-reads
 use Rattle.elements.proofs.present_in.Reads as present-in-reads
 use Rattle.shapes.proofs.put_part.Reads as put-part-reads
@@ -37,7 +37,7 @@ returns c =
     (c .before .before .before .before .present-in .ensures ∙ ap (λ (v : Value). presentIn (given .binding-cells .now) (given .cells .now) (partsOf v)) (c .before .before .before .before .before .value-of .ensures))
     (c .before .before .put-part .ensures)
 
-pub ombravelik-present-spec : {M : Type 1} → statement M
-ombravelik-present-spec =
+pub present-spec : {M : Type 1} → statement M
+present-spec =
     tie.close
     (tie.spec value-of-requires present-in-requires put-part-requires same-length returns)

@@ -1,11 +1,11 @@
--- `board::ombravelik_bring_in`. Assumes nothing.
+-- `intake::bring_in`. Assumes nothing.
 use Rattle.stowing.specs.Stowing.{bindingRoom}
-use Rattle.board.proofs.Boarding.{brings-none, brings-so}
+use Rattle.intake.proofs.TakesIn.{brings-none, brings-so}
 use borrow.Author.Needs.{needs}
-use Rattle.board.proofs.ombravelik_bring_in.Statement.{statement}
-use Rattle.board.proofs.ombravelik_bring_in.Tie as tie
-use Rattle.board.proofs.ombravelik_bring_in.Reads as reads
-use Rattle.board.proofs.ombravelik_bring_in.Lts as lts
+use Rattle.intake.proofs.bring_in.Statement.{statement}
+use Rattle.intake.proofs.bring_in.Tie as tie
+use Rattle.intake.proofs.bring_in.Reads as reads
+use Rattle.intake.proofs.bring_in.Lts as lts
 use Rattle.reports.proofs.put_done.Reads as put-done-reads
 use Rattle.reports.proofs.put_refusal.Reads as put-refusal-reads
 use Rattle.stowing.proofs.bring_in.Reads as bring-in-reads
@@ -82,8 +82,8 @@ returns-3 c =
     (bindingRoom (c .before .before .before .before .before .before .before .before .before .before .before .before .before .bring-in .last .0) (c .before .before .before .before .before .before .before .before .before .before .before .before .before .bring-in .last .1 .0) (c .before .before .before .before .before .before .before .before .before .before .before .before .before .bring-in .last .1 .1 .0))
     (c .before .before .put-refusal .result, c .before .before .put-refusal .last .0) (c .before .before .before .before .before .before .before .before .before .before .before .before .before .before .before .before .before .if1 .left) (c .before .before .before .before .before .before .before .before .before .before .before .before .before .bring-in .ensures) (c .before .before .before .before .before .said .given .1) (c .before .before .put-refusal .ensures)
 
-pub ombravelik-bring-in-spec : {M : Type 1} → statement M
-ombravelik-bring-in-spec =
+pub bring-in-spec : {M : Type 1} → statement M
+bring-in-spec =
     tie.close
     (tie.spec
     returns

@@ -1,0 +1,2 @@
+-- What the contracts cite: what each function returns and leaves in lent memory.
+pub mod Intake
