@@ -2,3 +2,4 @@
 pub mod CellWords
 pub mod WordsAgain
 pub mod SettledValues
+pub mod SettledAnswers
