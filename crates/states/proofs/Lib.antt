@@ -3,3 +3,6 @@ pub mod CellWords
 pub mod WordsAgain
 pub mod SettledValues
 pub mod SettledAnswers
+pub mod FitSlots
+pub mod BroughtOver
+pub mod RuledOver

@@ -123,7 +123,7 @@ settled-stands w t b fit room = (
 
 -- ---- over a state
 
-each-fits : (l : List Slot) → AllFit l → (n : ℕ) → Fits ((getD l n absent) .value)
+pub each-fits : (l : List Slot) → AllFit l → (n : ℕ) → Fits ((getD l n absent) .value)
 each-fits [] f n = tt
 each-fits (s ∷ l) f zero = f .0
 each-fits (s ∷ l) f (suc n) = each-fits l (f .1) n
