@@ -1,0 +1,5 @@
+-- The law that carries what is proved of the definition's answers (`Carried`); the worked examples (`Examples`); well-formed values
+-- (`FormedAnswers`).
+pub mod Carried
+pub mod Examples
+pub mod FormedAnswers
