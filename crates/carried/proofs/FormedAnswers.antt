@@ -46,7 +46,7 @@ use Rattle.verdicts.specs.Verdicts.{Lent}
 use Rattle.verdicts.proofs.Verdicts.{sound-formed}
 use Rattle.answers.specs.declared.Answer.{Answer}
 use Rattle.answers.specs.Evaluated.{ifSound, accepted}
-use Rattle.answers.specs.Meant.{Told, told, toldBy, limits, bound, meant, Evaluates}
+use Rattle.answers.specs.Meant.{Told, told, toldBy, Says, limits, bound, meant, Evaluates}
 
 -- ---- what stands in words is fine
 
@@ -143,9 +143,15 @@ module _ (table : List ℕ) (bindings : Bindings) (steps : ℕ) (lent : Rooms) (
       let same : limited (limits table bindings steps lent) (run e (scopeOf (bound table bindings steps lent))) ≡ Limited.value v c = cc in
       fine-well-formed v (value-kept (record { steps = steps; cells = length (lent .cells) / 2; bytes = length (lent .text) }) (run e (scopeOf (bound table bindings steps lent))) (run-kept e formed (scopeOf (bound table bindings steps lent)) fine) v c same)
 
+  -- of an answer that says what the definition says
+  pub says-formed : (answer : Answer) (left : Rooms) → Says (meant table bindings steps lent) lent answer left → (v : Meaning.Value) (c : Counts) → told left answer ≡ Told.value (some v) c
+      → WellFormed v
+  unfolding meant
+  says-formed answer left h v c t =
+      meant-formed (accepted table bindings steps lent) refl v c (told-value (meant table bindings steps lent .answer) v c (sym (h .tells) ∙ t))
+
   -- A value that comes back is well formed, whatever table, binding room, limits and rooms are lent: numbers in range, Strings in UTF-8, no two
   -- keys of a Map that match, nesting at most 32.
-  pub value-formed : (answer : Answer) (left : Rooms) → Evaluates table bindings steps lent answer left → (v : Meaning.Value) (c : Counts) → told left answer ≡ Told.value (some v) c → WellFormed v
-  unfolding meant
-  value-formed answer left h v c t =
-      meant-formed (accepted table bindings steps lent) refl v c (told-value (meant table bindings steps lent .answer) v c (sym (h .says .tells) ∙ t))
+  pub value-formed : (answer : Answer) (left : Rooms) → Evaluates table bindings steps lent answer left → (v : Meaning.Value) (c : Counts) → told left answer ≡ Told.value (some v) c
+      → WellFormed v
+  value-formed answer left h v c t = says-formed answer left (h .says) v c t

@@ -60,7 +60,7 @@ module _ (before : BindingRoom) (name : ℕ) (table literal : List ℕ) where
     slots = outcome-slots (before .cells) (before .text) b name table literal ∙ state-slots (before .state)
 
     fit : AllFit (o .brought .bindings .scope .slots)
-    fit = outcome-fits (before .cells) (before .text) b name table literal tableBytes textBytes (state-fits (before .state) words is)
+    fit = outcome-fits (before .cells) (before .text) b name table literal tableBytes textBytes (state-fits (before .state) words)
 
     written : bindingRoom (stateAfter (o .brought .answer) (o .brought .bindings) (before .state)) (o .words) (o .text) ≡ bindingRoom (stateOf (o .brought .bindings)) (o .words) (o .text)
     unfolding statePut

@@ -6,7 +6,7 @@ use mathlib.Core.List.{List, [], _∷_}
 use native.Mathlib.Omega.{arith}
 use lib.IntN.{ℤ, pos, negsuc}
 use lib.Signed.{mag}
-use lib.ListN.{length, getD, set, length-set}
+use lib.ListN.{length, getD, set, replicate, length-set}
 use borrow.Author.Tests.{ltb-true}
 use Rattle.numbers.specs.Int.{inRange}
 use Rattle.meaning.specs.Value.{Scalar, null, bool, int, uint, double, string, bytes}
@@ -23,6 +23,7 @@ use Rattle.rooms.specs.declared.value.Value.the-variants as Value
 use Rattle.rooms.specs.declared.scope.Slot.{Slot}
 use Rattle.rooms.specs.Cells as Cells
 use Rattle.rooms.specs.Cells.{cellIn}
+use Rattle.rooms.specs.Scope.{absent, emptySlots}
 use Rattle.building.specs.Building.{cellRoom, textRoom}
 use Rattle.soundness.specs.declared.Bindings.{Bindings}
 use Rattle.references.specs.Fits.{isAbsent}
@@ -36,7 +37,17 @@ use Rattle.slots.specs.State.{saysAbsent, slotIn, slotsIn, scopeIn, noBindings,
 use Rattle.slots.proofs.Filling.{slots-length}
 use Rattle.slots.proofs.RoundTrip.{AllFit}
 use Rattle.states.specs.InOrder.{Words}
-use Rattle.states.proofs.WordsAgain.{is-bindings}
+
+-- ---- rows of slots
+
+set-fits : (l : List Slot) (n : ℕ) (v : Value) → AllFit l → Cells.Fits v → AllFit (set l n (record { value = v }))
+set-fits [] n v f g = tt
+set-fits (s ∷ l) zero v f g = (g, f .1)
+set-fits (s ∷ l) (suc n) v f g = (f .0, set-fits l n v (f .1) g)
+
+pub absent-fit : (n : ℕ) → AllFit (replicate n absent)
+absent-fit zero = tt
+absent-fit (suc n) = (tt, absent-fit n)
 
 -- ---- those of a state
 
@@ -55,9 +66,14 @@ module _ (w : List ℕ) (words : Words w) where
   slots-fit i zero = tt
   slots-fit i (suc n) = (slot-fits i, slots-fit (suc i) n)
 
-  pub state-fits : isState w ≡ true → AllFit (bindingsIn w .scope .slots)
-  unfolding scopeIn
-  state-fits s = subst (λ (b : Bindings). AllFit (b .scope .slots)) (sym (is-bindings w s)) (slots-fit 0 128)
+  -- the slots that words stand for hold such values, whether they are a state or not
+  pub state-fits : AllFit (bindingsIn w .scope .slots)
+  unfolding bindingsIn scopeIn noBindings
+  state-fits = by-state (isState w)
+    where
+      by-state : (b : Bool) → AllFit ((cond b (record { scope = scopeIn w; cells = getD w 256 0; bytes = getD w 257 0 }) noBindings) .scope .slots)
+      by-state true = slots-fit 0 128
+      by-state false = set-fits (emptySlots .slots) 0 Value.OptionalNone (absent-fit 128) tt
 
 -- there are as many as names
 pub state-slots : (w : List ℕ) → length (bindingsIn w .scope .slots) ≡ 128
@@ -102,11 +118,6 @@ literal-fits (listAt p ls) r s n c b = (omega (arith, n), omega (arith, c), omeg
 literal-fits (mapAt p ls) r s n c b = (omega (arith, n), omega (arith, c), omega (arith, c, pair-cells ls))
 
 -- ---- those that bringing in leaves
-
-set-fits : (l : List Slot) (n : ℕ) (v : Value) → AllFit l → Cells.Fits v → AllFit (set l n (record { value = v }))
-set-fits [] n v f g = tt
-set-fits (s ∷ l) zero v f g = (g, f .1)
-set-fits (s ∷ l) (suc n) v f g = (f .0, set-fits l n v (f .1) g)
 
 module _ (w t : List ℕ) (b : Bindings) (name : ℕ) (table literal : List ℕ) (tableBytes : AllBytes table) (textBytes : AllBytes literal) (fit : AllFit (b .scope .slots)) where
   laid-fits : (l : Literal) → Fits w t b name table literal l → Cells.Fits (laid l (room w t (b .cells) (b .bytes)) .0)

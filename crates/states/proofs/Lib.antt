@@ -6,3 +6,4 @@ pub mod SettledAnswers
 pub mod FitSlots
 pub mod BroughtOver
 pub mod RuledOver
+pub mod MadeStates

@@ -1,40 +1,40 @@
 -- A state that was emptied stands for the definition's empty room, and evaluating over a state that stands for a room is the definition's answer
--- over that room. Rests on Brought (crate brought), Promises (crate answers) and FitSlots. Assumes nothing.
-use Prim.Native.Nat.{ℕ, zero, suc, _/_, _≤_}
-use mathlib.Core.Path.{_≡_, refl, sym, ap, _∙_, subst}
+-- over that room; a value that comes back is well formed. Rests on Brought (crate brought), Carried and FormedAnswers (crate carried) and
+-- FitSlots. Assumes nothing.
+use Prim.Native.Nat.{ℕ, _≤_}
+use mathlib.Core.Path.{_≡_, refl, sym, subst}
 use mathlib.Core.List.{List}
-use lib.ListN.{length, replicate, length-replicate}
+use mathlib.Core.Option.{some}
+use lib.ListN.{length, length-replicate}
 use borrow.Author.Tests.{eq-eqb}
-use Rattle.meaning.specs.Limits.{Counts, cut}
-use Rattle.meaning.specs.Table.{readTable}
+use Rattle.meaning.specs.Limits.{Counts}
+use Rattle.meaning.specs.Value.{Value}
 use Rattle.meaning.specs.Bindings as Meaning
-use Rattle.meaning.specs.Bindings.{emptyRoom, scopeOf}
-use Rattle.meaning.specs.Answer.{Answered, answerRead, answerOf}
+use Rattle.meaning.specs.Bindings.{emptyRoom}
+use Rattle.meaning.specs.Answer.{Answered, answerOf}
+use Rattle.meaning.specs.WellFormed.{AllBytes, WellFormed}
 use Rattle.rooms.specs.Rooms.{Rooms}
 use Rattle.rooms.specs.Scope.{absent}
 use Rattle.soundness.specs.declared.Bindings.{Bindings}
-use Rattle.held.specs.Held.{roomOf}
-use Rattle.held.proofs.SoundScope.{room-scope}
 use Rattle.admission.specs.Bringing.{emptied}
 use Rattle.brought.specs.Brings.{StandsFor}
 use Rattle.brought.proofs.Brought.{emptied-stands}
 use Rattle.answers.specs.Evaluated.{evaluated}
-use Rattle.answers.specs.Meant.{Says, meant}
-use Rattle.answers.proofs.Promises.{meant-sound}
+use Rattle.answers.specs.Meant.{Told, told, Says}
+use Rattle.carried.specs.HoldsScope.{lentBy}
+use Rattle.carried.proofs.Carried.{meant-over}
+use Rattle.carried.proofs.FormedAnswers.{says-formed}
 use Rattle.slots.specs.State.{bindingsIn, stateOf}
 use Rattle.slots.proofs.RoundTrip.{AllFit, round-trip}
-use Rattle.stowing.specs.Stowing.{BindingRoom, bindingRoom}
+use Rattle.stowing.specs.Stowing.{bindingRoom}
 use Rattle.reports.specs.Report.{whichDone}
 use Rattle.board.specs.Board.{empties, EvaluatesInto}
+use Rattle.states.specs.InOrder.{Words}
 use Rattle.states.specs.Called.{Stands}
 use Rattle.states.proofs.SettledAnswers.{each-fits, settled-stands}
-use Rattle.states.proofs.FitSlots.{state-slots}
+use Rattle.states.proofs.FitSlots.{absent-fit, state-fits, state-slots}
 
 -- ---- emptying
-
-absent-fit : (n : ℕ) → AllFit (replicate n absent)
-absent-fit zero = tt
-absent-fit (suc n) = (tt, absent-fit n)
 
 -- An emptied state, over any cells and text, stands for the definition's empty room.
 pub empty-means : (state cells text : List ℕ) → length state ≡ 259 → (empties state .0 ≡ whichDone) × Stands (bindingRoom (empties state .1) cells text) emptyRoom
@@ -51,21 +51,21 @@ empty-means state cells text h =
 
 -- ---- evaluating
 
--- the limits that lent rooms give
-abbrev pub lentBy : (steps : ℕ) → Rooms → Counts
-lentBy steps lent = record { steps = steps; cells = length (lent .cells) / 2; bytes = length (lent .text) }
+module _ (table state : List ℕ) (steps : ℕ) (lent : Rooms) where
+  module _ (room : Meaning.BindingRoom) (stands : Stands (bindingRoom state (lent .bindingCells) (lent .bindingText)) room) where
+    -- Evaluating over a state that stands for a room: the answer and the rooms say what the definition says of the rule over that room.
+    pub evaluate-means : (answer : List ℕ) (returned : ℕ) (answerLeft : List ℕ) (left : Rooms) → EvaluatesInto table state steps lent answer returned answerLeft left → 8 ≤ length answer
+        → Says (answerOf table (lent .literal) room (lentBy steps lent)) lent (evaluated table (bindingsIn state) steps lent .0) left
+    evaluate-means answer returned answerLeft left h long =
+        subst (λ (m : Answered). Says m lent (evaluated table (bindingsIn state) steps lent .0) left)
+        (meant-over table (bindingsIn state) steps lent room (record { slots = state-slots state; sound = stands .sound; scope = stands .scope })) (h .says long)
 
-module _ (table state : List ℕ) (steps : ℕ) (lent : Rooms) (room : Meaning.BindingRoom) (stands : Stands (bindingRoom state (lent .bindingCells) (lent .bindingText)) room) where
-  -- The definition's answer over a state is the one over the room that it stands for.
-  pub over-room : meant table (bindingsIn state) steps lent ≡ answerOf table (lent .literal) room (lentBy steps lent)
-  unfolding answerOf
-  over-room =
-      meant-sound table (bindingsIn state) steps lent (stands .sound)
-      ∙ (λ i. answerRead (cut (lentBy steps lent))
-      (λ n. (room-scope (lent .bindingCells) (lent .bindingText) (bindingsIn state) (state-slots state) n ∙ stands .scope n) i) (readTable table (lent .literal)))
-
-  -- Evaluating over a state: the answer and the rooms say what the definition says of the rule over the room that it stands for.
-  pub evaluate-means : (answer : List ℕ) (returned : ℕ) (answerLeft : List ℕ) (left : Rooms) → EvaluatesInto table state steps lent answer returned answerLeft left → 8 ≤ length answer
-      → Says (answerOf table (lent .literal) room (lentBy steps lent)) lent (evaluated table (bindingsIn state) steps lent .0) left
-  evaluate-means answer returned answerLeft left h long =
-      subst (λ (m : Answered). Says m lent (evaluated table (bindingsIn state) steps lent .0) left) over-room (h .says long)
+  -- what slices of words and bytes can hold
+  module _ (tableBytes : AllBytes table) (literalBytes : AllBytes (lent .literal)) (words : Words state) (cells : Words (lent .bindingCells)) (text : AllBytes (lent .bindingText)) where
+    -- Whatever the state's words are, a value that comes back is well formed.
+    pub evaluate-formed : (answer : List ℕ) (returned : ℕ) (answerLeft : List ℕ) (left : Rooms) → EvaluatesInto table state steps lent answer returned answerLeft left → 8 ≤ length answer
+        → (v : Value) (c : Counts) → told left (evaluated table (bindingsIn state) steps lent .0) ≡ Told.value (some v) c → WellFormed v
+    evaluate-formed answer returned answerLeft left h long =
+        says-formed table (bindingsIn state) steps lent tableBytes literalBytes
+        (record { words = cells; text = text; slots = state-slots state; values = each-fits (bindingsIn state .scope .slots) (state-fits state words) })
+        (evaluated table (bindingsIn state) steps lent .0) left (h .says long)

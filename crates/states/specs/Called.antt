@@ -1,5 +1,5 @@
 -- What a call of the interface in C comes to, said of the room of the definition that a state, its cells and its text stand for.
--- In order: standing for a room; a binding brought in; one that is refused; every call that brings in.
+-- In order: standing for a room; a binding brought in; one that is refused; every call that brings in; the states that calls make.
 use Prim.Native.Nat.{ℕ, _*_, _/_, _≤_, _<_}
 use mathlib.Core.Path.{_≡_}
 use mathlib.Core.List.{List}
@@ -8,13 +8,16 @@ use Rattle.meaning.specs.Errors.{UnsoundBinding, refusalNumber}
 use Rattle.meaning.specs.Heads.{Got, got, refused}
 use Rattle.meaning.specs.Bindings as Meaning
 use Rattle.meaning.specs.Bindings.{bring}
+use Rattle.meaning.specs.WellFormed.{AllBytes}
 use Rattle.soundness.specs.declared.Soundness.the-variants.{Unsound}
 use Rattle.soundness.specs.Sound.{soundOf}
 use Rattle.brought.specs.Brings.{StandsFor, Kept}
 use Rattle.overlay.specs.Over.{over, noRoom}
 use Rattle.slots.specs.State.{bindingsIn}
-use Rattle.stowing.specs.Stowing.{BindingRoom}
+use Rattle.stowing.specs.Stowing.{BindingRoom, bindingRoom}
 use Rattle.reports.specs.Report.{whichDone, whichRefused, done, refusal}
+use Rattle.board.specs.Board.{empties, brings}
+use Rattle.states.specs.InOrder.{Words}
 
 -- the bindings that the state's words stand for, over its cells and text, are sound, and each name has what it has in a room of the definition
 abbrev pub Stands : BindingRoom → Meaning.BindingRoom → Type 0
@@ -54,3 +57,11 @@ pub record BringsIn (before : BindingRoom) (name : ℕ) (table literal answer : 
   -- in every other the definition decides
   pub sound : 8 ≤ length answer → (room : Meaning.BindingRoom) → Stands before room
       → AsMeant (bring (length (before .cells) / 2) (length (before .text)) room name table literal) before room answer left
+
+-- ---- states that calls make
+
+-- emptied, and then a binding after the other brought in, with 0 returned
+pub data Made : BindingRoom → Type 0 where
+  emptied : (state cells text : List ℕ) → length state ≡ 259 → Made (bindingRoom (empties state .1) cells text)
+  brought : (before : BindingRoom) (name : ℕ) (table literal answer : List ℕ) → Made before → Words (before .state) → AllBytes table → AllBytes literal
+      → brings before name table literal answer .0 .0 ≡ whichDone → Made (brings before name table literal answer .1)
