@@ -13,12 +13,14 @@ use Rattle.meaning.specs.Bindings.{emptyRoom, bring}
 use Rattle.meaning.specs.WellFormed.{AllBytes}
 use Rattle.laws.specs.Accepted.{Accepted, fresh, brought}
 use Rattle.overlay.specs.Over.{noRoom}
+use Rattle.slots.specs.State.{bindingsIn, stateOf}
 use Rattle.stowing.specs.Stowing.{BindingRoom}
 use Rattle.reports.specs.Report.{whichDone}
 use Rattle.board.specs.Board.{brings}
 use Rattle.states.specs.InOrder.{Words}
 use Rattle.states.specs.Called as Called
 use Rattle.states.specs.Called.{Stands, Left, AsMeant, BringsIn, Made}
+use Rattle.states.proofs.WordsAgain.{accepted-again}
 use Rattle.states.proofs.BroughtOver.{leftBy, bring-in-means}
 use Rattle.states.proofs.RuledOver.{empty-means}
 
@@ -67,3 +69,7 @@ pub made-stands : (r : BindingRoom) → Made r → StandsForMade r
 made-stands r (Called.emptied state cells text h) = record { room = emptyRoom; made = fresh; stands = empty-means state cells text h .1 }
 made-stands r (Called.brought before name table literal answer m words tableBytes textBytes d) =
     more-made before name table literal answer words tableBytes textBytes d (made-stands before m)
+
+-- Its words come back as they were when what they stand for is written again.
+pub made-again : (r : BindingRoom) → Made r → Words (r .state) → stateOf (bindingsIn (r .state)) ≡ r .state
+made-again r m words = accepted-again (r .state) (r .cells) (r .text) words (made-stands r m .stands .sound)

@@ -14,7 +14,7 @@ use Rattle.meaning.specs.Heads.{Got, got, refused, _>>=_, _>>_, demand, orRefus
 use Rattle.meaning.specs.Table.{readTable}
 use Rattle.meaning.specs.Spelling.{Literal, scalarAt, listAt, mapAt}
 use Rattle.meaning.specs.Bindings.{BindingRoom, scopeOf}
-use Rattle.meaning.specs.Answer.{answerRead}
+use Rattle.meaning.specs.Answer.{Answered, answerRead}
 use Rattle.rooms.specs.declared.value.Value.{Value}
 use Rattle.rooms.specs.declared.scope.Slot.{Slot}
 use Rattle.rooms.specs.Cells.{Fits, settled}
@@ -31,10 +31,13 @@ use Rattle.admission.specs.Bringing as Bringing
 use Rattle.admission.specs.Bringing.{literalFor, Outcome, after, outcomeOf}
 use Rattle.brought.specs.Brings.{StandsFor}
 use Rattle.answers.specs.Evaluated as Evaluated
-use Rattle.answers.specs.Meant.{limits, meant}
+use Rattle.answers.specs.declared.Answer.{Answer}
+use Rattle.answers.specs.Meant.{Says, limits, meant, Evaluates}
+use Rattle.answers.specs.Alike.{Alike}
+use Rattle.answers.proofs.Promises.{says-alike}
 use Rattle.slots.specs.State.{bindingsIn, stateOf}
 use Rattle.slots.proofs.RoundTrip.{settledSlot, settledBindings, AllFit, round-trip}
-use Rattle.states.proofs.SettledValues.{read-settled, settled-absent, settled-slot, settled-sound, settled-held, settled-room}
+use Rattle.states.proofs.SettledValues.{read-settled, settled-absent, settled-slot, settled-written, settled-sound, settled-held, settled-room}
 
 -- ---- what is laid down is settled
 
@@ -112,6 +115,13 @@ module _ (table : List ℕ) (b : Bindings) (fit : (n : ℕ) → Fits (slotOf (b 
   unfolding meant
   settled-meant = λ i. answerRead (limits table b steps lent) (scopeOf (settled-room (lent .bindingCells) (lent .bindingText) b fit i)) (accepted-too i)
 
+-- So evaluations over the two come to the same: what is told, what each cell below the counts holds, every other word and byte.
+pub settled-alike : (table : List ℕ) (b : Bindings) → ((n : ℕ) → Fits (slotOf (b .scope) n)) → (steps : ℕ) (lent : Rooms) (answer other : Answer) (left leftOther : Rooms)
+    → Evaluates table (settledBindings b) steps lent answer left → Evaluates table b steps lent other leftOther → Alike answer left other leftOther
+settled-alike table b fit steps lent answer other left leftOther h k =
+    says-alike (meant table b steps lent) lent lent answer other left leftOther refl refl
+    (subst (λ (m : Answered). Says m lent answer left) (settled-meant table b fit steps lent) (h .says)) (k .says)
+
 -- ---- rooms of the definition
 
 -- Settled bindings stand for a room of the definition exactly if the bindings themselves do.
@@ -129,6 +139,10 @@ each-fits (s ∷ l) f zero = f .0
 each-fits (s ∷ l) f (suc n) = each-fits l (f .1) n
 
 module _ (b : Bindings) (whole : length (b .scope .slots) ≡ 128) (fit : AllFit (b .scope .slots)) where
+  -- The words of a state that bindings were put into come back as they were.
+  pub put-again : stateOf (bindingsIn (stateOf b)) ≡ stateOf b
+  put-again = ap stateOf (round-trip b whole fit) ∙ settled-written b fit
+
   -- Evaluating over a state that bindings were put into: the definition's answer is the one over those bindings.
   pub state-meant : (table : List ℕ) (steps : ℕ) (lent : Rooms) → meant table (bindingsIn (stateOf b)) steps lent ≡ meant table b steps lent
   state-meant table steps lent = ap (λ (c : Bindings). meant table c steps lent) (round-trip b whole fit) ∙ settled-meant table b (each-fits (b .scope .slots) fit) steps lent

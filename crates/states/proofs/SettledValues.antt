@@ -4,7 +4,7 @@ use Prim.Native.Nat.{ℕ, zero, suc, _+_, _^_, _<_}
 use mathlib.Core.Path.{_≡_, refl, sym, ap, ap₂, _∙_}
 use mathlib.Core.Logic.{_↔_}
 use mathlib.Core.Bool.{Bool, true, false, _&&_, _||_}
-use mathlib.Core.List.{List, [], _∷_, map}
+use mathlib.Core.List.{List, [], _∷_, _++_, map}
 use mathlib.Core.Option.{Option, some}
 use lib.Ieee.{binary64}
 use lib.Ieee.Bits.{toBits-lt}
@@ -20,7 +20,7 @@ use Rattle.rooms.specs.declared.value.Value.the-variants as Value
 use Rattle.rooms.specs.declared.scope.Slot.{Slot}
 use Rattle.rooms.specs.declared.scope.Scope.{Scope}
 use Rattle.rooms.specs.Value.{nestingOf, doubleValue}
-use Rattle.rooms.specs.Cells.{Fits, settled}
+use Rattle.rooms.specs.Cells.{headOf, payloadOf, Fits, settled}
 use Rattle.rooms.specs.Rooms.{Rooms}
 use Rattle.rooms.specs.Reading.{Reader, readBy, readTo, reading}
 use Rattle.rooms.specs.Scope.{absent, slotOf, stored}
@@ -28,7 +28,8 @@ use Rattle.soundness.specs.declared.Bindings.{Bindings}
 use Rattle.references.specs.Fits.{valueFits, isAbsent, slotFits}
 use Rattle.soundness.specs.Sound.{slotsFit, soundOf}
 use Rattle.held.specs.Held.{bindingRooms, heldScope, boundFrom, roomOf}
-use Rattle.slots.proofs.RoundTrip.{settledSlot, settledBindings}
+use Rattle.slots.specs.State.{slotWords, stateOf}
+use Rattle.slots.proofs.RoundTrip.{settledSlot, settledBindings, AllFit}
 
 -- ---- a Double
 
@@ -116,6 +117,39 @@ settled-reading r (Value.Map d s a n) f = refl
 settled-reading r Value.OptionalNone f = refl
 settled-reading r (Value.OptionalOf d s a) f = refl
 settled-reading r Value.Absent f = refl
+
+-- ---- its words
+
+double-words : (d e : Double) → bitsOf d ≡ bitsOf e → (headOf (doubleValue d) ≡ headOf (doubleValue e)) × (payloadOf (doubleValue d) ≡ payloadOf (doubleValue e))
+double-words (Plain x) (Plain y) h = (refl, h)
+double-words (Plain x) (Nan c) h = (refl, h)
+double-words (Nan b) (Plain y) h = (refl, h)
+double-words (Nan b) (Nan c) h = (refl, h)
+
+settled-words : (v : Value) → Fits v → (headOf (settled v) ≡ headOf v) × (payloadOf (settled v) ≡ payloadOf v)
+settled-words Value.Null f = (refl, refl)
+settled-words (Value.Bool b) f = (refl, refl)
+settled-words (Value.Int z) f = (refl, refl)
+settled-words (Value.Uint n) f = (refl, refl)
+settled-words (Value.Double x) f = double-words (doubleOf (bitsOf (Plain x))) (Plain x) (bits-back (bitsOf (Plain x)) (bits-in (Plain x) f))
+settled-words (Value.Nan b) f = double-words (doubleOf b) (Nan b) (bits-back b (bits-in (Nan b) f))
+settled-words (Value.String s a n) f = (refl, refl)
+settled-words (Value.Bytes s a n) f = (refl, refl)
+settled-words (Value.List d s a n) f = (refl, refl)
+settled-words (Value.Map d s a n) f = (refl, refl)
+settled-words Value.OptionalNone f = (refl, refl)
+settled-words (Value.OptionalOf d s a) f = (refl, refl)
+settled-words Value.Absent f = (refl, refl)
+
+slots-words : (l : List Slot) → AllFit l → slotWords (map settledSlot l) ≡ slotWords l
+unfolding slotWords
+slots-words [] f = refl
+slots-words (s ∷ l) f = λ i. settled-words (s .value) (f .0) .0 i ∷ settled-words (s .value) (f .0) .1 i ∷ slots-words l (f .1) i
+
+-- Settled bindings are written as the bindings themselves are.
+pub settled-written : (b : Bindings) → AllFit (b .scope .slots) → stateOf (settledBindings b) ≡ stateOf b
+unfolding stateOf
+settled-written b f = ap (λ (l : List ℕ). l ++ b .cells ∷ b .bytes ∷ 128 ∷ []) (slots-words (b .scope .slots) f)
 
 -- ---- slots
 
