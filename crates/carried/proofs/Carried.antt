@@ -1,6 +1,6 @@
 -- What is proved of the definition's answers holds of what `evaluate` answers. Rests on Promises (crate answers). Assumes nothing.
 use Prim.Native.Nat.{ℕ}
-use mathlib.Core.Path.{_≡_, refl, sym, ap, _∙_, subst}
+use mathlib.Core.Path.{_≡_, sym, _∙_, subst}
 use mathlib.Core.List.{List}
 use Rattle.meaning.specs.Limits.{cut}
 use Rattle.meaning.specs.Table.{readTable}

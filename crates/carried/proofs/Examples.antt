@@ -2,7 +2,7 @@
 -- rows of the crate meaning. Assumes nothing.
 use Prim.Native.Nat.{ℕ}
 use mathlib.Core.Path.{_≡_, refl, sym, ap, _∙_, subst}
-use mathlib.Core.List.{List, [], _∷_, map}
+use mathlib.Core.List.{List, [], _∷_}
 use lib.ListN.{take}
 use Rattle.meaning.specs.Limits.{Counts}
 use Rattle.meaning.specs.Value.{Value}
@@ -20,8 +20,7 @@ use Rattle.rooms.specs.Rooms.{Rooms}
 use Rattle.soundness.specs.declared.Bindings.{Bindings}
 use Rattle.machine.specs.Answer.{CellsHave}
 use Rattle.answers.specs.declared.Answer as Answers
-use Rattle.answers.specs.Meant.{Told, told, toldBy, counted, Says, Evaluates}
-use Rattle.carried.specs.HoldsScope.{HoldsScope, lentBy}
+use Rattle.answers.specs.Meant.{toldBy, counted, Says}
 use Rattle.carried.specs.Rows.{Evaluation, toldIn, countsIn, Comes, Evaluated}
 use Rattle.carried.proofs.Carried.{says-over}
 

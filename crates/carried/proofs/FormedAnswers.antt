@@ -1,18 +1,17 @@
 -- Whatever is lent, a value that `evaluate` answers is well formed. In order: what stands in words is fine; the scope that a sound room holds;
 -- a run under limits; the theorem. Rests on Verdicts (crate verdicts) and on what evaluation keeps (crate laws). Assumes nothing.
-use Prim.Native.Nat.{ℕ, suc, _/_, _^_, _≤_, _<_}
-use mathlib.Core.Path.{_≡_, refl, sym, ap, _∙_, subst}
+use Prim.Native.Nat.{ℕ, suc, _/_, _≤_}
+use mathlib.Core.Path.{_≡_, refl, sym, _∙_, subst}
 use mathlib.Core.List.{List, []}
 use mathlib.Core.Option.{Option, none, some}
 use native.Mathlib.Omega.{arith}
 use lib.ListN.{length}
 use Rattle.meaning.specs.Limits.{Counts, mostCells, mostBytes, deepestValue, cut, nothingYet}
-use Rattle.meaning.specs.Errors.{Refusal, ErrorAt, UnsoundBinding}
+use Rattle.meaning.specs.Errors.{ErrorAt}
 use Rattle.meaning.specs.Expr.{Expr}
 use Rattle.meaning.specs.Value as Meaning
-use Rattle.meaning.specs.Value.{Scalar, null, bool, int, uint, double, string, bytes, scalar, list, map, optionalNone, optionalOf, nil, cons, empty, entry, keyScalar, nesting, nestingIn, nestingOver, count, countEntries}
-use Rattle.meaning.specs.Run.{Trace, Result, Eval}
-use Rattle.meaning.specs.Comprehension.{Scope}
+use Rattle.meaning.specs.Value.{Scalar, null, bool, int, uint, double, string, bytes, scalar, list, map, optionalNone, optionalOf, nil, cons, empty, entry, keyScalar, nesting, nestingIn, nestingOver}
+use Rattle.meaning.specs.Run.{Result, Eval}
 use Rattle.meaning.specs.Meaning.{run}
 use Rattle.meaning.specs.Limited as Limited
 use Rattle.meaning.specs.Limited.{Spent, through, stopped, spend, ended, outcome, limited}
@@ -31,14 +30,14 @@ use Rattle.laws.proofs.TableFormed.{accepted-table-formed}
 use Rattle.rooms.specs.declared.value.Value.{Value}
 use Rattle.rooms.specs.declared.value.CellSpace.{CellSpace}
 use Rattle.rooms.specs.Cells.{Fits}
-use Rattle.rooms.specs.Rooms.{Rooms, rooms, cellAt}
-use Rattle.rooms.specs.Stands.{Alive, StandsScalar, Stands, StandsCells, StandsEntries, Holds}
+use Rattle.rooms.specs.Rooms.{Rooms, cellAt}
+use Rattle.rooms.specs.Stands.{Alive, StandsScalar, Stands, StandsCells, StandsEntries}
 use Rattle.rooms.specs.Scope.{slotOf, StandsSlot}
 use Rattle.soundness.specs.declared.Bindings.{Bindings}
 use Rattle.soundness.specs.declared.Soundness.{Soundness}
 use Rattle.soundness.specs.declared.Soundness.the-variants as Soundness
 use Rattle.soundness.specs.Sound.{soundOf}
-use Rattle.held.specs.Held.{bindingRooms, heldScope, aliveBelow, roomOf}
+use Rattle.held.specs.Held.{bindingRooms, heldScope, aliveBelow}
 use Rattle.held.proofs.SoundScope.{sound-scope, room-scope}
 use Rattle.machine.specs.Refines.{FitCells}
 use Rattle.machine.proofs.AnyCells.{words-fit}

@@ -14,14 +14,14 @@ use Rattle.meaning.specs.Limited as Limited
 use Rattle.meaning.specs.Limited.{limited}
 use Rattle.meaning.specs.Heads.{Got, got, refused}
 use Rattle.meaning.specs.Bindings.{scopeOf}
-use Rattle.meaning.specs.Answer.{Answer, refusal, ran, answerRun, answerRead}
+use Rattle.meaning.specs.Answer.{ran, answerRun, answerRead}
 use Rattle.laws.specs.Charges.{AtMost, countsOf}
 use Rattle.laws.proofs.Exhausted.{counts-at-most, more-room-value, more-room-error}
 use Rattle.rooms.specs.Rooms.{Rooms, rooms}
 use Rattle.soundness.specs.declared.Bindings.{Bindings}
 use Rattle.answers.specs.declared.Answer as Answers
 use Rattle.answers.specs.Evaluated.{accepted}
-use Rattle.answers.specs.Meant.{Told, told, toldBy, limits, bound, meant, Evaluates}
+use Rattle.answers.specs.Meant.{Told, told, toldBy, bound, meant, Evaluates}
 use Rattle.carried.specs.HoldsScope.{lentBy}
 
 -- ---- counts

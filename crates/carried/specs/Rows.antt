@@ -1,9 +1,8 @@
 -- The worked examples of the meaning as evaluations: what a row's evaluation is, and what must come of it.
-use Prim.Native.Nat.{ℕ, _/_}
 use mathlib.Core.Path.{_≡_}
 use mathlib.Core.List.{List}
 use mathlib.Core.Option.{some}
-use lib.ListN.{length, take}
+use lib.ListN.{take}
 use Rattle.meaning.specs.Limits.{Counts, nothingYet}
 use Rattle.meaning.specs.Bindings.{boundIn}
 use Rattle.meaning.proofs.Sample.{Row, Shown, gives, fails, exhausts, refuses, expected}

@@ -3,7 +3,6 @@ use Prim.Native.Nat.{ℕ, _*_, _/_, _≤_, _<_}
 use mathlib.Core.Path.{_≡_, refl, sym, ap, ap₂, _∙_, subst}
 use mathlib.Core.Bool.{Bool, true, false, cond}
 use mathlib.Core.List.{List}
-use native.Mathlib.Omega.{arith}
 use lib.Dec.{ltb}
 use lib.ListN.{length}
 use borrow.Author.Tests.{lt-ltb, le-ltb, eq-eqb}
@@ -14,8 +13,6 @@ use Rattle.meaning.specs.Bindings as Meaning
 use Rattle.meaning.specs.Bindings.{bring}
 use Rattle.meaning.specs.WellFormed.{AllBytes}
 use Rattle.soundness.specs.declared.Bindings.{Bindings}
-use Rattle.soundness.specs.declared.Soundness.the-variants.{Unsound}
-use Rattle.soundness.specs.Sound.{soundOf}
 use Rattle.admission.specs.declared.Answer.{Answer}
 use Rattle.admission.specs.declared.Answer.the-variants.{Done, Refused}
 use Rattle.admission.specs.Bringing.{accepted, Outcome, after, outcomeOf}
@@ -29,14 +26,10 @@ use Rattle.slots.proofs.RoundTrip.{AllFit, round-trip}
 use Rattle.stowing.specs.Stowing.{BindingRoom, bindingRoom, stateAfter, stowed, stows}
 use Rattle.board.specs.Board.{handsBrought, broughtInto, brings}
 use Rattle.states.specs.InOrder.{Words}
-use Rattle.states.specs.Called.{Stands, Left, BroughtIn, RefusedAt, AsMeant, BringsIn}
+use Rattle.states.specs.Called.{Stands, Left, leftBy, BroughtIn, RefusedAt, AsMeant, BringsIn}
 use Rattle.states.proofs.WordsAgain.{state-long, sound-state}
 use Rattle.states.proofs.SettledAnswers.{each-fits, settled-stands}
 use Rattle.states.proofs.FitSlots.{state-fits, state-slots, outcome-fits, outcome-slots}
-
--- what the contract's equation says of a call
-abbrev pub leftBy : (ℕ × List ℕ) × BindingRoom → Left
-leftBy x = record { returned = x .0 .0; answer = x .0 .1; room = x .1 }
 
 module _ (before : BindingRoom) (name : ℕ) (table literal : List ℕ) where
   abbrev b : Bindings

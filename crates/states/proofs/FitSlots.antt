@@ -1,6 +1,6 @@
 -- The slots of bindings hold values that words can hold: those that a state stands for, and those that bringing in makes of them. Assumes nothing.
 use Prim.Native.Nat.{ℕ, zero, suc, _+_, _^_, _≤_, _<_}
-use mathlib.Core.Path.{_≡_, refl, sym, ap, _∙_, subst}
+use mathlib.Core.Path.{_≡_, refl}
 use mathlib.Core.Bool.{Bool, true, false, cond}
 use mathlib.Core.List.{List, [], _∷_}
 use native.Mathlib.Omega.{arith}
@@ -24,7 +24,6 @@ use Rattle.rooms.specs.declared.scope.Slot.{Slot}
 use Rattle.rooms.specs.Cells as Cells
 use Rattle.rooms.specs.Cells.{cellIn}
 use Rattle.rooms.specs.Scope.{absent, emptySlots}
-use Rattle.building.specs.Building.{cellRoom, textRoom}
 use Rattle.soundness.specs.declared.Bindings.{Bindings}
 use Rattle.references.specs.Fits.{isAbsent}
 use Rattle.findings.specs.Judging.{cellsFor, cellsAmong, cellsOver, bytesFor}

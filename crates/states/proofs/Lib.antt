@@ -1,4 +1,6 @@
--- From the leaves up: the two words of a value (`CellWords`), the words of a state (`WordsAgain`), settled bindings (`SettledValues`).
+-- The words of a state come back (`CellWords`, `WordsAgain`); settled bindings hold the same values and have the same answers (`SettledValues`,
+-- `SettledAnswers`); bringing in, emptying and evaluating over a state are the definition's (`FitSlots`, `BroughtOver`, `RuledOver`), for any
+-- number of calls (`MadeStates`).
 pub mod CellWords
 pub mod WordsAgain
 pub mod SettledValues

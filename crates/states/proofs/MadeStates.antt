@@ -1,5 +1,5 @@
 -- Every state that calls make stands for a room that the definition makes by the same bindings. Rests on BroughtOver and RuledOver. Assumes nothing.
-use Prim.Native.Nat.{ℕ, _/_, _≤_, _<_}
+use Prim.Native.Nat.{ℕ, _/_, _≤_}
 use mathlib.Core.Path.{_≡_, refl, sym, ap, _∙_, subst}
 use mathlib.Core.Bool.{Bool, true, false}
 use mathlib.Core.List.{List}
@@ -19,9 +19,9 @@ use Rattle.reports.specs.Report.{whichDone}
 use Rattle.board.specs.Board.{brings}
 use Rattle.states.specs.InOrder.{Words}
 use Rattle.states.specs.Called as Called
-use Rattle.states.specs.Called.{Stands, Left, AsMeant, BringsIn, Made}
+use Rattle.states.specs.Called.{Stands, Left, leftBy, AsMeant, BringsIn, Made}
 use Rattle.states.proofs.WordsAgain.{accepted-again}
-use Rattle.states.proofs.BroughtOver.{leftBy, bring-in-means}
+use Rattle.states.proofs.BroughtOver.{bring-in-means}
 use Rattle.states.proofs.RuledOver.{empty-means}
 
 -- a room that the definition's own bindings make, on as many cells and bytes

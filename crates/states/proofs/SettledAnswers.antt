@@ -1,14 +1,12 @@
 -- Bringing in and evaluating over settled bindings come to what they come to over the bindings themselves; so do they over a state that
 -- bindings were put into. Rests on SettledValues. Assumes nothing.
 use Prim.Native.Nat.{ℕ, zero, suc}
-use mathlib.Core.Path.{_≡_, refl, sym, ap, ap₂, _∙_, subst}
+use mathlib.Core.Path.{_≡_, refl, sym, ap, _∙_, subst}
 use mathlib.Core.Logic.{_↔_}
-use mathlib.Core.Bool.{Bool}
 use mathlib.Core.List.{List, [], _∷_, map}
 use lib.ListN.{length, getD, set}
 use Rattle.meaning.specs.Errors.{WrongField, NameBound}
 use Rattle.meaning.specs.Value.{Scalar, null, bool, int, uint, double, string, bytes}
-use Rattle.meaning.specs.Expr.{Expr}
 use Rattle.meaning.specs.Kinds.{nameOf}
 use Rattle.meaning.specs.Heads.{Got, got, refused, _>>=_, _>>_, demand, orRefuse, start}
 use Rattle.meaning.specs.Table.{readTable}
@@ -22,10 +20,7 @@ use Rattle.rooms.specs.Rooms.{Rooms}
 use Rattle.rooms.specs.Scope.{absent, slotOf}
 use Rattle.building.specs.Building.{cellRoom, textRoom}
 use Rattle.soundness.specs.declared.Bindings.{Bindings}
-use Rattle.soundness.specs.declared.Soundness.{Soundness}
 use Rattle.references.specs.Fits.{isAbsent}
-use Rattle.soundness.specs.Sound.{soundOf}
-use Rattle.held.specs.Held.{roomOf}
 use Rattle.scalars.specs.Laying.{Room, room, laidScalar, laid}
 use Rattle.admission.specs.Bringing as Bringing
 use Rattle.admission.specs.Bringing.{literalFor, Outcome, after, outcomeOf}

@@ -2,28 +2,25 @@
 -- for the same room of the definition. Assumes nothing.
 use Prim.Native.Nat.{ℕ, zero, suc, _+_, _^_, _<_}
 use mathlib.Core.Path.{_≡_, refl, sym, ap, ap₂, _∙_}
-use mathlib.Core.Logic.{_↔_}
-use mathlib.Core.Bool.{Bool, true, false, _&&_, _||_}
+use mathlib.Core.Bool.{true, false, _&&_, _||_}
 use mathlib.Core.List.{List, [], _∷_, _++_, map}
-use mathlib.Core.Option.{Option, some}
+use mathlib.Core.Option.{some}
 use lib.Ieee.{binary64}
 use lib.Ieee.Bits.{toBits-lt}
-use lib.ListN.{length, getD, set, length-map, List·getD-map}
+use lib.ListN.{List·getD-map}
 use Rattle.numbers.specs.declared.double.Double.{Double}
 use Rattle.numbers.specs.declared.double.Double.the-variants.{Plain, Nan}
 use Rattle.numbers.specs.Double.{bitsOf, doubleOf}
 use Rattle.numbers.proofs.DoubleLaws.{bits-back, proper, double-back}
-use Rattle.meaning.specs.Value as Meaning
 use Rattle.meaning.specs.Value.{scalar, double}
 use Rattle.rooms.specs.declared.value.Value.{Value}
 use Rattle.rooms.specs.declared.value.Value.the-variants as Value
 use Rattle.rooms.specs.declared.scope.Slot.{Slot}
-use Rattle.rooms.specs.declared.scope.Scope.{Scope}
 use Rattle.rooms.specs.Value.{nestingOf, doubleValue}
 use Rattle.rooms.specs.Cells.{headOf, payloadOf, Fits, settled}
 use Rattle.rooms.specs.Rooms.{Rooms}
 use Rattle.rooms.specs.Reading.{Reader, readBy, readTo, reading}
-use Rattle.rooms.specs.Scope.{absent, slotOf, stored}
+use Rattle.rooms.specs.Scope.{absent, slotOf}
 use Rattle.soundness.specs.declared.Bindings.{Bindings}
 use Rattle.references.specs.Fits.{valueFits, isAbsent, slotFits}
 use Rattle.soundness.specs.Sound.{slotsFit, soundOf}

@@ -1,11 +1,11 @@
 -- The words of a state come back as they were when what they stand for is written again: exactly of words that are in order. Assumes nothing.
-use Prim.Native.Nat.{ℕ, zero, suc, _+_, _*_, _/_, _^_, _<_, _≤_}
-use mathlib.Core.Path.{_≡_, refl, sym, ap, ap₂, _∙_, subst}
+use Prim.Native.Nat.{ℕ, zero, suc, _+_, _*_, _/_, _<_, _≤_}
+use mathlib.Core.Path.{_≡_, refl, sym, ap, ap₂, _∙_}
 use mathlib.Core.Logic.{_⊎_, inl, inr, _↔_}
-use mathlib.Core.Bool.{Bool, true, false, cond, _&&_, true≢false}
+use mathlib.Core.Bool.{Bool, true, false, true≢false}
 use mathlib.Core.List.{List, [], _∷_, _++_}
 use native.Mathlib.Omega.{arith}
-use lib.Dec.{ltb, eqb}
+use lib.Dec.{eqb}
 use lib.ListN.{length, getD, drop, drop-of-length-le}
 use lib.Seq.{drop-cons}
 use borrow.Author.Tests.{lt-ltb, eqb-true}
@@ -15,11 +15,10 @@ use Rattle.rooms.specs.declared.scope.Slot.{Slot}
 use Rattle.rooms.specs.Cells.{headOf, payloadOf, bareOf, valueOf, cellOf, hasCell, cellIn}
 use Rattle.rooms.specs.Scope.{slotOf}
 use Rattle.soundness.specs.declared.Bindings.{Bindings}
-use Rattle.soundness.specs.declared.Soundness.{Soundness}
 use Rattle.soundness.specs.declared.Soundness.the-variants.{Sound, Unsound}
 use Rattle.references.specs.Fits.{isAbsent, slotFits}
 use Rattle.soundness.specs.Sound.{soundOf}
-use Rattle.held.proofs.Goods.{both-true, SoundRoom, sound-room}
+use Rattle.held.proofs.Goods.{both-true, sound-room}
 use Rattle.slots.specs.State.{saysAbsent, slotIn, slotsIn, scopeIn, noBindings, isState, bindingsIn, slotWords, stateOf}
 use Rattle.slots.proofs.Filling.{slot-absent, slot-value, slot-wrong}
 use Rattle.slots.proofs.NoState.{no-state}

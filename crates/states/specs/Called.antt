@@ -29,6 +29,10 @@ pub record Left : Type 0 where
   pub answer : List ℕ
   pub room : BindingRoom
 
+-- of what the contract's equation says
+abbrev pub leftBy : (ℕ × List ℕ) × BindingRoom → Left
+leftBy x = record { returned = x .0 .0; answer = x .0 .1; room = x .1 }
+
 -- 0 is returned and written; the definition's new room is what is there, and nothing is written but what it takes
 pub record BroughtIn (before : BindingRoom) (room more : Meaning.BindingRoom) (answer : List ℕ) (left : Left) : Type 0 where
   pub returns : left .returned ≡ whichDone
