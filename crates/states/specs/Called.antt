@@ -1,0 +1,71 @@
+-- What a call of the interface in C comes to, said of the room of the definition that a state, its cells and its text stand for.
+-- In order: standing for a room; a binding brought in; one that is refused; every call that brings in; the states that calls make.
+use Prim.Native.Nat.{ℕ, _*_, _/_, _≤_, _<_}
+use mathlib.Core.Path.{_≡_}
+use mathlib.Core.List.{List}
+use lib.ListN.{length}
+use Rattle.meaning.specs.Errors.{UnsoundBinding, refusalNumber}
+use Rattle.meaning.specs.Heads.{Got, got, refused}
+use Rattle.meaning.specs.Bindings as Meaning
+use Rattle.meaning.specs.Bindings.{bring}
+use Rattle.meaning.specs.WellFormed.{AllBytes}
+use Rattle.soundness.specs.declared.Soundness.the-variants.{Unsound}
+use Rattle.soundness.specs.Sound.{soundOf}
+use Rattle.brought.specs.Brings.{StandsFor, Kept}
+use Rattle.overlay.specs.Over.{over, noRoom}
+use Rattle.slots.specs.State.{bindingsIn}
+use Rattle.stowing.specs.Stowing.{BindingRoom, bindingRoom}
+use Rattle.reports.specs.Report.{whichDone, whichRefused, done, refusal}
+use Rattle.intake.specs.Intake.{empties, brings}
+use Rattle.states.specs.InOrder.{Words}
+
+-- the bindings that the state's words stand for, over its cells and text, are sound, and each name has what it has in a room of the definition
+abbrev pub Stands : BindingRoom → Meaning.BindingRoom → Type 0
+Stands r room = StandsFor (r .cells) (r .text) (bindingsIn (r .state)) room
+
+-- what a call returns, the words of its answer afterwards, and the state with its cells and text
+pub record Left : Type 0 where
+  pub returned : ℕ
+  pub answer : List ℕ
+  pub room : BindingRoom
+
+-- of what the contract's equation says
+abbrev pub leftBy : (ℕ × List ℕ) × BindingRoom → Left
+leftBy x = record { returned = x .0 .0; answer = x .0 .1; room = x .1 }
+
+-- 0 is returned and written; the definition's new room is what is there, and nothing is written but what it takes
+pub record BroughtIn (before : BindingRoom) (room more : Meaning.BindingRoom) (answer : List ℕ) (left : Left) : Type 0 where
+  pub returns : left .returned ≡ whichDone
+  pub answers : left .answer ≡ over done answer
+  pub stands : Stands (left .room) more
+  pub cells : Kept (2 * room .usedCells) (2 * more .usedCells) (before .cells) (left .room .cells)
+  pub text : Kept (room .usedBytes) (more .usedBytes) (before .text) (left .room .text)
+
+-- 4 is returned, number and place are written, and nothing else has changed
+pub record RefusedAt (number place : ℕ) (before : BindingRoom) (answer : List ℕ) (left : Left) : Type 0 where
+  pub returns : left .returned ≡ whichRefused
+  pub answers : left .answer ≡ over (refusal number place) answer
+  pub unchanged : left .room ≡ before
+
+-- by what the definition says
+abbrev pub AsMeant : Got Meaning.BindingRoom → (before : BindingRoom) → Meaning.BindingRoom → (answer : List ℕ) → Left → Type 0
+AsMeant (got more) before room answer left = BroughtIn before room more answer left
+AsMeant (refused why place) before room answer left = RefusedAt (refusalNumber why) place before answer left
+
+pub record BringsIn (before : BindingRoom) (name : ℕ) (table literal answer : List ℕ) (left : Left) : Type 0 where
+  -- without room for an answer nothing is done
+  pub short : length answer < 8 → left ≡ record { returned = noRoom; answer = answer; room = before }
+  -- a room that is not sound is refused before anything else
+  pub unsound : 8 ≤ length answer → (place : ℕ) → soundOf (before .cells) (before .text) (bindingsIn (before .state)) ≡ Unsound place
+      → RefusedAt (refusalNumber UnsoundBinding) place before answer left
+  -- in every other the definition decides
+  pub sound : 8 ≤ length answer → (room : Meaning.BindingRoom) → Stands before room
+      → AsMeant (bring (length (before .cells) / 2) (length (before .text)) room name table literal) before room answer left
+
+-- ---- states that calls make
+
+-- emptied, and then a binding after the other brought in, with 0 returned
+pub data Made : BindingRoom → Type 0 where
+  emptied : (state cells text : List ℕ) → length state ≡ 259 → Made (bindingRoom (empties state .1) cells text)
+  brought : (before : BindingRoom) (name : ℕ) (table literal answer : List ℕ) → Made before → Words (before .state) → AllBytes table → AllBytes literal
+      → brings before name table literal answer .0 .0 ≡ whichDone → Made (brings before name table literal answer .1)
