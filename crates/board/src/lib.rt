@@ -7,10 +7,13 @@ ghost use Rattle.rooms.specs.Cells.{cellOf};
 ghost use Rattle.rooms.specs.Value.{partsOf};
 ghost use Rattle.elements.specs.Elements.{elementIn, presentIn};
 ghost use Rattle.entries.specs.Entries.{keyIn, valueIn};
+ghost use Rattle.answers.specs.Meant.{Evaluates};
+ghost use Rattle.slots.specs.State.{bindingsIn};
 ghost use Rattle.stowing.specs.Stowing.{BindingRoom, bindingRoom};
 ghost use Rattle.intake.specs.Intake.{checks, empties, brings};
 ghost use Rattle.readout.specs.ReadOut.{reads, readsPart};
 ghost use Rattle.board.specs.Board.{EvaluatesInto};
+use answers::Answer;
 use overlay::NO_ROOM;
 use reports::ANSWER_WORDS;
 
@@ -54,6 +57,32 @@ pub extern "C" fn ombravelik_bring_in(
     )
 }
 
+// Whatever the words of the state hold, they stand for bindings.
+fn evaluate_over(
+    table: &[u8],
+    literal: &[u8],
+    state: &[u64],
+    binding_cells: &[u64],
+    binding_text: &[u8],
+    cells: &mut [u64],
+    text: &mut [u8],
+    steps: usize,
+) -> Answer
+    ensures { λ r. ⌜ Evaluates (now (table .entry)) (bindingsIn (now (state .entry))) steps (rooms (now (literal .entry)) (now («binding_cells» .entry)) (now («binding_text» .entry)) (now (cells .entry)) (now (text .entry))) r (rooms (now (literal .entry)) (now («binding_cells» .entry)) (now («binding_text» .entry)) (now (cells .exit)) (now (text .exit))) ⌝ }
+{
+    let bindings = slots::bindings_in(state);
+    evaluator::evaluate(
+        table,
+        literal,
+        bindings,
+        binding_cells,
+        binding_text,
+        cells,
+        text,
+        steps,
+    )
+}
+
 // Evaluates a rule over a binding room.
 #[no_mangle]
 pub extern "C" fn ombravelik_evaluate(
@@ -72,7 +101,7 @@ pub extern "C" fn ombravelik_evaluate(
     if answer.len() < ANSWER_WORDS {
         return NO_ROOM;
     }
-    let said = ruling::evaluate(
+    let said = evaluate_over(
         table,
         literal,
         state,

@@ -6,7 +6,7 @@ use Rattle.board.proofs.ombravelik_evaluate.Statement.{statement}
 use Rattle.board.proofs.ombravelik_evaluate.Tie as tie
 use Rattle.board.proofs.ombravelik_evaluate.Reads as reads
 use Rattle.board.proofs.ombravelik_evaluate.Lts as lts
-use Rattle.ruling.proofs.evaluate.Reads as evaluate-reads
+use Rattle.board.proofs.evaluate_over.Reads as evaluate-over-reads
 use Rattle.reports.proofs.put_answer.Reads as put-answer-reads
 
 -- src/lib.rt:78:9
@@ -14,8 +14,8 @@ returns : tie.Need-returns
 returns c = let given = c .before .before .before .before .before .before .before .before .before .args in evaluates-none (given .table .now) (given .state .now) (given .steps) (rooms (given .literal .now) (given .binding-cells .now) (given .binding-text .now) (given .cells .now) (given .text .now)) (given .answer .now) (c .if1 .taken)
 
 -- src/lib.rt:80:9
-evaluate-requires : tie.Need-evaluate-requires
-evaluate-requires c κs = search needs
+evaluate-over-requires : tie.Need-evaluate-over-requires
+evaluate-over-requires c κs = search needs
 
 -- src/lib.rt:90:5
 put-answer-requires : tie.Need-put-answer-requires
@@ -37,16 +37,16 @@ same-length-3 c = search needs
 returns-2 : tie.Need-returns-2
 returns-2 c =
     let given = c .before .before .before .before .before .before .before .before .before .before .before .before .before .before .before .before .before .before .before .before .args in
-    evaluates-so (given .table .now) (given .state .now) (given .steps) (rooms (given .literal .now) (given .binding-cells .now) (given .binding-text .now) (given .cells .now) (given .text .now)) (given .answer .now) (c .before .before .before .before .before .before .before .before .evaluate .result)
-    (rooms (given .literal .now) (given .binding-cells .now) (given .binding-text .now) (c .before .before .before .before .before .before .before .before .evaluate .last .1 .1 .1 .1 .1 .0) (c .before .before .before .before .before .before .before .before .evaluate .last .1 .1 .1 .1 .1 .1 .0))
-    (c .before .before .put-answer .result) (c .before .before .put-answer .last .0) (c .before .before .before .before .before .before .before .before .before .before .before .if1 .left) (c .before .before .before .before .before .before .before .before .evaluate .ensures) (c .before .before .put-answer .ensures)
+    evaluates-so (given .table .now) (given .state .now) (given .steps) (rooms (given .literal .now) (given .binding-cells .now) (given .binding-text .now) (given .cells .now) (given .text .now)) (given .answer .now) (c .before .before .before .before .before .before .before .before .evaluate-over .result)
+    (rooms (given .literal .now) (given .binding-cells .now) (given .binding-text .now) (c .before .before .before .before .before .before .before .before .evaluate-over .last .1 .1 .1 .1 .1 .0) (c .before .before .before .before .before .before .before .before .evaluate-over .last .1 .1 .1 .1 .1 .1 .0))
+    (c .before .before .put-answer .result) (c .before .before .put-answer .last .0) (c .before .before .before .before .before .before .before .before .before .before .before .if1 .left) (c .before .before .before .before .before .before .before .before .evaluate-over .ensures) (c .before .before .put-answer .ensures)
 
 pub ombravelik-evaluate-spec : {M : Type 1} → statement M
 ombravelik-evaluate-spec =
     tie.close
     (tie.spec
     returns
-    evaluate-requires
+    evaluate-over-requires
     put-answer-requires
     same-length
     same-length-2

@@ -1,13 +1,13 @@
--- `ruling::evaluate`. Assumes nothing.
+-- `board::evaluate_over`. Assumes nothing.
 use mathlib.Core.Path.{subst}
 use Rattle.rooms.specs.Rooms.{rooms}
 use Rattle.soundness.specs.declared.Bindings.{Bindings}
 use Rattle.answers.specs.Meant.{Evaluates}
 use borrow.Author.Needs.{needs}
-use Rattle.ruling.proofs.evaluate.Statement.{statement}
-use Rattle.ruling.proofs.evaluate.Tie as tie
-use Rattle.ruling.proofs.evaluate.Reads as reads
-use Rattle.ruling.proofs.evaluate.Lts as lts
+use Rattle.board.proofs.evaluate_over.Statement.{statement}
+use Rattle.board.proofs.evaluate_over.Tie as tie
+use Rattle.board.proofs.evaluate_over.Reads as reads
+use Rattle.board.proofs.evaluate_over.Lts as lts
 use Rattle.evaluator.proofs.evaluate.Reads as evaluate-reads
 use Rattle.slots.proofs.bindings_in.Reads as bindings-in-reads
 
@@ -36,6 +36,6 @@ returns c =
     (c .before .before .before .before .before .before .before .bindings-in .ensures)
     (c .before .before .before .before .evaluate .ensures)
 
-pub evaluate-spec : {M : Type 1} → statement M
-evaluate-spec =
+pub evaluate-over-spec : {M : Type 1} → statement M
+evaluate-over-spec =
     tie.close (tie.spec bindings-in-requires evaluate-requires same-length same-length-2 returns)
