@@ -1,6 +1,6 @@
 -- A value that `evaluate` answers is one that words can hold. Rests on Refine (crate machine). Assumes nothing.
 use Prim.Native.Nat.{ℕ, _/_, min}
-use mathlib.Core.Path.{_≡_, refl, sym, ap, _∙_, subst}
+use mathlib.Core.Path.{_≡_, refl, sym, _∙_, subst}
 use mathlib.Core.List.{List}
 use native.Mathlib.Omega.{arith}
 use lib.ListN.{length}
@@ -9,9 +9,8 @@ use Rattle.meaning.specs.Expr.{Expr}
 use Rattle.meaning.specs.Run.{Trace}
 use Rattle.meaning.specs.Comprehension as Comprehension
 use Rattle.meaning.specs.Limited as Limited
-use Rattle.meaning.specs.Limited.{limited}
 use Rattle.meaning.specs.Meaning.{run}
-use Rattle.meaning.specs.Heads.{Got, got, refused, _>>=_}
+use Rattle.meaning.specs.Heads.{Got, got, refused}
 use Rattle.meaning.specs.Table.{readTable}
 use Rattle.rooms.specs.declared.value.Value.{Value}
 use Rattle.rooms.specs.Cells.{Fits}

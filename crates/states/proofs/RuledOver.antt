@@ -85,9 +85,12 @@ module _ (left : Rooms) (answer : List ℕ) (long : 8 ≤ length answer) where
   told-words (Answer.Value x u) (ran (Limited.value v c)) f e =
       let d : countsIn u ≡ c = cc in
       let r : reading left x ≡ some v = cc in
-      rw (le-ltb (length answer) 8 long)
-      (x, refl, λ i. over (report whichValue 0 0 (usedOf (d i)) x) answer,
-      ap (reading left) (read-back x (f x u refl)) ∙ settled-reading left x (f x u refl) ∙ r)
+      rw (le-ltb (length answer) 8 long) (
+        x,
+        refl,
+        λ i. over (report whichValue 0 0 (usedOf (d i)) x) answer,
+        ap (reading left) (read-back x (f x u refl)) ∙ settled-reading left x (f x u refl) ∙ r,
+      )
   told-words (Answer.Error x place u) (ran (Limited.error v c)) f e =
       let d : countsIn u ≡ c = cc in
       let n : errorNumber (errorMeant x) ≡ errorNumber (v .error) = cc in
