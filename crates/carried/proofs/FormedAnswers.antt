@@ -122,7 +122,7 @@ told-value (ran (Limited.error e d)) v c h = let z : _≡_ {A = ℕ} 0 1 = cc in
 told-value (ran (Limited.exhausted y d)) v c h = let z : _≡_ {A = ℕ} 0 1 = cc in absurd (omega arith)
 
 -- a rule that is accepted was read, and its binding room is sound
-was-accepted : (g : Got Expr) (s : Soundness) (e : Expr) → _>>=_ g (ifSound s) ≡ got e → (g ≡ got e) × (s ≡ Soundness.Sound)
+pub was-accepted : (g : Got Expr) (s : Soundness) (e : Expr) → _>>=_ g (ifSound s) ≡ got e → (g ≡ got e) × (s ≡ Soundness.Sound)
 unfolding _>>=_
 was-accepted (refused why p) s e h = let z : _≡_ {A = ℕ} 0 1 = cc in absurd (omega arith)
 was-accepted (got x) Soundness.Sound e h = (h, refl)

@@ -1,22 +1,41 @@
 -- What a call of the interface in C comes to, said of the room of the definition that a state, its cells and its text stand for.
--- In order: standing for a room; a binding brought in; one that is refused; every call that brings in; the states that calls make.
+-- In order: standing for a room; a binding brought in; one that is refused; every call that brings in; an evaluation;
+-- the states that calls make.
 use Prim.Native.Nat.{ℕ, _*_, _/_, _≤_, _<_}
 use mathlib.Core.Path.{_≡_}
 use mathlib.Core.List.{List}
+use mathlib.Core.Option.{some}
 use lib.ListN.{length}
-use Rattle.meaning.specs.Errors.{UnsoundBinding, refusalNumber}
+use Rattle.meaning.specs.Errors.{UnsoundBinding, errorNumber, refusalNumber}
+use Rattle.meaning.specs.Limited as Limited
 use Rattle.meaning.specs.Heads.{Got, got, refused}
 use Rattle.meaning.specs.Bindings as Meaning
 use Rattle.meaning.specs.Bindings.{bring}
+use Rattle.meaning.specs.Answer as Answers
+use Rattle.meaning.specs.Answer.{Answer, ran, Answered}
 use Rattle.meaning.specs.WellFormed.{AllBytes}
+use Rattle.rooms.specs.declared.value.Value.{Value}
+use Rattle.rooms.specs.declared.value.Value.the-variants as Value
+use Rattle.rooms.specs.Cells.{headOf, payloadOf, cellOf}
+use Rattle.rooms.specs.Rooms.{Rooms}
+use Rattle.rooms.specs.Reading.{reading}
 use Rattle.soundness.specs.declared.Soundness.the-variants.{Unsound}
 use Rattle.soundness.specs.Sound.{soundOf}
 use Rattle.brought.specs.Brings.{StandsFor, Kept}
+use Rattle.machine.specs.Refines.{usedOf}
+use Rattle.reasons.specs.Numbers.{limitNumber}
+use Rattle.answers.specs.declared.Answer.{Answer as Said}
+use Rattle.answers.specs.Meant.{Says}
 use Rattle.overlay.specs.Over.{over, noRoom}
 use Rattle.slots.specs.State.{bindingsIn}
 use Rattle.stowing.specs.Stowing.{BindingRoom, bindingRoom}
+<<<<<<< HEAD
 use Rattle.reports.specs.Report.{whichDone, whichRefused, done, refusal}
 use Rattle.intake.specs.Intake.{empties, brings}
+=======
+use Rattle.reports.specs.Report.{report, whichDone, whichValue, whichError, whichExhausted, whichRefused, done, refusal}
+use Rattle.board.specs.Board.{empties, brings}
+>>>>>>> 2e52504adc0668db7ee526dc4f6835a86745fb4e
 use Rattle.states.specs.InOrder.{Words}
 
 -- the bindings that the state's words stand for, over its cells and text, are sound, and each name has what it has in a room of the definition
@@ -61,6 +80,33 @@ pub record BringsIn (before : BindingRoom) (name : ℕ) (table literal answer : 
   -- in every other the definition decides
   pub sound : 8 ≤ length answer → (room : Meaning.BindingRoom) → Stands before room
       → AsMeant (bring (length (before .cells) / 2) (length (before .text)) room name table literal) before room answer left
+
+-- ---- evaluating
+
+-- what slices tell: bytes, and words of 64 bits
+pub record LentTo (table state : List ℕ) (lent : Rooms) : Type 0 where
+  pub tableBytes : AllBytes table
+  pub literalBytes : AllBytes (lent .literal)
+  pub stateWords : Words state
+  pub bindingWords : Words (lent .bindingCells)
+  pub bindingBytes : AllBytes (lent .bindingText)
+  pub cellWords : Words (lent .cells)
+
+-- the words of an evaluation's answer, by what the definition answers; those of a value read, in the rooms that are left, as the definition's
+abbrev pub AnswersAs : Answer → (answer : List ℕ) → (returned : ℕ) → (answerLeft : List ℕ) → (left : Rooms) → Type 0
+AnswersAs (Answers.refusal why place) answer returned answerLeft left =
+    (returned ≡ whichRefused) × (answerLeft ≡ over (refusal (refusalNumber why) place) answer)
+AnswersAs (ran (Limited.value v c)) answer returned answerLeft left =
+    (m : Value) × (returned ≡ whichValue) × (answerLeft ≡ over (report whichValue 0 0 (usedOf c) m) answer) × (reading left (cellOf (headOf m) (payloadOf m)) ≡ some v)
+AnswersAs (ran (Limited.error e c)) answer returned answerLeft left =
+    (returned ≡ whichError) × (answerLeft ≡ over (report whichError (errorNumber (e .error)) (e .place) (usedOf c) Value.Absent) answer)
+AnswersAs (ran (Limited.exhausted x c)) answer returned answerLeft left =
+    (returned ≡ whichExhausted) × (answerLeft ≡ over (report whichExhausted (limitNumber x) 0 (usedOf c) Value.Absent) answer)
+
+-- what is returned and the answer's words are the definition's answer, and the rooms hold what it says
+pub record EvaluatesAs (m : Answered) (lent : Rooms) (said : Said) (answer : List ℕ) (returned : ℕ) (answerLeft : List ℕ) (left : Rooms) : Type 0 where
+  pub answers : AnswersAs (m .answer) answer returned answerLeft left
+  pub says : Says m lent said left
 
 -- ---- states that calls make
 
