@@ -43,19 +43,12 @@ use Rattle.overlay.specs.Over.{over, handed}
 use Rattle.slots.specs.State.{bindingsIn, stateOf}
 use Rattle.slots.proofs.RoundTrip.{AllFit, round-trip}
 use Rattle.stowing.specs.Stowing.{bindingRoom}
-<<<<<<< HEAD
-use Rattle.reports.specs.Report.{whichDone}
-use Rattle.intake.specs.Intake.{empties}
-use Rattle.board.specs.Board.{EvaluatesInto}
-use Rattle.states.specs.InOrder.{Words}
-use Rattle.states.specs.Called.{Stands}
-=======
 use Rattle.reports.specs.Report as Report
 use Rattle.reports.specs.Report.{report, whichDone, whichValue, whichError, whichExhausted, whichAnswer, reportAnswer}
-use Rattle.board.specs.Board.{empties, answeredInto, evaluates, EvaluatesInto}
+use Rattle.intake.specs.Intake.{empties}
+use Rattle.board.specs.Board.{answeredInto, evaluates, EvaluatesInto}
 use Rattle.states.specs.Called.{Stands, LentTo, AnswersAs, EvaluatesAs}
 use Rattle.states.proofs.SettledValues.{settled-reading}
->>>>>>> 2e52504adc0668db7ee526dc4f6835a86745fb4e
 use Rattle.states.proofs.SettledAnswers.{each-fits, settled-stands}
 use Rattle.states.proofs.FitSlots.{absent-fit, state-fits, state-slots}
 

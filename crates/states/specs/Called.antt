@@ -29,13 +29,8 @@ use Rattle.answers.specs.Meant.{Says}
 use Rattle.overlay.specs.Over.{over, noRoom}
 use Rattle.slots.specs.State.{bindingsIn}
 use Rattle.stowing.specs.Stowing.{BindingRoom, bindingRoom}
-<<<<<<< HEAD
-use Rattle.reports.specs.Report.{whichDone, whichRefused, done, refusal}
-use Rattle.intake.specs.Intake.{empties, brings}
-=======
 use Rattle.reports.specs.Report.{report, whichDone, whichValue, whichError, whichExhausted, whichRefused, done, refusal}
-use Rattle.board.specs.Board.{empties, brings}
->>>>>>> 2e52504adc0668db7ee526dc4f6835a86745fb4e
+use Rattle.intake.specs.Intake.{empties, brings}
 use Rattle.states.specs.InOrder.{Words}
 
 -- the bindings that the state's words stand for, over its cells and text, are sound, and each name has what it has in a room of the definition
