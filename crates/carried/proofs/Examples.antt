@@ -80,8 +80,8 @@ pub rows-evaluated : (rows : List Row) → Hold rows → Evaluated rows
 rows-evaluated [] e = tt
 rows-evaluated (r ∷ rows) e = (row-comes r (same-head e), rows-evaluated rows (same-tail e))
 
--- P1 to P8, and the line of `ask`: every evaluation of their tables under their limits, whatever is lent and whatever else is bound nowhere,
--- comes to the value, error or exhaustion that they say, with the counts and the contents of the rooms.
+-- P1 to P8, and the line of `ask`: every evaluation of their tables under their limits, over any sound room that binds no name, comes to the
+-- value, error or exhaustion that they say, with the counts and the contents of the rooms.
 pub examples-evaluated : Evaluated examples
 examples-evaluated = rows-evaluated examples examples-hold
 

@@ -34,7 +34,7 @@ use Rattle.reasons.specs.Numbers.{errorMeant, limitMeant, limitNumber}
 use Rattle.answers.specs.declared.Answer.{Answer}
 use Rattle.answers.specs.declared.Answer.the-variants as Answer
 use Rattle.answers.specs.Evaluated.{evaluated}
-use Rattle.answers.specs.Meant.{Told, told, toldBy, countsIn, meant}
+use Rattle.answers.specs.Meant.{Told, told, toldBy, countsIn, meant, Evaluates}
 use Rattle.carried.specs.HoldsScope.{lentBy}
 use Rattle.carried.proofs.Carried.{meant-over}
 use Rattle.carried.proofs.FittingAnswers.{value-fits}
@@ -116,47 +116,52 @@ module _ (left : Rooms) (answer : List ℕ) (long : 8 ≤ length answer) where
 
 -- ---- evaluating
 
-module _ (table state : List ℕ) (steps : ℕ) (lent : Rooms) (all : LentTo table state lent) (answer : List ℕ) (long : 8 ≤ length answer) (returned : ℕ) (answerLeft : List ℕ) (left : Rooms)
+module _ (table state : List ℕ) (steps : ℕ) (lent : Rooms) (answer : List ℕ) (long : 8 ≤ length answer) (returned : ℕ) (answerLeft : List ℕ) (left : Rooms)
     (h : EvaluatesInto table state steps lent answer returned answerLeft left) where
   abbrev said : Answer
   said = evaluated table (bindingsIn state) steps lent .0
-
-  said-fits : (m : Machine.Value) (u : Used) → said ≡ Answer.Value m u → Fits m
-  said-fits =
-      value-fits table (bindingsIn state) steps lent
-      (record {
-        tableBytes = all .tableBytes;
-        words = all .cellWords;
-        bindingWords = all .bindingWords;
-        slots = state-slots state;
-        values = each-fits (bindingsIn state .scope .slots) (state-fits state (all .stateWords));
-      })
 
   exactly : _≡_ {A = (ℕ × List ℕ) × Rooms} ((returned, answerLeft), left) (answeredInto (evaluated table (bindingsIn state) steps lent) answer)
   unfolding evaluates
   exactly = h .exactly ∙ rw (le-ltb (length answer) 8 long) refl
 
-  -- Evaluating over any words: what is returned, the answer's words and the rooms are what the definition says.
-  pub evaluate-answers : EvaluatesAs (meant table (bindingsIn state) steps lent) lent said answer returned answerLeft left
-  evaluate-answers =
-      record {
-        answers =
-            subst (λ (x : (ℕ × List ℕ) × Rooms). AnswersAs (meant table (bindingsIn state) steps lent .answer) answer (x .0 .0) (x .0 .1) (x .1)) (sym exactly)
-            (told-words (evaluated table (bindingsIn state) steps lent .1) answer long said (meant table (bindingsIn state) steps lent .answer) said-fits
-            (ap (λ (x : (ℕ × List ℕ) × Rooms). told (x .1) said) (sym exactly) ∙ h .says long .tells));
-        says = h .says long;
-      }
+  -- An evaluation over words is one of `evaluate` over what they stand for: so every promise about `evaluate` is one about the call.
+  pub evaluates-over : Evaluates table (bindingsIn state) steps lent said left
+  evaluates-over = record { exactly = λ i. (said, ap (λ (x : (ℕ × List ℕ) × Rooms). x .1) exactly i); says = h .says long }
 
-  -- Evaluating over a state that stands for a room: they are what the definition answers to the rule over that room.
-  pub evaluate-means : (room : Meaning.BindingRoom) → Stands (bindingRoom state (lent .bindingCells) (lent .bindingText)) room
-      → EvaluatesAs (answerOf table (lent .literal) room (lentBy steps lent)) lent said answer returned answerLeft left
-  evaluate-means room stands =
-      subst (λ (m : Answered). EvaluatesAs m lent said answer returned answerLeft left)
-      (meant-over table (bindingsIn state) steps lent room (record { slots = state-slots state; sound = stands .sound; scope = stands .scope })) evaluate-answers
+  module _ (all : LentTo table state lent) where
+    said-fits : (m : Machine.Value) (u : Used) → said ≡ Answer.Value m u → Fits m
+    said-fits =
+        value-fits table (bindingsIn state) steps lent
+        (record {
+          tableBytes = all .tableBytes;
+          words = all .cellWords;
+          bindingWords = all .bindingWords;
+          slots = state-slots state;
+          values = each-fits (bindingsIn state .scope .slots) (state-fits state (all .stateWords));
+        })
 
-  -- Whatever the state's words are, a value that comes back is well formed.
-  pub evaluate-formed : (v : Value) (c : Counts) → told left said ≡ Told.value (some v) c → WellFormed v
-  evaluate-formed =
-      says-formed table (bindingsIn state) steps lent (all .tableBytes) (all .literalBytes)
-      (record { words = all .bindingWords; text = all .bindingBytes; slots = state-slots state; values = each-fits (bindingsIn state .scope .slots) (state-fits state (all .stateWords)) })
-      said left (h .says long)
+    -- Evaluating over any words: what is returned, the answer's words and the rooms are what the definition says.
+    pub evaluate-answers : EvaluatesAs (meant table (bindingsIn state) steps lent) lent said answer returned answerLeft left
+    evaluate-answers =
+        record {
+          answers =
+              subst (λ (x : (ℕ × List ℕ) × Rooms). AnswersAs (meant table (bindingsIn state) steps lent .answer) answer (x .0 .0) (x .0 .1) (x .1)) (sym exactly)
+              (told-words (evaluated table (bindingsIn state) steps lent .1) answer long said (meant table (bindingsIn state) steps lent .answer) said-fits
+              (ap (λ (x : (ℕ × List ℕ) × Rooms). told (x .1) said) (sym exactly) ∙ h .says long .tells));
+          says = h .says long;
+        }
+
+    -- Evaluating over a state that stands for a room: they are what the definition answers to the rule over that room.
+    pub evaluate-means : (room : Meaning.BindingRoom) → Stands (bindingRoom state (lent .bindingCells) (lent .bindingText)) room
+        → EvaluatesAs (answerOf table (lent .literal) room (lentBy steps lent)) lent said answer returned answerLeft left
+    evaluate-means room stands =
+        subst (λ (m : Answered). EvaluatesAs m lent said answer returned answerLeft left)
+        (meant-over table (bindingsIn state) steps lent room (record { slots = state-slots state; sound = stands .sound; scope = stands .scope })) evaluate-answers
+
+    -- Whatever the state's words are, a value that comes back is well formed.
+    pub evaluate-formed : (v : Value) (c : Counts) → told left said ≡ Told.value (some v) c → WellFormed v
+    evaluate-formed =
+        says-formed table (bindingsIn state) steps lent (all .tableBytes) (all .literalBytes)
+        (record { words = all .bindingWords; text = all .bindingBytes; slots = state-slots state; values = each-fits (bindingsIn state .scope .slots) (state-fits state (all .stateWords)) })
+        said left (h .says long)
