@@ -40,7 +40,7 @@ extern "C" {
 #define OMBRAVELIK_EXHAUSTED 3
 /* Nothing was evaluated or brought in, and nothing lent was changed but the answer. */
 #define OMBRAVELIK_REFUSED 4
-/* The slice for what is to be written (an answer, a state, a shape or a part) is too short, or of a state too long. Nothing was changed. */
+/* The slice for an answer, a shape or a part is too short, or a state that is to be emptied has not its number of words. Nothing was changed. */
 #define OMBRAVELIK_NO_ROOM 255
 
 /* ---- An answer: 8 words, written by `check`, `bring_in` and `evaluate` unless they return OMBRAVELIK_NO_ROOM. What does not apply is 0. ---- */
@@ -147,7 +147,8 @@ extern "C" {
  * Words 2n and 2n + 1 are the value of name n, for the names 0 to 127: a caller reads a binding out by these two words. Then come the used cells,
  * the used bytes, and the number of names, by which a state is known. A state belongs to the cells and the text that its bindings were brought into.
  * It is made by `ombravelik_empty` and changed by `ombravelik_bring_in`. It may be copied, stored and lent again with its cells and text:
- * `ombravelik_bring_in` and `ombravelik_evaluate` judge all of it at every call, and refuse a room that is not sound (docs/FORMAT.md, "Binding rooms").
+ * every call of `ombravelik_bring_in`, and every one of `ombravelik_evaluate` with an accepted table, judges what is used of it, and refuses a room
+ * that is not sound (docs/FORMAT.md, "Binding rooms").
  */
 #define OMBRAVELIK_STATE_WORDS 259
 #define OMBRAVELIK_STATE_CELLS 256
