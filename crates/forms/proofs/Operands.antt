@@ -77,7 +77,7 @@ pub record FixedAt (t x : List ℕ) (p : ℕ) (f : Fixed) : Type 0 where
 
 -- ---- what is begun next
 
-go-at : (P : ℕ → Type 0) (o : Option Used) (q : ℕ) (x : Outcome) {n : ℕ} {u : Used} → P q → goNext o q x ≡ Next.At n u → P n
+pub go-at : (P : ℕ → Type 0) (o : Option Used) (q : ℕ) (x : Outcome) {n : ℕ} {u : Used} → P q → goNext o q x ≡ Next.At n u → P n
 go-at P none q x h e = let z : _≡_ {A = ℕ} 0 1 = cc in absurd (omega arith)
 go-at P (some w) q x {n} h e = let f : q ≡ n = cc in rw (sym f) h
 
@@ -91,7 +91,7 @@ value-at P (Outcome.Value v w) q {n} h e = let f : q ≡ n = cc in rw (sym f) h
 value-at P (Outcome.Error r p w) q h e = let z : _≡_ {A = ℕ} 0 1 = cc in absurd (omega arith)
 value-at P (Outcome.Exhausted r w) q h e = let z : _≡_ {A = ℕ} 0 1 = cc in absurd (omega arith)
 
-no-next : {A : Type 0} {o : Outcome} {n : ℕ} {u : Used} → Next.Stop o ≡ Next.At n u → A
+pub no-next : {A : Type 0} {o : Outcome} {n : ℕ} {u : Used} → Next.Stop o ≡ Next.At n u → A
 no-next e = let z : _≡_ {A = ℕ} 0 1 = cc in absurd (omega arith)
 
 -- ---- and what the machine makes of it

@@ -35,7 +35,8 @@ use Rattle.gathering.specs.Gathers.{gatherOf, GatherIn, onGather}
 use Rattle.gathering.proofs.GatherLaws.{items-as}
 use Rattle.paths.specs.declared.Places.{Places}
 use Rattle.paths.specs.Paths.{loopAt, guardAt, appendAt}
-use Rattle.recursion.proofs.Stops.{Is, after-operand}
+use Rattle.flats.proofs.Stops.{Is, after-operand}
+use Rattle.recursion.proofs.Operands.{Came}
 use Rattle.recursion.proofs.Turns.{asked}
 
 -- ---- a guard
@@ -66,16 +67,15 @@ module _ (t x b y : List ℕ) (limit p : ℕ) (isGuarded : Bool) (guard : ℕ) (
         keptx = ap (λ (w : List ℕ). length w) j;
       }
 
-  pub came-guarded : isGuarded ≡ true → {o : Outcome} {cells₁ text₁ : List ℕ} →
-      Is o (rooms x b y cells₁ text₁) (machine t limit (exprOf t x guard) s u (rooms x b y cells₀ text₀)) → length cells₁ ≡ length cells₀ → length text₁ ≡ length text₀ →
-      {a₁ : Asked} → a₁ ≡ askedOf p o → cells ≡ cells₁ → text ≡ text₁ → a ≡ a₁ → Guarded t x b y limit p isGuarded guard s u cells₀ text₀ a cells text
-  came-guarded e test f g h i j k =
+  pub came-guarded : isGuarded ≡ true → {o : Outcome} {cells₁ text₁ : List ℕ} → Came t x b y limit guard s u cells₀ text₀ o cells₁ text₁ → {a₁ : Asked} → a₁ ≡ askedOf p o →
+      cells ≡ cells₁ → text ≡ text₁ → a ≡ a₁ → Guarded t x b y limit p isGuarded guard s u cells₀ text₀ a cells text
+  came-guarded e test h i j k =
       record {
         passed =
-            rw (i, j) (guard-asked p s u (rooms x b y cells₀ text₀) (machine t limit (exprOf t x guard)) (ap (λ b. guardAt b (machine t limit (exprOf t x guard))) e) test
+            rw (i, j) (guard-asked p s u (rooms x b y cells₀ text₀) (machine t limit (exprOf t x guard)) (ap (λ b. guardAt b (machine t limit (exprOf t x guard))) e) (test .is)
             (k ∙ h));
-        kept = rw i f;
-        keptx = rw j g;
+        kept = rw i (test .kept);
+        keptx = rw j (test .keptx);
       }
 
 -- ---- a condition that is a literal reads no slot
@@ -213,6 +213,7 @@ pub record AppendsLoop (t x b y cells₀ text₀ : List ℕ) (limit p : ℕ) (is
     (s₀ : Scope) (u₀ : Used) (cells text firsts counts : List ℕ) (s : Scope) (g : Collected) (u : Used) (cell left : ℕ) : Type 0 where
   pub kept : length cells ≡ length cells₀
   pub keptx : length text ≡ length text₀
+  pub long : length (s .slots) ≡ 128
   pub firsts-long : length firsts ≡ 2048
   pub counts-long : length counts ≡ 2048
   -- places and counts are numbers of the code
@@ -224,13 +225,14 @@ pub record AppendsLoop (t x b y cells₀ text₀ : List ℕ) (limit p : ℕ) (is
       appendTurns (loopAt t x limit p places) (appendAt t x limit isGuarded guard list) space stride count first nothingGathered s₀ u₀ (rooms x b y cells₀ text₀)
 
 module _ (t x b y cells₀ text₀ : List ℕ) (limit p : ℕ) (isGuarded : Bool) (guard list : ℕ) (space : CellSpace) (first count stride item condition : ℕ) (s₀ : Scope) (u₀ : Used) where
-  pub appends-begin : first < 65536 → count < 65536 →
+  pub appends-begin : length (s₀ .slots) ≡ 128 → first < 65536 → count < 65536 →
       AppendsLoop t x b y cells₀ text₀ limit p isGuarded guard list space first count stride item condition s₀ u₀ cells₀ text₀ (replicate 2048 0) (replicate 2048 0) s₀
       (record { runs = 0; count = 0; nesting = 1 }) u₀ first count
-  appends-begin f g =
+  appends-begin e f g =
       record {
         kept = refl;
         keptx = refl;
+        long = e;
         firsts-long = length-replicate {A = ℕ} 2048 0;
         counts-long = length-replicate {A = ℕ} 2048 0;
         below = omega (arith, f, g);
@@ -242,15 +244,16 @@ module _ (t x b y cells₀ text₀ : List ℕ) (limit p : ℕ) (isGuarded : Bool
   pub appends-again : {cells text firsts counts : List ℕ} {s : Scope} {g : Collected} {u : Used} {cell left : ℕ} →
       AppendsLoop t x b y cells₀ text₀ limit p isGuarded guard list space first count stride item condition s₀ u₀ cells text firsts counts s g u cell left →
       0 < left → stride < 65536 → {cells₁ text₁ firsts₁ counts₁ : List ℕ} {s₁ : Scope} {g₁ : Collected} {u₁ : Used} →
-      length cells₁ ≡ length cells → length text₁ ≡ length text → length firsts₁ ≡ length firsts → length counts₁ ≡ length counts →
+      length cells₁ ≡ length cells → length text₁ ≡ length text → length (s₁ .slots) ≡ length (s .slots) → length firsts₁ ≡ length firsts → length counts₁ ≡ length counts →
       (g₁ .runs ≤ g .runs + 1) × (g₁ .count ≤ g .count + 65535) →
       Same t x limit p isGuarded guard list space stride item condition (left - 1) (cell + stride) (gatheredIn firsts₁ counts₁ g₁) s₁ u₁ (rooms x b y cells₁ text₁)
       left cell (gatheredIn firsts counts g) s u (rooms x b y cells text) →
       AppendsLoop t x b y cells₀ text₀ limit p isGuarded guard list space first count stride item condition s₀ u₀ cells₁ text₁ firsts₁ counts₁ s₁ g₁ u₁ (cell + stride) (left - 1)
-  appends-again v h w i j k l m e =
+  appends-again v h w i j n k l m e =
       record {
         kept = i ∙ v .kept;
         keptx = j ∙ v .keptx;
+        long = n ∙ v .long;
         firsts-long = k ∙ v .firsts-long;
         counts-long = l ∙ v .counts-long;
         below = omega (arith, v .below, h, w);

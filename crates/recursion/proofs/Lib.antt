@@ -1,5 +1,4 @@
 -- What the proof of the cycle rests on: a law for each way through a member, over plain variables.
-pub mod Stops
 pub mod Operands
 pub mod Lists
 pub mod Maps

@@ -1,5 +1,5 @@
-// The record evaluator and the comprehension loop, which call each other. An operand that is a literal or a name is evaluated by the caller,
-// since every call copies the scope.
+// The record evaluator and the comprehension loop, which call each other. An operand that is a literal or a name, or near those, is evaluated by the
+// caller with its slots, since every call of these copies the scope. A loop finds out once which slots its operands read.
 ghost use mathlib.Core.Path.{_≡_};
 ghost use mathlib.Core.Option.{none};
 ghost use Prim.Native.Nat.{_+_, _<_};
@@ -59,6 +59,8 @@ use paths::folds_at;
 use paths::places_at;
 use ranges::Range;
 use ranges::range_of;
+use reach::reach;
+use reach::reach_at;
 use rooms::scope::Scope;
 use rooms::scope::Slot;
 use rooms::value::CellSpace;
@@ -66,6 +68,9 @@ use rooms::value::Value;
 use runs::Collected;
 use runs::add_run;
 use runs::collected_list;
+use sides::Quad;
+use singles::single;
+use singles::single_at;
 
 // What the record at a place gives: its step, then by its shape.
 pub fn eval(
@@ -151,11 +156,23 @@ pub fn eval(
         ),
         Shape::Operands(fixed) => {
             let one = begun_first(table, literal, at, fixed);
-            let left = if is_leaf(table, one) {
-                let slot = slot_at(table, literal, one);
-                leaf(table, literal, limit, one, scope.slots[slot], begun)
-            } else {
-                eval(
+            let left = match reach_at(table, literal, one) {
+                Quad::Slots(a, b, c, d) => reach(
+                    table,
+                    literal,
+                    binding_cells,
+                    binding_text,
+                    cells,
+                    text,
+                    limit,
+                    one,
+                    scope.slots[a],
+                    scope.slots[b],
+                    scope.slots[c],
+                    scope.slots[d],
+                    begun,
+                ),
+                Quad::No => eval(
                     table,
                     literal,
                     binding_cells,
@@ -166,7 +183,7 @@ pub fn eval(
                     one,
                     scope,
                     begun,
-                )
+                ),
             };
 
             match after_first(
@@ -183,11 +200,23 @@ pub fn eval(
             ) {
                 Next::Stop(outcome) => outcome,
                 Next::At(two, more) => {
-                    let right = if is_leaf(table, two) {
-                        let slot = slot_at(table, literal, two);
-                        leaf(table, literal, limit, two, scope.slots[slot], more)
-                    } else {
-                        eval(
+                    let right = match reach_at(table, literal, two) {
+                        Quad::Slots(a, b, c, d) => reach(
+                            table,
+                            literal,
+                            binding_cells,
+                            binding_text,
+                            cells,
+                            text,
+                            limit,
+                            two,
+                            scope.slots[a],
+                            scope.slots[b],
+                            scope.slots[c],
+                            scope.slots[d],
+                            more,
+                        ),
+                        Quad::No => eval(
                             table,
                             literal,
                             binding_cells,
@@ -198,7 +227,7 @@ pub fn eval(
                             two,
                             scope,
                             more,
-                        )
+                        ),
                     };
 
                     after_both(
@@ -516,6 +545,8 @@ fn turns(
     let step = places.step;
     let result = places.result;
     let folds = folds_at(table, literal, step, accumulator);
+    let condition_slots = reach_at(table, literal, condition);
+    let step_slots = reach_at(table, literal, step);
     let mut inner = scope;
     inner.slots[accumulator] = Slot { value: start };
     let mut held = Pending::Nothing;
@@ -523,11 +554,24 @@ fn turns(
     let mut cell = first as usize;
     let mut left = count as usize;
     while 0 < left {
-        let test = if is_leaf(table, condition) {
-            let slot = slot_at(table, literal, condition);
-            leaf(table, literal, limit, condition, inner.slots[slot], spent)
-        } else {
-            eval(
+        let reads = condition_slots;
+        let test = match reads {
+            Quad::Slots(a, b, c, d) => reach(
+                table,
+                literal,
+                binding_cells,
+                binding_text,
+                cells,
+                text,
+                limit,
+                condition,
+                inner.slots[a],
+                inner.slots[b],
+                inner.slots[c],
+                inner.slots[d],
+                spent,
+            ),
+            Quad::No => eval(
                 table,
                 literal,
                 binding_cells,
@@ -538,7 +582,7 @@ fn turns(
                 condition,
                 inner,
                 spent,
-            )
+            ),
         };
 
         match asks(test, at) {
@@ -564,18 +608,36 @@ fn turns(
                 inner.slots[item] = Slot {
                     value: cell_at(binding_cells, cells, space, cell),
                 };
-                let gives = eval(
-                    table,
-                    literal,
-                    binding_cells,
-                    binding_text,
-                    cells,
-                    text,
-                    limit,
-                    step,
-                    inner,
-                    more,
-                );
+                let reads = step_slots;
+                let gives = match reads {
+                    Quad::Slots(a, b, c, d) => reach(
+                        table,
+                        literal,
+                        binding_cells,
+                        binding_text,
+                        cells,
+                        text,
+                        limit,
+                        step,
+                        inner.slots[a],
+                        inner.slots[b],
+                        inner.slots[c],
+                        inner.slots[d],
+                        more,
+                    ),
+                    Quad::No => eval(
+                        table,
+                        literal,
+                        binding_cells,
+                        binding_text,
+                        cells,
+                        text,
+                        limit,
+                        step,
+                        inner,
+                        more,
+                    ),
+                };
                 cell += each as usize;
                 left -= 1;
                 match step_of(folds, held, gives) {
@@ -678,6 +740,8 @@ fn appends(
 {
     let item = places.item;
     let condition = places.condition;
+    let guard_slots = reach_at(table, literal, guard);
+    let list_slots = single_at(table, literal, list);
     let mut firsts = [0u16; 2048];
     let mut counts = [0u16; 2048];
     let mut inner = scope;
@@ -714,18 +778,36 @@ fn appends(
                 cell += each as usize;
                 left -= 1;
                 let passes = if guarded {
-                    let test = eval(
-                        table,
-                        literal,
-                        binding_cells,
-                        binding_text,
-                        cells,
-                        text,
-                        limit,
-                        guard,
-                        inner,
-                        more,
-                    );
+                    let reads = guard_slots;
+                    let test = match reads {
+                        Quad::Slots(a, b, c, d) => reach(
+                            table,
+                            literal,
+                            binding_cells,
+                            binding_text,
+                            cells,
+                            text,
+                            limit,
+                            guard,
+                            inner.slots[a],
+                            inner.slots[b],
+                            inner.slots[c],
+                            inner.slots[d],
+                            more,
+                        ),
+                        Quad::No => eval(
+                            table,
+                            literal,
+                            binding_cells,
+                            binding_text,
+                            cells,
+                            text,
+                            limit,
+                            guard,
+                            inner,
+                            more,
+                        ),
+                    };
                     asks(test, at)
                 } else {
                     Asked::Holds(more)
@@ -738,18 +820,36 @@ fn appends(
                         spent = after;
                     }
                     Asked::Holds(after) => {
-                        let items = eval(
-                            table,
-                            literal,
-                            binding_cells,
-                            binding_text,
-                            cells,
-                            text,
-                            limit,
-                            list,
-                            inner,
-                            after,
-                        );
+                        let reads = list_slots;
+                        let items = match reads {
+                            Quad::Slots(a, b, c, d) => single(
+                                table,
+                                literal,
+                                binding_cells,
+                                binding_text,
+                                cells,
+                                text,
+                                limit,
+                                list,
+                                inner.slots[a],
+                                inner.slots[b],
+                                inner.slots[c],
+                                inner.slots[d],
+                                after,
+                            ),
+                            Quad::No => eval(
+                                table,
+                                literal,
+                                binding_cells,
+                                binding_text,
+                                cells,
+                                text,
+                                limit,
+                                list,
+                                inner,
+                                after,
+                            ),
+                        };
                         match gather_items(binding_cells, cells, items) {
                             Gather::Ends(outcome) => {
                                 return outcome;

@@ -1,12 +1,18 @@
 -- The cycle of `eval`: every member meets its contract. Assumes nothing.
 mod Kit
+mod AppendsCame
 mod Appends
+mod AppendsSlots
 mod Comprehend
+mod EvalCame
 mod Eval
 mod EvalOperands
 mod Finish
+mod ListPartsCame
 mod ListParts
+mod MapPartsCame
 mod MapParts
+mod TurnsCame
 mod Turns
 use Rattle.recursion.proofs.eval.appends.Reads as appends
 use Rattle.recursion.proofs.eval.+appends+comprehend+eval+finish+list_parts+map_parts+turns.Lts-appends as appends-lts
@@ -25,14 +31,19 @@ use Rattle.recursion.proofs.eval.+appends+comprehend+eval+finish+list_p
 use Rattle.recursion.proofs.eval.+appends+comprehend+eval+finish+list_parts+map_parts+turns.{statement}
 use Rattle.recursion.proofs.eval.+appends+comprehend+eval+finish+list_parts+map_parts+turns.Tie.{close}
 use Rattle.recursion.proofs.eval.+appends+comprehend+eval+finish+list_parts+map_parts+turns.Proof.Kit.{μ-appends, μ-comprehend, μ-eval, μ-finish, μ-list-parts, μ-map-parts, μ-turns, appends-at, comprehend-at, eval-at, finish-at, list-parts-at, map-parts-at, turns-at, appends-claims, comprehend-claims, eval-claims, finish-claims, list-parts-claims, map-parts-claims, turns-claims}
-use Rattle.recursion.proofs.eval.+appends+comprehend+eval+finish+list_parts+map_parts+turns.Proof.Appends.{appends-Inv-loop, appends-μ-loop, appends-loop-holds, appends-leaf-requires, appends-asks-requires, appends-enum-known-outcome, appends-same-length, appends-same-length-2, appends-returns, appends-enum-known-more, appends-slice-aggregate-collected-list, appends-slice-aggregate-collected-list-2, appends-collected-list-requires, appends-same-length-3, appends-same-length-4, appends-returns-2, appends-enum-known-more-2, appends-cell-at-requires, appends-mul-t57, appends-element-set-from-inner, appends-add-cell, appends-sub-left, appends-eval-requires, appends-asks-requires-2, appends-enum-known-passes, appends-same-length-5, appends-same-length-6, appends-returns-3, appends-enum-known-passes-2, appends-loop-less, appends-loop-again, appends-enum-known-passes-3, appends-eval-requires-2, appends-gather-items-requires, appends-enum-known-outcome-2, appends-same-length-7, appends-same-length-8, appends-returns-4, appends-enum-known-from, appends-slice-aggregate-add-run, appends-slice-aggregate-add-run-2, appends-add-run-requires, appends-loop-less-2, appends-loop-again-2, appends-slice-aggregate-collected-list-3, appends-slice-aggregate-collected-list-4, appends-collected-list-requires-2, appends-same-length-9, appends-same-length-10, appends-returns-5}
+use Rattle.recursion.proofs.eval.+appends+comprehend+eval+finish+list_parts+map_parts+turns.Proof.AppendsCame.{appends-Inv-loop, appends-μ-loop}
+use Rattle.recursion.proofs.eval.+appends+comprehend+eval+finish+list_parts+map_parts+turns.Proof.AppendsSlots.{appends-reach-at-requires, appends-single-at-requires, appends-mul-t69, appends-enum-known-reads, appends-mul-reach, appends-element-copy-out-reach, appends-mul-reach-2, appends-element-copy-out-reach-2, appends-mul-reach-3, appends-element-copy-out-reach-3, appends-mul-reach-4, appends-element-copy-out-reach-4, appends-reach-requires, appends-enum-told, appends-eval-requires, appends-enum-known-reads-2, appends-mul-single, appends-element-copy-out-single, appends-mul-single-2, appends-element-copy-out-single-2, appends-mul-single-3, appends-element-copy-out-single-3, appends-mul-single-4, appends-element-copy-out-single-4, appends-single-requires, appends-enum-told-2, appends-eval-requires-2}
+use Rattle.recursion.proofs.eval.+appends+comprehend+eval+finish+list_parts+map_parts+turns.Proof.Appends.{appends-loop-holds, appends-leaf-requires, appends-asks-requires, appends-enum-known-outcome, appends-same-length, appends-same-length-2, appends-returns, appends-enum-known-more, appends-slice-aggregate-collected-list, appends-slice-aggregate-collected-list-2, appends-collected-list-requires, appends-same-length-3, appends-same-length-4, appends-returns-2, appends-enum-known-more-2, appends-cell-at-requires, appends-element-set-from-inner, appends-add-cell, appends-sub-left, appends-asks-requires-2, appends-enum-known-passes, appends-same-length-5, appends-same-length-6, appends-returns-3, appends-enum-known-passes-2, appends-loop-less, appends-loop-again, appends-enum-known-passes-3, appends-gather-items-requires, appends-enum-known-outcome-2, appends-same-length-7, appends-same-length-8, appends-returns-4, appends-enum-known-from, appends-slice-aggregate-add-run, appends-slice-aggregate-add-run-2, appends-add-run-requires, appends-loop-less-2, appends-loop-again-2, appends-slice-aggregate-collected-list-3, appends-slice-aggregate-collected-list-4, appends-collected-list-requires-2, appends-same-length-9, appends-same-length-10, appends-returns-5}
 use Rattle.recursion.proofs.eval.+appends+comprehend+eval+finish+list_parts+map_parts+turns.Proof.Comprehend.{comprehend-first-operand-requires, comprehend-end-at-requires, comprehend-eval-requires, comprehend-enum-known-one, comprehend-same-length, comprehend-same-length-2, comprehend-returns, comprehend-eval-requires-2, comprehend-enum-known-two, comprehend-same-length-3, comprehend-same-length-4, comprehend-returns-2, comprehend-range-of-requires, comprehend-enum-known-space, comprehend-enum-told, comprehend-same-length-5, comprehend-same-length-6, comprehend-returns-3, comprehend-places-at-requires, comprehend-append-path-requires, comprehend-enum-told-2, comprehend-turns-requires, comprehend-enum-known-list, comprehend-appends-requires, comprehend-enum-known-guard, comprehend-appends-requires-2, comprehend-same-length-7, comprehend-same-length-8, comprehend-returns-4, comprehend-same-length-9, comprehend-same-length-10, comprehend-returns-5, comprehend-same-length-11, comprehend-same-length-12, comprehend-returns-6}
 use Rattle.recursion.proofs.eval.+appends+comprehend+eval+finish+list_parts+map_parts+turns.Proof.Eval.{eval-out-of-steps-requires, eval-returns, eval-stepped-requires, eval-shape-at-requires, eval-enum-told, eval-slot-at-requires, eval-mul-leaf-value, eval-element-copy-out-leaf-value, eval-leaf-value-requires, eval-enum-told-2, eval-enum-told-3, eval-count-at-requires, eval-begin-requires, eval-enum-told-4, eval-out-of-cells-requires, eval-enum-known-first, eval-list-parts-requires, eval-enum-told-5, eval-count-at-requires-2, eval-mul-begin, eval-begin-requires-2, eval-enum-told-6, eval-out-of-cells-requires-2, eval-enum-known-first-2, eval-map-parts-requires, eval-enum-told-7, eval-comprehend-requires, eval-enum-known-fixed, eval-returns-2, eval-returns-3, eval-same-length, eval-returns-4, eval-same-length-2, eval-same-length-3, eval-returns-5, eval-same-length-4, eval-returns-6, eval-same-length-5, eval-same-length-6, eval-returns-7, eval-same-length-7, eval-same-length-8, eval-returns-8}
-use Rattle.recursion.proofs.eval.+appends+comprehend+eval+finish+list_parts+map_parts+turns.Proof.EvalOperands.{eval-begun-first-requires, eval-is-leaf-requires, eval-slot-at-requires-2, eval-mul-leaf, eval-element-copy-out-leaf, eval-leaf-requires, eval-eval-requires, eval-after-first-requires, eval-enum-known-outcome, eval-enum-known-two, eval-is-leaf-requires-2, eval-slot-at-requires-3, eval-mul-leaf-2, eval-element-copy-out-leaf-2, eval-leaf-requires-2, eval-eval-requires-2, eval-after-both-requires, eval-same-length-9, eval-same-length-10, eval-returns-9, eval-same-length-11, eval-same-length-12, eval-returns-10}
+use Rattle.recursion.proofs.eval.+appends+comprehend+eval+finish+list_parts+map_parts+turns.Proof.EvalOperands.{eval-begun-first-requires, eval-reach-at-requires, eval-enum-known-a, eval-mul-reach, eval-element-copy-out-reach, eval-mul-reach-2, eval-element-copy-out-reach-2, eval-mul-reach-3, eval-element-copy-out-reach-3, eval-mul-reach-4, eval-element-copy-out-reach-4, eval-reach-requires, eval-enum-told-8, eval-eval-requires, eval-after-first-requires, eval-enum-known-outcome, eval-enum-known-two, eval-reach-at-requires-2, eval-enum-known-a-2, eval-mul-reach-5, eval-element-copy-out-reach-5, eval-mul-reach-6, eval-element-copy-out-reach-6, eval-mul-reach-7, eval-element-copy-out-reach-7, eval-mul-reach-8, eval-element-copy-out-reach-8, eval-reach-requires-2, eval-enum-told-9, eval-eval-requires-2, eval-after-both-requires, eval-same-length-9, eval-same-length-10, eval-returns-9, eval-same-length-11, eval-same-length-12, eval-returns-10}
 use Rattle.recursion.proofs.eval.+appends+comprehend+eval+finish+list_parts+map_parts+turns.Proof.Finish.{finish-enum-known-held, finish-enum-told, finish-is-leaf-requires, finish-slot-at-requires, finish-mul-leaf, finish-element-copy-out-leaf, finish-leaf-requires, finish-eval-requires, finish-returns, finish-returns-2, finish-same-length, finish-same-length-2, finish-returns-3}
-use Rattle.recursion.proofs.eval.+appends+comprehend+eval+finish+list_parts+map_parts+turns.Proof.ListParts.{list-parts-Inv-loop, list-parts-μ-loop, list-parts-first-operand-requires, list-parts-loop-holds, list-parts-is-marked-requires, list-parts-unmarked-requires, list-parts-is-leaf-requires, list-parts-slot-at-requires, list-parts-mul-leaf, list-parts-element-copy-out-leaf, list-parts-leaf-requires, list-parts-eval-requires, list-parts-enum-known-part, list-parts-same-length, list-parts-same-length-2, list-parts-returns, list-parts-add-element-requires, list-parts-end-at-requires, list-parts-sub-left, list-parts-loop-less, list-parts-loop-again, list-parts-whole-list-requires, list-parts-same-length-3, list-parts-same-length-4, list-parts-returns-2}
-use Rattle.recursion.proofs.eval.+appends+comprehend+eval+finish+list_parts+map_parts+turns.Proof.MapParts.{map-parts-Inv-loop, map-parts-μ-loop, map-parts-first-operand-requires, map-parts-loop-holds, map-parts-is-leaf-requires, map-parts-slot-at-requires, map-parts-mul-leaf, map-parts-element-copy-out-leaf, map-parts-leaf-requires, map-parts-eval-requires, map-parts-key-of-requires, map-parts-enum-known-outcome, map-parts-same-length, map-parts-same-length-2, map-parts-returns, map-parts-enum-known-key, map-parts-end-at-requires, map-parts-is-marked-requires, map-parts-unmarked-requires, map-parts-is-leaf-requires-2, map-parts-slot-at-requires-2, map-parts-mul-leaf-2, map-parts-element-copy-out-leaf-2, map-parts-leaf-requires-2, map-parts-eval-requires-2, map-parts-enum-known-part, map-parts-same-length-3, map-parts-same-length-4, map-parts-returns-2, map-parts-end-at-requires-2, map-parts-sub-left, map-parts-add-entry-requires, map-parts-enum-known-outcome-2, map-parts-same-length-5, map-parts-same-length-6, map-parts-returns-3, map-parts-enum-known-grown, map-parts-loop-less, map-parts-loop-again, map-parts-whole-map-requires, map-parts-same-length-7, map-parts-same-length-8, map-parts-returns-4}
-use Rattle.recursion.proofs.eval.+appends+comprehend+eval+finish+list_parts+map_parts+turns.Proof.Turns.{turns-Inv-loop, turns-μ-loop, turns-folds-at-requires, turns-mul-t40, turns-element-set-from-inner, turns-loop-holds, turns-is-leaf-requires, turns-slot-at-requires, turns-mul-leaf, turns-element-copy-out-leaf, turns-leaf-requires, turns-eval-requires, turns-asks-requires, turns-enum-known-outcome, turns-same-length, turns-same-length-2, turns-returns, turns-enum-known-more, turns-finish-requires, turns-same-length-3, turns-same-length-4, turns-returns-2, turns-enum-known-more-2, turns-cell-at-requires, turns-mul-t65, turns-element-set-from-inner-2, turns-eval-requires-2, turns-add-cell, turns-sub-left, turns-step-of-requires, turns-enum-known-outcome-2, turns-same-length-5, turns-same-length-6, turns-returns-3, turns-enum-known-pending, turns-loop-less, turns-loop-again, turns-enum-known-v, turns-mul-t75, turns-element-set-from-inner-3, turns-loop-less-2, turns-loop-again-2, turns-finish-requires-2, turns-same-length-7, turns-same-length-8, turns-returns-4}
+use Rattle.recursion.proofs.eval.+appends+comprehend+eval+finish+list_parts+map_parts+turns.Proof.ListPartsCame.{list-parts-Inv-loop, list-parts-μ-loop}
+use Rattle.recursion.proofs.eval.+appends+comprehend+eval+finish+list_parts+map_parts+turns.Proof.ListParts.{list-parts-first-operand-requires, list-parts-loop-holds, list-parts-is-marked-requires, list-parts-unmarked-requires, list-parts-is-leaf-requires, list-parts-slot-at-requires, list-parts-mul-leaf, list-parts-element-copy-out-leaf, list-parts-leaf-requires, list-parts-eval-requires, list-parts-enum-known-part, list-parts-same-length, list-parts-same-length-2, list-parts-returns, list-parts-add-element-requires, list-parts-end-at-requires, list-parts-sub-left, list-parts-loop-less, list-parts-loop-again, list-parts-whole-list-requires, list-parts-same-length-3, list-parts-same-length-4, list-parts-returns-2}
+use Rattle.recursion.proofs.eval.+appends+comprehend+eval+finish+list_parts+map_parts+turns.Proof.MapPartsCame.{map-parts-Inv-loop, map-parts-μ-loop}
+use Rattle.recursion.proofs.eval.+appends+comprehend+eval+finish+list_parts+map_parts+turns.Proof.MapParts.{map-parts-first-operand-requires, map-parts-loop-holds, map-parts-is-leaf-requires, map-parts-slot-at-requires, map-parts-mul-leaf, map-parts-element-copy-out-leaf, map-parts-leaf-requires, map-parts-eval-requires, map-parts-key-of-requires, map-parts-enum-known-outcome, map-parts-same-length, map-parts-same-length-2, map-parts-returns, map-parts-enum-known-key, map-parts-end-at-requires, map-parts-is-marked-requires, map-parts-unmarked-requires, map-parts-is-leaf-requires-2, map-parts-slot-at-requires-2, map-parts-mul-leaf-2, map-parts-element-copy-out-leaf-2, map-parts-leaf-requires-2, map-parts-eval-requires-2, map-parts-enum-known-part, map-parts-same-length-3, map-parts-same-length-4, map-parts-returns-2, map-parts-end-at-requires-2, map-parts-sub-left, map-parts-add-entry-requires, map-parts-enum-known-outcome-2, map-parts-same-length-5, map-parts-same-length-6, map-parts-returns-3, map-parts-enum-known-grown, map-parts-loop-less, map-parts-loop-again, map-parts-whole-map-requires, map-parts-same-length-7, map-parts-same-length-8, map-parts-returns-4}
+use Rattle.recursion.proofs.eval.+appends+comprehend+eval+finish+list_parts+map_parts+turns.Proof.TurnsCame.{turns-Inv-loop, turns-μ-loop}
+use Rattle.recursion.proofs.eval.+appends+comprehend+eval+finish+list_parts+map_parts+turns.Proof.Turns.{turns-folds-at-requires, turns-reach-at-requires, turns-reach-at-requires-2, turns-mul-t51, turns-element-set-from-inner, turns-loop-holds, turns-enum-known-reads, turns-mul-reach, turns-element-copy-out-reach, turns-mul-reach-2, turns-element-copy-out-reach-2, turns-mul-reach-3, turns-element-copy-out-reach-3, turns-mul-reach-4, turns-element-copy-out-reach-4, turns-reach-requires, turns-enum-told, turns-eval-requires, turns-asks-requires, turns-enum-known-outcome, turns-same-length, turns-same-length-2, turns-returns, turns-enum-known-more, turns-finish-requires, turns-same-length-3, turns-same-length-4, turns-returns-2, turns-enum-known-more-2, turns-cell-at-requires, turns-mul-t91, turns-element-set-from-inner-2, turns-enum-known-reads-2, turns-mul-reach-5, turns-element-copy-out-reach-5, turns-mul-reach-6, turns-element-copy-out-reach-6, turns-mul-reach-7, turns-element-copy-out-reach-7, turns-mul-reach-8, turns-element-copy-out-reach-8, turns-reach-requires-2, turns-enum-told-2, turns-eval-requires-2, turns-add-cell, turns-sub-left, turns-step-of-requires, turns-enum-known-outcome-2, turns-same-length-5, turns-same-length-6, turns-returns-3, turns-enum-known-pending, turns-loop-less, turns-loop-again, turns-enum-known-v, turns-mul-t122, turns-element-set-from-inner-3, turns-loop-less-2, turns-loop-again-2, turns-finish-requires-2, turns-same-length-7, turns-same-length-8, turns-returns-4}
 
 pub +appends+comprehend+eval+finish+list-parts+map-parts+turns-spec : {M : Type 1} → statement M
 +appends+comprehend+eval+finish+list-parts+map-parts+turns-spec =
@@ -49,6 +60,8 @@ pub +appends+comprehend+eval+finish+list-parts+map-parts+turns-spec : {M : Type 
     appends.Post
     appends-Inv-loop
     appends-μ-loop
+    (appends-reach-at-requires t)
+    (appends-single-at-requires t)
     (appends-loop-holds t)
     (appends-leaf-requires t)
     (appends-asks-requires t)
@@ -65,10 +78,21 @@ pub +appends+comprehend+eval+finish+list-parts+map-parts+turns-spec : {M : Type 
     (appends-returns-2 t)
     (appends-enum-known-more-2 t)
     (appends-cell-at-requires t)
-    (appends-mul-t57 t)
+    (appends-mul-t69 t)
     (appends-element-set-from-inner t)
     (appends-add-cell t)
     (appends-sub-left t)
+    (appends-enum-known-reads t)
+    (appends-mul-reach t)
+    (appends-element-copy-out-reach t)
+    (appends-mul-reach-2 t)
+    (appends-element-copy-out-reach-2 t)
+    (appends-mul-reach-3 t)
+    (appends-element-copy-out-reach-3 t)
+    (appends-mul-reach-4 t)
+    (appends-element-copy-out-reach-4 t)
+    (appends-reach-requires t)
+    (appends-enum-told t)
     (appends-eval-requires t)
     (appends-asks-requires-2 t)
     (appends-enum-known-passes t)
@@ -79,6 +103,17 @@ pub +appends+comprehend+eval+finish+list-parts+map-parts+turns-spec : {M : Type 
     (appends-loop-less t)
     (appends-loop-again t)
     (appends-enum-known-passes-3 t)
+    (appends-enum-known-reads-2 t)
+    (appends-mul-single t)
+    (appends-element-copy-out-single t)
+    (appends-mul-single-2 t)
+    (appends-element-copy-out-single-2 t)
+    (appends-mul-single-3 t)
+    (appends-element-copy-out-single-3 t)
+    (appends-mul-single-4 t)
+    (appends-element-copy-out-single-4 t)
+    (appends-single-requires t)
+    (appends-enum-told-2 t)
     (appends-eval-requires-2 t)
     (appends-gather-items-requires t)
     (appends-enum-known-outcome-2 t)
@@ -167,20 +202,34 @@ pub +appends+comprehend+eval+finish+list-parts+map-parts+turns-spec : {M : Type 
     (eval-comprehend-requires t)
     (eval-enum-known-fixed t)
     (eval-begun-first-requires t)
-    (eval-is-leaf-requires t)
-    (eval-slot-at-requires-2 t)
-    (eval-mul-leaf t)
-    (eval-element-copy-out-leaf t)
-    (eval-leaf-requires t)
+    (eval-reach-at-requires t)
+    (eval-enum-known-a t)
+    (eval-mul-reach t)
+    (eval-element-copy-out-reach t)
+    (eval-mul-reach-2 t)
+    (eval-element-copy-out-reach-2 t)
+    (eval-mul-reach-3 t)
+    (eval-element-copy-out-reach-3 t)
+    (eval-mul-reach-4 t)
+    (eval-element-copy-out-reach-4 t)
+    (eval-reach-requires t)
+    (eval-enum-told-8 t)
     (eval-eval-requires t)
     (eval-after-first-requires t)
     (eval-enum-known-outcome t)
     (eval-enum-known-two t)
-    (eval-is-leaf-requires-2 t)
-    (eval-slot-at-requires-3 t)
-    (eval-mul-leaf-2 t)
-    (eval-element-copy-out-leaf-2 t)
-    (eval-leaf-requires-2 t)
+    (eval-reach-at-requires-2 t)
+    (eval-enum-known-a-2 t)
+    (eval-mul-reach-5 t)
+    (eval-element-copy-out-reach-5 t)
+    (eval-mul-reach-6 t)
+    (eval-element-copy-out-reach-6 t)
+    (eval-mul-reach-7 t)
+    (eval-element-copy-out-reach-7 t)
+    (eval-mul-reach-8 t)
+    (eval-element-copy-out-reach-8 t)
+    (eval-reach-requires-2 t)
+    (eval-enum-told-9 t)
     (eval-eval-requires-2 t)
     (eval-after-both-requires t)
     (eval-returns-2 t)
@@ -300,14 +349,22 @@ pub +appends+comprehend+eval+finish+list-parts+map-parts+turns-spec : {M : Type 
     turns-Inv-loop
     turns-μ-loop
     (turns-folds-at-requires t)
-    (turns-mul-t40 t)
+    (turns-reach-at-requires t)
+    (turns-reach-at-requires-2 t)
+    (turns-mul-t51 t)
     (turns-element-set-from-inner t)
     (turns-loop-holds t)
-    (turns-is-leaf-requires t)
-    (turns-slot-at-requires t)
-    (turns-mul-leaf t)
-    (turns-element-copy-out-leaf t)
-    (turns-leaf-requires t)
+    (turns-enum-known-reads t)
+    (turns-mul-reach t)
+    (turns-element-copy-out-reach t)
+    (turns-mul-reach-2 t)
+    (turns-element-copy-out-reach-2 t)
+    (turns-mul-reach-3 t)
+    (turns-element-copy-out-reach-3 t)
+    (turns-mul-reach-4 t)
+    (turns-element-copy-out-reach-4 t)
+    (turns-reach-requires t)
+    (turns-enum-told t)
     (turns-eval-requires t)
     (turns-asks-requires t)
     (turns-enum-known-outcome t)
@@ -321,8 +378,19 @@ pub +appends+comprehend+eval+finish+list-parts+map-parts+turns-spec : {M : Type 
     (turns-returns-2 t)
     (turns-enum-known-more-2 t)
     (turns-cell-at-requires t)
-    (turns-mul-t65 t)
+    (turns-mul-t91 t)
     (turns-element-set-from-inner-2 t)
+    (turns-enum-known-reads-2 t)
+    (turns-mul-reach-5 t)
+    (turns-element-copy-out-reach-5 t)
+    (turns-mul-reach-6 t)
+    (turns-element-copy-out-reach-6 t)
+    (turns-mul-reach-7 t)
+    (turns-element-copy-out-reach-7 t)
+    (turns-mul-reach-8 t)
+    (turns-element-copy-out-reach-8 t)
+    (turns-reach-requires-2 t)
+    (turns-enum-told-2 t)
     (turns-eval-requires-2 t)
     (turns-add-cell t)
     (turns-sub-left t)
@@ -335,7 +403,7 @@ pub +appends+comprehend+eval+finish+list-parts+map-parts+turns-spec : {M : Type 
     (turns-loop-less t)
     (turns-loop-again t)
     (turns-enum-known-v t)
-    (turns-mul-t75 t)
+    (turns-mul-t122 t)
     (turns-element-set-from-inner-3 t)
     (turns-loop-less-2 t)
     (turns-loop-again-2 t)

@@ -1,32 +1,31 @@
 -- The member `appends` of the cycle: each part that the borrow checker leaves. Assumes nothing.
 use borrow.Author.Needs.{needs}
-use mathlib.Core.Logic.{⊎-elim}
 use mathlib.Core.Path.{refl, sym, _∙_}
 use native.Mathlib.Omega.{arith}
 use Rattle.rooms.specs.Rooms.{rooms}
-use Rattle.recursion.proofs.Appends.{AppendsLoop, no-append, append-ends, append-fails, guard-ends, list-ends, came-unguarded, came-guarded, literal-does, fails-again, gathers-again, run-added, appends-begin, appends-again}
-use Rattle.rooms.specs.Scope.{stored, absent}
+use Rattle.recursion.proofs.Appends.{no-append, append-ends, append-fails, guard-ends, list-ends, literal-does, fails-again, gathers-again, run-added, appends-begin, appends-again}
+use Rattle.rooms.specs.Scope.{absent}
 use Rattle.paths.specs.Paths.{loopAt, appendAt}
 use Rattle.runs.specs.Collects.{gatheredIn}
 use Prim.Native.Nat.{ℕ}
+use Rattle.rooms.proofs.Scopes.{mapped-length}
+use lib.ListN.{length-set}
 use Rattle.recursion.proofs.eval.appends.Reads as appends
 use Rattle.recursion.proofs.eval.+appends+comprehend+eval+finish+list_parts+map_parts+turns.Lts-appends as appends-lts
 use Rattle.recursion.proofs.eval.+appends+comprehend+eval+finish+list_parts+map_parts+turns.Proof.Kit.{appends-at, appends-claims}
-
-abbrev pub appends-Inv-loop : appends-lts.InvT-loop
-appends-Inv-loop table literal binding-cells binding-text cells₀ text₀ limit at guarded guard list space first count each item condition firsts₀ counts₀ inner₀ collected₀ spent₀ cell₀ left₀ cells text firsts counts inner collected spent cell left = AppendsLoop table literal binding-cells binding-text cells₀ text₀ limit at guarded guard list space first count each item condition inner₀ spent₀ cells text firsts counts inner collected spent cell left
-
-abbrev pub appends-μ-loop : appends-lts.MeasureT-loop
-appends-μ-loop table literal binding-cells binding-text cells₀ text₀ limit at guarded guard list space first count each item condition firsts₀ counts₀ inner₀ collected₀ spent₀ cell₀ left₀ cells text firsts counts inner collected spent cell left = left
+use Rattle.recursion.proofs.eval.+appends+comprehend+eval+finish+list_parts+map_parts+turns.Proof.AppendsCame.{appends-Inv-loop, appends-μ-loop, guard-came, items-came}
 
 pub appends-loop-holds : (t : ℕ) → appends-lts.Need-loop-holds (appends-claims t) (appends-at t) appends.Post appends-Inv-loop appends-μ-loop
 appends-loop-holds t c =
-    let args = c .before .before .before .before .before .before .args in
-    let fits = c .before .before .before .before .before .before .fits in
-    appends-begin (args .table .now) (args .literal .now) (args .binding-cells .now) (args .binding-text .now) (args .cells .now) (args .text .now) (args .limit) (args .at) (args .guarded) (args .guard) (args .list) (args .space) (args .first) (args .count) (args .each) ((args .places) .item) ((args .places) .condition) (args .scope) (args .used) (fits .first .fits) (fits .count .fits)
+    let args = c .before .before .before .before .before .before .before .before .args in
+    let fits = c .before .before .before .before .before .before .before .before .fits in
+    let good = c .before .before .before .before .before .before .before .before .good in
+    appends-begin (args .table .now) (args .literal .now) (args .binding-cells .now) (args .binding-text .now) (args .cells .now) (args .text .now) (args .limit) (args .at) (args .guarded) (args .guard) (args .list) (args .space) (args .first) (args .count) (args .each) ((args .places) .item) ((args .places) .condition) (args .scope) (args .used) (mapped-length (args .scope .slots) _ 128 (good .1 .1 .1 .1 .1 .1 .1 .1 .0 .1 .1 .0 .1 .0 .1)) (fits .first .fits) (fits .count .fits)
 
 pub appends-leaf-requires : (t : ℕ) → appends-lts.Need-leaf-requires (appends-claims t) (appends-at t) appends.Post appends-Inv-loop appends-μ-loop
-appends-leaf-requires t c κs = (c .before .before .before .before .before .before .before .before .pre .1 .0, omega (arith, c .before .before .before .before .before .before .before .before .pre .1 .1))
+appends-leaf-requires t c κs =
+    let pre = c .before .before .before .before .before .before .before .before .before .before .pre in
+    (pre .1 .0, omega (arith, pre .1 .1))
 
 pub appends-asks-requires : (t : ℕ) → appends-lts.Need-asks-requires (appends-claims t) (appends-at t) appends.Post appends-Inv-loop appends-μ-loop
 appends-asks-requires t c κs = search needs
@@ -42,51 +41,55 @@ appends-same-length-2 t c = c .before .before .before .before .before .before .l
 
 pub appends-returns : (t : ℕ) → appends-lts.Need-returns (appends-claims t) (appends-at t) appends.Post appends-Inv-loop appends-μ-loop
 appends-returns t c =
-    let args = c .before .before .before .before .before .before .before .before .before .before .before .before .before .args in
-    let pre = c .before .before .before .before .before .before .before .before .before .before .before .before .before .pre in
     let loop = c .before .before .before .before .before .before .loop in
-    let loop-test = c .before .before .before .before .before .loop-test in
-    let leaf = c .before .before .before .before .leaf in
-    let asks = c .before .before .before .asks in
+    let args = c .before .before .before .before .before .before .before .before .before .before .before .before .before .before .before .args in
+    let pre = c .before .before .before .before .before .before .before .before .before .before .before .before .before .before .before .pre in
     let table = args .table .now in
     let literal = args .literal .now in
     let bindings = args .binding-cells .now in
-    let texts = args .binding-text .now in
-    append-ends (loopAt table literal (args .limit) (args .at) (args .places)) (appendAt table literal (args .limit) (args .guarded) (args .guard) (args .list)) (args .space) (args .each) (loop .left) (loop .cell) (loop-test .taken) (gatheredIn (loop .firsts) (loop .counts) (loop .collected)) (loop .inner) (loop .spent) (rooms literal bindings texts (loop .cells) (loop .text)) (literal-does table literal (args .limit) ((args .places) .condition) (pre .1 .0) (pre .1 .1) (absent .value) (loop .spent) (leaf .ensures) (loop .inner) (rooms literal bindings texts (loop .cells) (loop .text))) (asks .ensures) (c .before .outcome .given .1) ∙ loop .inv .same (args .places) refl refl
+    let texts = args .binding-text .now in append-ends (loopAt table literal (args .limit) (args .at) (args .places)) (appendAt table literal (args .limit) (args .guarded) (args .guard) (args .list)) (args .space) (args .each) (loop .left) (loop .cell) (c .before .before .before .before .before .loop-test .taken) (gatheredIn (loop .firsts) (loop .counts) (loop .collected)) (loop .inner) (loop .spent) (rooms literal bindings texts (loop .cells) (loop .text)) (literal-does table literal (args .limit) ((args .places) .condition) (pre .1 .0) (pre .1 .1) (absent .value) (loop .spent) (c .before .before .before .before .leaf .ensures) (loop .inner) (rooms literal bindings texts (loop .cells) (loop .text))) (c .before .before .before .asks .ensures) (c .before .outcome .given .1) ∙ loop .inv .same (args .places) refl refl
 
 pub appends-enum-known-more : (t : ℕ) → appends-lts.Need-enum-known-more (appends-claims t) (appends-at t) appends.Post appends-Inv-loop appends-μ-loop
 appends-enum-known-more t c = search needs
 
 pub appends-slice-aggregate-collected-list : (t : ℕ) → appends-lts.Need-slice-aggregate-collected-list (appends-claims t) (appends-at t) appends.Post appends-Inv-loop appends-μ-loop
-appends-slice-aggregate-collected-list t c = sym (c .before .before .before .before .before .before .before .before .loop .inv .firsts-long)
+appends-slice-aggregate-collected-list t c =
+    let loop = c .before .before .before .before .before .before .before .before .loop in
+    sym (loop .inv .firsts-long)
 
-pub appends-slice-aggregate-collected-list-2 :
-    (t : ℕ) → appends-lts.Need-slice-aggregate-collected-list-2 (appends-claims t) (appends-at t) appends.Post appends-Inv-loop appends-μ-loop
-appends-slice-aggregate-collected-list-2 t c = sym (c .before .before .before .before .before .before .before .before .before .loop .inv .counts-long)
+pub appends-slice-aggregate-collected-list-2 : (t : ℕ) → appends-lts.Need-slice-aggregate-collected-list-2 (appends-claims t) (appends-at t) appends.Post appends-Inv-loop appends-μ-loop
+appends-slice-aggregate-collected-list-2 t c =
+    let loop = c .before .before .before .before .before .before .before .before .before .loop in
+    sym (loop .inv .counts-long)
 
 pub appends-collected-list-requires : (t : ℕ) → appends-lts.Need-collected-list-requires (appends-claims t) (appends-at t) appends.Post appends-Inv-loop appends-μ-loop
-appends-collected-list-requires t c κs = omega (arith, c .before .before .before .before .before .before .before .before .before .loop .inv .runs)
+appends-collected-list-requires t c κs =
+    let loop = c .before .before .before .before .before .before .before .before .before .loop in
+    omega (arith, loop .inv .runs)
 
 pub appends-same-length-3 : (t : ℕ) → appends-lts.Need-same-length-3 (appends-claims t) (appends-at t) appends.Post appends-Inv-loop appends-μ-loop
-appends-same-length-3 t c = c .before .before .collected-list .kept .1 .0 ∙ c .before .before .before .before .before .before .before .before .before .before .before .before .loop .inv .kept
+appends-same-length-3 t c =
+    let loop = c .before .before .before .before .before .before .before .before .before .before .before .before .loop in
+    c .before .before .collected-list .kept .1 .0 ∙ loop .inv .kept
 
 pub appends-same-length-4 : (t : ℕ) → appends-lts.Need-same-length-4 (appends-claims t) (appends-at t) appends.Post appends-Inv-loop appends-μ-loop
-appends-same-length-4 t c = c .before .before .before .before .before .before .before .before .before .before .before .before .loop .inv .keptx
+appends-same-length-4 t c =
+    let loop = c .before .before .before .before .before .before .before .before .before .before .before .before .loop in
+    loop .inv .keptx
 
 pub appends-returns-2 : (t : ℕ) → appends-lts.Need-returns-2 (appends-claims t) (appends-at t) appends.Post appends-Inv-loop appends-μ-loop
 appends-returns-2 t c =
-    let args = c .before .before .before .before .before .before .before .before .before .before .before .before .before .before .before .before .before .before .before .args in
-    let pre = c .before .before .before .before .before .before .before .before .before .before .before .before .before .before .before .before .before .before .before .pre in
     let loop = c .before .before .before .before .before .before .before .before .before .before .before .before .loop in
     let loop-test = c .before .before .before .before .before .before .before .before .before .before .before .loop-test in
     let leaf = c .before .before .before .before .before .before .before .before .before .before .leaf in
     let asks = c .before .before .before .before .before .before .before .before .before .asks in
     let more = c .before .before .before .before .before .before .before .more in
+    let args = c .before .before .before .before .before .before .before .before .before .before .before .before .before .before .before .before .before .before .before .before .before .args in
+    let pre = c .before .before .before .before .before .before .before .before .before .before .before .before .before .before .before .before .before .before .before .before .before .pre in
     let table = args .table .now in
     let literal = args .literal .now in
     let bindings = args .binding-cells .now in
-    let texts = args .binding-text .now in
-    append-fails (loopAt table literal (args .limit) (args .at) (args .places)) (appendAt table literal (args .limit) (args .guarded) (args .guard) (args .list)) (args .space) (args .each) (loop .left) (loop .cell) (loop-test .taken) (gatheredIn (loop .firsts) (loop .counts) (loop .collected)) (loop .inner) (loop .spent) (rooms literal bindings texts (loop .cells) (loop .text)) (literal-does table literal (args .limit) ((args .places) .condition) (pre .1 .0) (pre .1 .1) (absent .value) (loop .spent) (leaf .ensures) (loop .inner) (rooms literal bindings texts (loop .cells) (loop .text))) (asks .ensures) (more .given .1) (c .before .before .collected-list .ensures literal texts (loop .text)) ∙ loop .inv .same (args .places) refl refl
+    let texts = args .binding-text .now in append-fails (loopAt table literal (args .limit) (args .at) (args .places)) (appendAt table literal (args .limit) (args .guarded) (args .guard) (args .list)) (args .space) (args .each) (loop .left) (loop .cell) (loop-test .taken) (gatheredIn (loop .firsts) (loop .counts) (loop .collected)) (loop .inner) (loop .spent) (rooms literal bindings texts (loop .cells) (loop .text)) (literal-does table literal (args .limit) ((args .places) .condition) (pre .1 .0) (pre .1 .1) (absent .value) (loop .spent) (leaf .ensures) (loop .inner) (rooms literal bindings texts (loop .cells) (loop .text))) (asks .ensures) (more .given .1) (c .before .before .collected-list .ensures literal texts (loop .text)) ∙ loop .inv .same (args .places) refl refl
 
 pub appends-enum-known-more-2 : (t : ℕ) → appends-lts.Need-enum-known-more-2 (appends-claims t) (appends-at t) appends.Post appends-Inv-loop appends-μ-loop
 appends-enum-known-more-2 t c = search needs
@@ -94,26 +97,20 @@ appends-enum-known-more-2 t c = search needs
 pub appends-cell-at-requires : (t : ℕ) → appends-lts.Need-cell-at-requires (appends-claims t) (appends-at t) appends.Post appends-Inv-loop appends-μ-loop
 appends-cell-at-requires t c κs = search needs
 
-pub appends-mul-t57 : (t : ℕ) → appends-lts.Need-mul-t57 (appends-claims t) (appends-at t) appends.Post appends-Inv-loop appends-μ-loop
-appends-mul-t57 t c = search needs
-
 pub appends-element-set-from-inner : (t : ℕ) → appends-lts.Need-element-set-from-inner (appends-claims t) (appends-at t) appends.Post appends-Inv-loop appends-μ-loop
-appends-element-set-from-inner t c = c .before .before .before .before .before .before .before .before .before .before .before .before .before .before .before .pre .1 .6
+appends-element-set-from-inner t c =
+    let pre = c .before .before .before .before .before .before .before .before .before .before .before .before .before .before .before .before .before .pre in
+    pre .1 .6
 
 pub appends-add-cell : (t : ℕ) → appends-lts.Need-add-cell (appends-claims t) (appends-at t) appends.Post appends-Inv-loop appends-μ-loop
 appends-add-cell t c =
-    let fits = c .before .before .before .before .before .before .before .before .before .before .before .before .before .before .before .fits in
     let loop = c .before .before .before .before .before .before .before .before .loop in
     let loop-test = c .before .before .before .before .before .before .before .loop-test in
+    let fits = c .before .before .before .before .before .before .before .before .before .before .before .before .before .before .before .before .before .fits in
     omega (arith, loop .inv .below, loop-test .taken, fits .each)
 
 pub appends-sub-left : (t : ℕ) → appends-lts.Need-sub-left (appends-claims t) (appends-at t) appends.Post appends-Inv-loop appends-μ-loop
 appends-sub-left t c = search needs
-
-pub appends-eval-requires : (t : ℕ) → appends-lts.Need-eval-requires (appends-claims t) (appends-at t) appends.Post appends-Inv-loop appends-μ-loop
-appends-eval-requires t c κs =
-    let pre = c .before .before .before .before .before .before .before .before .before .before .before .before .before .before .before .before .before .before .pre in
-    (omega (arith, pre .0, pre .1 .4), pre .1 .2)
 
 pub appends-asks-requires-2 : (t : ℕ) → appends-lts.Need-asks-requires-2 (appends-claims t) (appends-at t) appends.Post appends-Inv-loop appends-μ-loop
 appends-asks-requires-2 t c κs = search needs
@@ -123,46 +120,28 @@ appends-enum-known-passes t c = search needs
 
 pub appends-same-length-5 : (t : ℕ) → appends-lts.Need-same-length-5 (appends-claims t) (appends-at t) appends.Post appends-Inv-loop appends-μ-loop
 appends-same-length-5 t c =
-    let args = c .before .before .before .before .before .before .before .before .before .before .before .before .before .before .before .before .before .before .before .args in
     let loop = c .before .before .before .before .before .before .before .before .before .before .before .before .loop in
-    let more2 = c .before .before .before .before .before .before .before .more2 in
-    let cell-at = c .before .before .before .before .cell-at in
-    let if1 = c .before .before .before .if1 in
-    let table = args .table .now in
-    let literal = args .literal .now in
-    let bindings = args .binding-cells .now in
-    let texts = args .binding-text .now in
-    let k = ⊎-elim (λ w. came-guarded table literal bindings texts (args .limit) (args .at) (args .guarded) (args .guard) (stored (loop .inner) ((args .places) .item) (cell-at .result)) (more2 .given .0 .0) (loop .cells) (loop .text) (w .0 .taken) (w .3 .ensures) (w .3 .kept .1 .1 .1 .1 .0) (w .3 .kept .1 .1 .1 .1 .1 .0) (w .8 .ensures) (w .9) (w .10) (w .11)) (λ w. came-unguarded table literal bindings texts (args .limit) (args .at) (args .guarded) (args .guard) (stored (loop .inner) ((args .places) .item) (cell-at .result)) (more2 .given .0 .0) (loop .cells) (loop .text) (w .0 .left) (w .1) (w .2) (w .3)) (if1 .came) in k .kept ∙ loop .inv .kept
+    (guard-came t (c .before .before .before)) .kept ∙ loop .inv .kept
 
 pub appends-same-length-6 : (t : ℕ) → appends-lts.Need-same-length-6 (appends-claims t) (appends-at t) appends.Post appends-Inv-loop appends-μ-loop
 appends-same-length-6 t c =
-    let args = c .before .before .before .before .before .before .before .before .before .before .before .before .before .before .before .before .before .before .before .args in
     let loop = c .before .before .before .before .before .before .before .before .before .before .before .before .loop in
-    let more2 = c .before .before .before .before .before .before .before .more2 in
-    let cell-at = c .before .before .before .before .cell-at in
-    let if1 = c .before .before .before .if1 in
-    let table = args .table .now in
-    let literal = args .literal .now in
-    let bindings = args .binding-cells .now in
-    let texts = args .binding-text .now in
-    let k = ⊎-elim (λ w. came-guarded table literal bindings texts (args .limit) (args .at) (args .guarded) (args .guard) (stored (loop .inner) ((args .places) .item) (cell-at .result)) (more2 .given .0 .0) (loop .cells) (loop .text) (w .0 .taken) (w .3 .ensures) (w .3 .kept .1 .1 .1 .1 .0) (w .3 .kept .1 .1 .1 .1 .1 .0) (w .8 .ensures) (w .9) (w .10) (w .11)) (λ w. came-unguarded table literal bindings texts (args .limit) (args .at) (args .guarded) (args .guard) (stored (loop .inner) ((args .places) .item) (cell-at .result)) (more2 .given .0 .0) (loop .cells) (loop .text) (w .0 .left) (w .1) (w .2) (w .3)) (if1 .came) in k .keptx ∙ loop .inv .keptx
+    (guard-came t (c .before .before .before)) .keptx ∙ loop .inv .keptx
 
 pub appends-returns-3 : (t : ℕ) → appends-lts.Need-returns-3 (appends-claims t) (appends-at t) appends.Post appends-Inv-loop appends-μ-loop
 appends-returns-3 t c =
-    let args = c .before .before .before .before .before .before .before .before .before .before .before .before .before .before .before .before .before .before .before .args in
-    let pre = c .before .before .before .before .before .before .before .before .before .before .before .before .before .before .before .before .before .before .before .pre in
     let loop = c .before .before .before .before .before .before .before .before .before .before .before .before .loop in
     let loop-test = c .before .before .before .before .before .before .before .before .before .before .before .loop-test in
     let leaf = c .before .before .before .before .before .before .before .before .before .before .leaf in
     let asks = c .before .before .before .before .before .before .before .before .before .asks in
     let more2 = c .before .before .before .before .before .before .before .more2 in
-    let cell-at = c .before .before .before .before .cell-at in
-    let if1 = c .before .before .before .if1 in
+    let args = c .before .before .before .before .before .before .before .before .before .before .before .before .before .before .before .before .before .before .before .before .before .args in
+    let pre = c .before .before .before .before .before .before .before .before .before .before .before .before .before .before .before .before .before .before .before .before .before .pre in
     let table = args .table .now in
     let literal = args .literal .now in
     let bindings = args .binding-cells .now in
     let texts = args .binding-text .now in
-    let k = ⊎-elim (λ w. came-guarded table literal bindings texts (args .limit) (args .at) (args .guarded) (args .guard) (stored (loop .inner) ((args .places) .item) (cell-at .result)) (more2 .given .0 .0) (loop .cells) (loop .text) (w .0 .taken) (w .3 .ensures) (w .3 .kept .1 .1 .1 .1 .0) (w .3 .kept .1 .1 .1 .1 .1 .0) (w .8 .ensures) (w .9) (w .10) (w .11)) (λ w. came-unguarded table literal bindings texts (args .limit) (args .at) (args .guarded) (args .guard) (stored (loop .inner) ((args .places) .item) (cell-at .result)) (more2 .given .0 .0) (loop .cells) (loop .text) (w .0 .left) (w .1) (w .2) (w .3)) (if1 .came) in guard-ends (loopAt table literal (args .limit) (args .at) (args .places)) (appendAt table literal (args .limit) (args .guarded) (args .guard) (args .list)) (args .space) (args .each) (loop .left) (loop .cell) (loop-test .taken) (gatheredIn (loop .firsts) (loop .counts) (loop .collected)) (loop .inner) (loop .spent) (rooms literal bindings texts (loop .cells) (loop .text)) (literal-does table literal (args .limit) ((args .places) .condition) (pre .1 .0) (pre .1 .1) (absent .value) (loop .spent) (leaf .ensures) (loop .inner) (rooms literal bindings texts (loop .cells) (loop .text))) (asks .ensures) (more2 .given .1) (cell-at .ensures) (k .passed) (c .before .passes .given .1) ∙ loop .inv .same (args .places) refl refl
+    guard-ends (loopAt table literal (args .limit) (args .at) (args .places)) (appendAt table literal (args .limit) (args .guarded) (args .guard) (args .list)) (args .space) (args .each) (loop .left) (loop .cell) (loop-test .taken) (gatheredIn (loop .firsts) (loop .counts) (loop .collected)) (loop .inner) (loop .spent) (rooms literal bindings texts (loop .cells) (loop .text)) (literal-does table literal (args .limit) ((args .places) .condition) (pre .1 .0) (pre .1 .1) (absent .value) (loop .spent) (leaf .ensures) (loop .inner) (rooms literal bindings texts (loop .cells) (loop .text))) (asks .ensures) (more2 .given .1) (c .before .before .before .before .cell-at .ensures) ((guard-came t (c .before .before .before)) .passed) (c .before .passes .given .1) ∙ loop .inv .same (args .places) refl refl
 
 pub appends-enum-known-passes-2 : (t : ℕ) → appends-lts.Need-enum-known-passes-2 (appends-claims t) (appends-at t) appends.Post appends-Inv-loop appends-μ-loop
 appends-enum-known-passes-2 t c = search needs
@@ -172,29 +151,23 @@ appends-loop-less t c = search needs
 
 pub appends-loop-again : (t : ℕ) → appends-lts.Need-loop-again (appends-claims t) (appends-at t) appends.Post appends-Inv-loop appends-μ-loop
 appends-loop-again t c =
-    let args = c .before .before .before .before .before .before .before .before .before .before .before .before .before .before .before .before .before .before .before .args in
-    let fits = c .before .before .before .before .before .before .before .before .before .before .before .before .before .before .before .before .before .before .before .fits in
-    let pre = c .before .before .before .before .before .before .before .before .before .before .before .before .before .before .before .before .before .before .before .pre in
     let loop = c .before .before .before .before .before .before .before .before .before .before .before .before .loop in
     let loop-test = c .before .before .before .before .before .before .before .before .before .before .before .loop-test in
     let leaf = c .before .before .before .before .before .before .before .before .before .before .leaf in
     let asks = c .before .before .before .before .before .before .before .before .before .asks in
     let more2 = c .before .before .before .before .before .before .before .more2 in
     let cell-at = c .before .before .before .before .cell-at in
-    let if1 = c .before .before .before .if1 in
+    let args = c .before .before .before .before .before .before .before .before .before .before .before .before .before .before .before .before .before .before .before .before .before .args in
+    let pre = c .before .before .before .before .before .before .before .before .before .before .before .before .before .before .before .before .before .before .before .before .before .pre in
+    let fits = c .before .before .before .before .before .before .before .before .before .before .before .before .before .before .before .before .before .before .before .before .before .fits in
     let table = args .table .now in
     let literal = args .literal .now in
     let bindings = args .binding-cells .now in
     let texts = args .binding-text .now in
-    let k = ⊎-elim (λ w. came-guarded table literal bindings texts (args .limit) (args .at) (args .guarded) (args .guard) (stored (loop .inner) ((args .places) .item) (cell-at .result)) (more2 .given .0 .0) (loop .cells) (loop .text) (w .0 .taken) (w .3 .ensures) (w .3 .kept .1 .1 .1 .1 .0) (w .3 .kept .1 .1 .1 .1 .1 .0) (w .8 .ensures) (w .9) (w .10) (w .11)) (λ w. came-unguarded table literal bindings texts (args .limit) (args .at) (args .guarded) (args .guard) (stored (loop .inner) ((args .places) .item) (cell-at .result)) (more2 .given .0 .0) (loop .cells) (loop .text) (w .0 .left) (w .1) (w .2) (w .3)) (if1 .came) in appends-again table literal bindings texts (args .cells .now) (args .text .now) (args .limit) (args .at) (args .guarded) (args .guard) (args .list) (args .space) (args .first) (args .count) (args .each) ((args .places) .item) ((args .places) .condition) (args .scope) (args .used) (loop .inv) (loop-test .taken) (fits .each .fits) (k .kept) (k .keptx) refl refl (omega arith, omega arith) (fails-again table literal (args .limit) (args .at) (args .guarded) (args .guard) (args .list) (args .space) (args .each) ((args .places) .item) ((args .places) .condition) (loop .left) (loop .cell) (loop-test .taken) (gatheredIn (loop .firsts) (loop .counts) (loop .collected)) (loop .inner) (loop .spent) (rooms literal bindings texts (loop .cells) (loop .text)) (literal-does table literal (args .limit) ((args .places) .condition) (pre .1 .0) (pre .1 .1) (absent .value) (loop .spent) (leaf .ensures) (loop .inner) (rooms literal bindings texts (loop .cells) (loop .text))) (asks .ensures) (more2 .given .1) (cell-at .ensures) (k .passed) (c .before .passes2 .given .1))
+    appends-again table literal bindings texts (args .cells .now) (args .text .now) (args .limit) (args .at) (args .guarded) (args .guard) (args .list) (args .space) (args .first) (args .count) (args .each) ((args .places) .item) ((args .places) .condition) (args .scope) (args .used) (loop .inv) (loop-test .taken) (fits .each .fits) ((guard-came t (c .before .before .before)) .kept) ((guard-came t (c .before .before .before)) .keptx) (length-set (loop .inner .slots) (args .places .item) (record { value = cell-at .result })) refl refl (omega arith, omega arith) (fails-again table literal (args .limit) (args .at) (args .guarded) (args .guard) (args .list) (args .space) (args .each) ((args .places) .item) ((args .places) .condition) (loop .left) (loop .cell) (loop-test .taken) (gatheredIn (loop .firsts) (loop .counts) (loop .collected)) (loop .inner) (loop .spent) (rooms literal bindings texts (loop .cells) (loop .text)) (literal-does table literal (args .limit) ((args .places) .condition) (pre .1 .0) (pre .1 .1) (absent .value) (loop .spent) (leaf .ensures) (loop .inner) (rooms literal bindings texts (loop .cells) (loop .text))) (asks .ensures) (more2 .given .1) (cell-at .ensures) ((guard-came t (c .before .before .before)) .passed) (c .before .passes2 .given .1))
 
 pub appends-enum-known-passes-3 : (t : ℕ) → appends-lts.Need-enum-known-passes-3 (appends-claims t) (appends-at t) appends.Post appends-Inv-loop appends-μ-loop
 appends-enum-known-passes-3 t c = search needs
-
-pub appends-eval-requires-2 : (t : ℕ) → appends-lts.Need-eval-requires-2 (appends-claims t) (appends-at t) appends.Post appends-Inv-loop appends-μ-loop
-appends-eval-requires-2 t c κs =
-    let pre = c .before .before .before .before .before .before .before .before .before .before .before .before .before .before .before .before .before .before .before .before .before .pre in
-    (omega (arith, pre .0, pre .1 .5), pre .1 .3)
 
 pub appends-gather-items-requires : (t : ℕ) → appends-lts.Need-gather-items-requires (appends-claims t) (appends-at t) appends.Post appends-Inv-loop appends-μ-loop
 appends-gather-items-requires t c κs = search needs
@@ -204,119 +177,98 @@ appends-enum-known-outcome-2 t c = search needs
 
 pub appends-same-length-7 : (t : ℕ) → appends-lts.Need-same-length-7 (appends-claims t) (appends-at t) appends.Post appends-Inv-loop appends-μ-loop
 appends-same-length-7 t c =
-    let args = c .before .before .before .before .before .before .before .before .before .before .before .before .before .before .before .before .before .before .before .before .before .before .before .before .before .before .before .before .before .before .before .before .before .args in
-    let loop = c .before .before .before .before .before .before .before .before .before .before .before .before .before .before .before .before .before .before .before .before .before .before .before .before .before .before .loop in
-    let more2 = c .before .before .before .before .before .before .before .before .before .before .before .before .before .before .before .before .before .before .before .before .before .more2 in
-    let cell-at = c .before .before .before .before .before .before .before .before .before .before .before .before .before .before .before .before .before .before .cell-at in
-    let if1 = c .before .before .before .before .before .before .before .before .before .before .before .before .before .before .before .before .before .if1 in
-    let eval2 = c .before .before .before .before .before .before .before .before .before .before .before .eval2 in
-    let gather-items = c .before .before .before .before .before .gather-items in
-    let table = args .table .now in
-    let literal = args .literal .now in
-    let bindings = args .binding-cells .now in
-    let texts = args .binding-text .now in
-    let k = ⊎-elim (λ w. came-guarded table literal bindings texts (args .limit) (args .at) (args .guarded) (args .guard) (stored (loop .inner) ((args .places) .item) (cell-at .result)) (more2 .given .0 .0) (loop .cells) (loop .text) (w .0 .taken) (w .3 .ensures) (w .3 .kept .1 .1 .1 .1 .0) (w .3 .kept .1 .1 .1 .1 .1 .0) (w .8 .ensures) (w .9) (w .10) (w .11)) (λ w. came-unguarded table literal bindings texts (args .limit) (args .at) (args .guarded) (args .guard) (stored (loop .inner) ((args .places) .item) (cell-at .result)) (more2 .given .0 .0) (loop .cells) (loop .text) (w .0 .left) (w .1) (w .2) (w .3)) (if1 .came) in gather-items .kept .1 .0 ∙ (eval2 .kept .1 .1 .1 .1 .0 ∙ (k .kept ∙ loop .inv .kept))
+    let loop = c .before .before .before .before .before .before .before .before .before .before .before .before .before .before .before .before .before .before .before .before .loop in
+    c .before .before .before .before .before .gather-items .kept .1 .0 ∙ ((items-came t (c .before .before .before .before .before .before .before)) .kept ∙ ((guard-came t (c .before .before .before .before .before .before .before .before .before .before .before)) .kept ∙ loop .inv .kept))
 
 pub appends-same-length-8 : (t : ℕ) → appends-lts.Need-same-length-8 (appends-claims t) (appends-at t) appends.Post appends-Inv-loop appends-μ-loop
 appends-same-length-8 t c =
-    let args = c .before .before .before .before .before .before .before .before .before .before .before .before .before .before .before .before .before .before .before .before .before .before .before .before .before .before .before .before .before .before .before .before .before .args in
-    let loop = c .before .before .before .before .before .before .before .before .before .before .before .before .before .before .before .before .before .before .before .before .before .before .before .before .before .before .loop in
-    let more2 = c .before .before .before .before .before .before .before .before .before .before .before .before .before .before .before .before .before .before .before .before .before .more2 in
-    let cell-at = c .before .before .before .before .before .before .before .before .before .before .before .before .before .before .before .before .before .before .cell-at in
-    let if1 = c .before .before .before .before .before .before .before .before .before .before .before .before .before .before .before .before .before .if1 in
-    let eval2 = c .before .before .before .before .before .before .before .before .before .before .before .eval2 in
-    let table = args .table .now in
-    let literal = args .literal .now in
-    let bindings = args .binding-cells .now in
-    let texts = args .binding-text .now in
-    let k = ⊎-elim (λ w. came-guarded table literal bindings texts (args .limit) (args .at) (args .guarded) (args .guard) (stored (loop .inner) ((args .places) .item) (cell-at .result)) (more2 .given .0 .0) (loop .cells) (loop .text) (w .0 .taken) (w .3 .ensures) (w .3 .kept .1 .1 .1 .1 .0) (w .3 .kept .1 .1 .1 .1 .1 .0) (w .8 .ensures) (w .9) (w .10) (w .11)) (λ w. came-unguarded table literal bindings texts (args .limit) (args .at) (args .guarded) (args .guard) (stored (loop .inner) ((args .places) .item) (cell-at .result)) (more2 .given .0 .0) (loop .cells) (loop .text) (w .0 .left) (w .1) (w .2) (w .3)) (if1 .came) in eval2 .kept .1 .1 .1 .1 .1 .0 ∙ (k .keptx ∙ loop .inv .keptx)
+    let loop = c .before .before .before .before .before .before .before .before .before .before .before .before .before .before .before .before .before .before .before .before .loop in
+    (items-came t (c .before .before .before .before .before .before .before)) .keptx ∙ ((guard-came t (c .before .before .before .before .before .before .before .before .before .before .before)) .keptx ∙ loop .inv .keptx)
 
 pub appends-returns-4 : (t : ℕ) → appends-lts.Need-returns-4 (appends-claims t) (appends-at t) appends.Post appends-Inv-loop appends-μ-loop
 appends-returns-4 t c =
-    let args = c .before .before .before .before .before .before .before .before .before .before .before .before .before .before .before .before .before .before .before .before .before .before .before .before .before .before .before .before .before .before .before .before .before .args in
-    let pre = c .before .before .before .before .before .before .before .before .before .before .before .before .before .before .before .before .before .before .before .before .before .before .before .before .before .before .before .before .before .before .before .before .before .pre in
-    let loop = c .before .before .before .before .before .before .before .before .before .before .before .before .before .before .before .before .before .before .before .before .before .before .before .before .before .before .loop in
-    let loop-test = c .before .before .before .before .before .before .before .before .before .before .before .before .before .before .before .before .before .before .before .before .before .before .before .before .before .loop-test in
-    let leaf = c .before .before .before .before .before .before .before .before .before .before .before .before .before .before .before .before .before .before .before .before .before .before .before .before .leaf in
-    let asks = c .before .before .before .before .before .before .before .before .before .before .before .before .before .before .before .before .before .before .before .before .before .before .before .asks in
-    let more2 = c .before .before .before .before .before .before .before .before .before .before .before .before .before .before .before .before .before .before .before .before .before .more2 in
-    let cell-at = c .before .before .before .before .before .before .before .before .before .before .before .before .before .before .before .before .before .before .cell-at in
-    let if1 = c .before .before .before .before .before .before .before .before .before .before .before .before .before .before .before .before .before .if1 in
-    let passes3 = c .before .before .before .before .before .before .before .before .before .before .before .before .before .before .before .passes3 in
-    let eval2 = c .before .before .before .before .before .before .before .before .before .before .before .eval2 in
-    let gather-items = c .before .before .before .before .before .gather-items in
+    let loop = c .before .before .before .before .before .before .before .before .before .before .before .before .before .before .before .before .before .before .before .before .loop in
+    let loop-test = c .before .before .before .before .before .before .before .before .before .before .before .before .before .before .before .before .before .before .before .loop-test in
+    let leaf = c .before .before .before .before .before .before .before .before .before .before .before .before .before .before .before .before .before .before .leaf in
+    let asks = c .before .before .before .before .before .before .before .before .before .before .before .before .before .before .before .before .before .asks in
+    let more2 = c .before .before .before .before .before .before .before .before .before .before .before .before .before .before .before .more2 in
+    let cell-at = c .before .before .before .before .before .before .before .before .before .before .before .before .cell-at in
+    let passes3 = c .before .before .before .before .before .before .before .before .before .passes3 in
+    let args = c .before .before .before .before .before .before .before .before .before .before .before .before .before .before .before .before .before .before .before .before .before .before .before .before .before .before .before .before .before .args in
+    let pre = c .before .before .before .before .before .before .before .before .before .before .before .before .before .before .before .before .before .before .before .before .before .before .before .before .before .before .before .before .before .pre in
     let table = args .table .now in
     let literal = args .literal .now in
     let bindings = args .binding-cells .now in
     let texts = args .binding-text .now in
-    let k = ⊎-elim (λ w. came-guarded table literal bindings texts (args .limit) (args .at) (args .guarded) (args .guard) (stored (loop .inner) ((args .places) .item) (cell-at .result)) (more2 .given .0 .0) (loop .cells) (loop .text) (w .0 .taken) (w .3 .ensures) (w .3 .kept .1 .1 .1 .1 .0) (w .3 .kept .1 .1 .1 .1 .1 .0) (w .8 .ensures) (w .9) (w .10) (w .11)) (λ w. came-unguarded table literal bindings texts (args .limit) (args .at) (args .guarded) (args .guard) (stored (loop .inner) ((args .places) .item) (cell-at .result)) (more2 .given .0 .0) (loop .cells) (loop .text) (w .0 .left) (w .1) (w .2) (w .3)) (if1 .came) in list-ends (loopAt table literal (args .limit) (args .at) (args .places)) (appendAt table literal (args .limit) (args .guarded) (args .guard) (args .list)) (args .space) (args .each) (loop .left) (loop .cell) (loop-test .taken) (gatheredIn (loop .firsts) (loop .counts) (loop .collected)) (loop .inner) (loop .spent) (rooms literal bindings texts (loop .cells) (loop .text)) (literal-does table literal (args .limit) ((args .places) .condition) (pre .1 .0) (pre .1 .1) (absent .value) (loop .spent) (leaf .ensures) (loop .inner) (rooms literal bindings texts (loop .cells) (loop .text))) (asks .ensures) (more2 .given .1) (cell-at .ensures) (k .passed) (passes3 .given .1) (eval2 .ensures) (gather-items .ensures) (c .before .outcome2 .given .1) ∙ loop .inv .same (args .places) refl refl
+    list-ends (loopAt table literal (args .limit) (args .at) (args .places)) (appendAt table literal (args .limit) (args .guarded) (args .guard) (args .list)) (args .space) (args .each) (loop .left) (loop .cell) (loop-test .taken) (gatheredIn (loop .firsts) (loop .counts) (loop .collected)) (loop .inner) (loop .spent) (rooms literal bindings texts (loop .cells) (loop .text)) (literal-does table literal (args .limit) ((args .places) .condition) (pre .1 .0) (pre .1 .1) (absent .value) (loop .spent) (leaf .ensures) (loop .inner) (rooms literal bindings texts (loop .cells) (loop .text))) (asks .ensures) (more2 .given .1) (cell-at .ensures) ((guard-came t (c .before .before .before .before .before .before .before .before .before .before .before)) .passed) (passes3 .given .1) ((items-came t (c .before .before .before .before .before .before .before)) .is) (c .before .before .before .before .before .gather-items .ensures) (c .before .outcome2 .given .1) ∙ loop .inv .same (args .places) refl refl
 
 pub appends-enum-known-from : (t : ℕ) → appends-lts.Need-enum-known-from (appends-claims t) (appends-at t) appends.Post appends-Inv-loop appends-μ-loop
 appends-enum-known-from t c = search needs
 
 pub appends-slice-aggregate-add-run : (t : ℕ) → appends-lts.Need-slice-aggregate-add-run (appends-claims t) (appends-at t) appends.Post appends-Inv-loop appends-μ-loop
-appends-slice-aggregate-add-run t c = sym (c .before .before .before .before .before .before .before .before .before .before .before .before .before .before .before .before .before .before .before .before .before .before .before .before .before .before .before .loop .inv .firsts-long)
+appends-slice-aggregate-add-run t c =
+    let loop = c .before .before .before .before .before .before .before .before .before .before .before .before .before .before .before .before .before .before .before .before .before .loop in
+    sym (loop .inv .firsts-long)
 
 pub appends-slice-aggregate-add-run-2 : (t : ℕ) → appends-lts.Need-slice-aggregate-add-run-2 (appends-claims t) (appends-at t) appends.Post appends-Inv-loop appends-μ-loop
-appends-slice-aggregate-add-run-2 t c = sym (c .before .before .before .before .before .before .before .before .before .before .before .before .before .before .before .before .before .before .before .before .before .before .before .before .before .before .before .before .loop .inv .counts-long)
+appends-slice-aggregate-add-run-2 t c =
+    let loop = c .before .before .before .before .before .before .before .before .before .before .before .before .before .before .before .before .before .before .before .before .before .before .loop in
+    sym (loop .inv .counts-long)
 
 pub appends-add-run-requires : (t : ℕ) → appends-lts.Need-add-run-requires (appends-claims t) (appends-at t) appends.Post appends-Inv-loop appends-μ-loop
 appends-add-run-requires t c κs =
-    let loop = c .before .before .before .before .before .before .before .before .before .before .before .before .before .before .before .before .before .before .before .before .before .before .before .before .before .before .before .before .loop in
+    let loop = c .before .before .before .before .before .before .before .before .before .before .before .before .before .before .before .before .before .before .before .before .before .before .loop in
     (omega (arith, loop .inv .runs), omega (arith, loop .inv .elements))
 
 pub appends-loop-less-2 : (t : ℕ) → appends-lts.Need-loop-less-2 (appends-claims t) (appends-at t) appends.Post appends-Inv-loop appends-μ-loop
 appends-loop-less-2 t c =
-    let loop-test = c .before .before .before .before .before .before .before .before .before .before .before .before .before .before .before .before .before .before .before .before .before .before .before .before .before .before .before .before .before .before .loop-test in
+    let loop-test = c .before .before .before .before .before .before .before .before .before .before .before .before .before .before .before .before .before .before .before .before .before .before .before .before .loop-test in
     omega (arith, loop-test .taken)
 
 pub appends-loop-again-2 : (t : ℕ) → appends-lts.Need-loop-again-2 (appends-claims t) (appends-at t) appends.Post appends-Inv-loop appends-μ-loop
 appends-loop-again-2 t c =
-    let args = c .before .before .before .before .before .before .before .before .before .before .before .before .before .before .before .before .before .before .before .before .before .before .before .before .before .before .before .before .before .before .before .before .before .before .before .before .before .before .args in
-    let fits = c .before .before .before .before .before .before .before .before .before .before .before .before .before .before .before .before .before .before .before .before .before .before .before .before .before .before .before .before .before .before .before .before .before .before .before .before .before .before .fits in
-    let pre = c .before .before .before .before .before .before .before .before .before .before .before .before .before .before .before .before .before .before .before .before .before .before .before .before .before .before .before .before .before .before .before .before .before .before .before .before .before .before .pre in
-    let loop = c .before .before .before .before .before .before .before .before .before .before .before .before .before .before .before .before .before .before .before .before .before .before .before .before .before .before .before .before .before .before .before .loop in
-    let loop-test = c .before .before .before .before .before .before .before .before .before .before .before .before .before .before .before .before .before .before .before .before .before .before .before .before .before .before .before .before .before .before .loop-test in
-    let leaf = c .before .before .before .before .before .before .before .before .before .before .before .before .before .before .before .before .before .before .before .before .before .before .before .before .before .before .before .before .before .leaf in
-    let asks = c .before .before .before .before .before .before .before .before .before .before .before .before .before .before .before .before .before .before .before .before .before .before .before .before .before .before .before .before .asks in
-    let more2 = c .before .before .before .before .before .before .before .before .before .before .before .before .before .before .before .before .before .before .before .before .before .before .before .before .before .before .more2 in
-    let cell-at = c .before .before .before .before .before .before .before .before .before .before .before .before .before .before .before .before .before .before .before .before .before .before .before .cell-at in
-    let if1 = c .before .before .before .before .before .before .before .before .before .before .before .before .before .before .before .before .before .before .before .before .before .before .if1 in
-    let passes3 = c .before .before .before .before .before .before .before .before .before .before .before .before .before .before .before .before .before .before .before .before .passes3 in
-    let eval2 = c .before .before .before .before .before .before .before .before .before .before .before .before .before .before .before .before .eval2 in
+    let loop = c .before .before .before .before .before .before .before .before .before .before .before .before .before .before .before .before .before .before .before .before .before .before .before .before .before .loop in
+    let loop-test = c .before .before .before .before .before .before .before .before .before .before .before .before .before .before .before .before .before .before .before .before .before .before .before .before .loop-test in
+    let leaf = c .before .before .before .before .before .before .before .before .before .before .before .before .before .before .before .before .before .before .before .before .before .before .before .leaf in
+    let asks = c .before .before .before .before .before .before .before .before .before .before .before .before .before .before .before .before .before .before .before .before .before .before .asks in
+    let more2 = c .before .before .before .before .before .before .before .before .before .before .before .before .before .before .before .before .before .before .before .before .more2 in
+    let cell-at = c .before .before .before .before .before .before .before .before .before .before .before .before .before .before .before .before .before .cell-at in
+    let passes3 = c .before .before .before .before .before .before .before .before .before .before .before .before .before .before .passes3 in
     let gather-items = c .before .before .before .before .before .before .before .before .before .before .gather-items in
     let from = c .before .before .before .before .before .before .from in
-    let known-told8 = c .before .before .before .before .before .known-told8 in
     let add-run = c .before .before .add-run in
+    let args = c .before .before .before .before .before .before .before .before .before .before .before .before .before .before .before .before .before .before .before .before .before .before .before .before .before .before .before .before .before .before .before .before .before .before .args in
+    let pre = c .before .before .before .before .before .before .before .before .before .before .before .before .before .before .before .before .before .before .before .before .before .before .before .before .before .before .before .before .before .before .before .before .before .before .pre in
+    let fits = c .before .before .before .before .before .before .before .before .before .before .before .before .before .before .before .before .before .before .before .before .before .before .before .before .before .before .before .before .before .before .before .before .before .before .fits in
     let table = args .table .now in
     let literal = args .literal .now in
     let bindings = args .binding-cells .now in
     let texts = args .binding-text .now in
-    let k = ⊎-elim (λ w. came-guarded table literal bindings texts (args .limit) (args .at) (args .guarded) (args .guard) (stored (loop .inner) ((args .places) .item) (cell-at .result)) (more2 .given .0 .0) (loop .cells) (loop .text) (w .0 .taken) (w .3 .ensures) (w .3 .kept .1 .1 .1 .1 .0) (w .3 .kept .1 .1 .1 .1 .1 .0) (w .8 .ensures) (w .9) (w .10) (w .11)) (λ w. came-unguarded table literal bindings texts (args .limit) (args .at) (args .guarded) (args .guard) (stored (loop .inner) ((args .places) .item) (cell-at .result)) (more2 .given .0 .0) (loop .cells) (loop .text) (w .0 .left) (w .1) (w .2) (w .3)) (if1 .came) in appends-again table literal bindings texts (args .cells .now) (args .text .now) (args .limit) (args .at) (args .guarded) (args .guard) (args .list) (args .space) (args .first) (args .count) (args .each) ((args .places) .item) ((args .places) .condition) (args .scope) (args .used) (loop .inv) (loop-test .taken) (fits .each .fits) (gather-items .kept .1 .0 ∙ (eval2 .kept .1 .1 .1 .1 .0 ∙ k .kept)) (eval2 .kept .1 .1 .1 .1 .1 .0 ∙ k .keptx) (add-run .kept .0) (add-run .kept .1 .0) (run-added (loop .firsts) (loop .counts) _ _ (loop .collected) (add-run .result) _ (from .given .0 .1 .0) _ (add-run .ensures) (omega (arith, known-told8 .given .1 .0))) (gathers-again table literal (args .limit) (args .at) (args .guarded) (args .guard) (args .list) (args .space) (args .each) ((args .places) .item) ((args .places) .condition) (loop .left) (loop .cell) (loop-test .taken) (gatheredIn (loop .firsts) (loop .counts) (loop .collected)) (loop .inner) (loop .spent) (rooms literal bindings texts (loop .cells) (loop .text)) (literal-does table literal (args .limit) ((args .places) .condition) (pre .1 .0) (pre .1 .1) (absent .value) (loop .spent) (leaf .ensures) (loop .inner) (rooms literal bindings texts (loop .cells) (loop .text))) (asks .ensures) (more2 .given .1) (cell-at .ensures) (k .passed) (passes3 .given .1) (eval2 .ensures) (gather-items .ensures) (from .given .1) (add-run .ensures))
+    appends-again table literal bindings texts (args .cells .now) (args .text .now) (args .limit) (args .at) (args .guarded) (args .guard) (args .list) (args .space) (args .first) (args .count) (args .each) ((args .places) .item) ((args .places) .condition) (args .scope) (args .used) (loop .inv) (loop-test .taken) (fits .each .fits) (gather-items .kept .1 .0 ∙ ((items-came t (c .before .before .before .before .before .before .before .before .before .before .before .before)) .kept ∙ (guard-came t (c .before .before .before .before .before .before .before .before .before .before .before .before .before .before .before .before)) .kept)) ((items-came t (c .before .before .before .before .before .before .before .before .before .before .before .before)) .keptx ∙ (guard-came t (c .before .before .before .before .before .before .before .before .before .before .before .before .before .before .before .before)) .keptx) (length-set (loop .inner .slots) (args .places .item) (record { value = cell-at .result })) (add-run .kept .0) (add-run .kept .1 .0) (run-added (loop .firsts) (loop .counts) _ _ (loop .collected) (add-run .result) _ (from .given .0 .1 .0) _ (add-run .ensures) (omega (arith, c .before .before .before .before .before .known-told10 .given .1 .0))) (gathers-again table literal (args .limit) (args .at) (args .guarded) (args .guard) (args .list) (args .space) (args .each) ((args .places) .item) ((args .places) .condition) (loop .left) (loop .cell) (loop-test .taken) (gatheredIn (loop .firsts) (loop .counts) (loop .collected)) (loop .inner) (loop .spent) (rooms literal bindings texts (loop .cells) (loop .text)) (literal-does table literal (args .limit) ((args .places) .condition) (pre .1 .0) (pre .1 .1) (absent .value) (loop .spent) (leaf .ensures) (loop .inner) (rooms literal bindings texts (loop .cells) (loop .text))) (asks .ensures) (more2 .given .1) (cell-at .ensures) ((guard-came t (c .before .before .before .before .before .before .before .before .before .before .before .before .before .before .before .before)) .passed) (passes3 .given .1) ((items-came t (c .before .before .before .before .before .before .before .before .before .before .before .before)) .is) (gather-items .ensures) (from .given .1) (add-run .ensures))
 
-pub appends-slice-aggregate-collected-list-3 :
-    (t : ℕ) → appends-lts.Need-slice-aggregate-collected-list-3 (appends-claims t) (appends-at t) appends.Post appends-Inv-loop appends-μ-loop
+pub appends-slice-aggregate-collected-list-3 : (t : ℕ) → appends-lts.Need-slice-aggregate-collected-list-3 (appends-claims t) (appends-at t) appends.Post appends-Inv-loop appends-μ-loop
 appends-slice-aggregate-collected-list-3 t c = sym (c .before .before .before .loop .inv .firsts-long)
 
-pub appends-slice-aggregate-collected-list-4 :
-    (t : ℕ) → appends-lts.Need-slice-aggregate-collected-list-4 (appends-claims t) (appends-at t) appends.Post appends-Inv-loop appends-μ-loop
+pub appends-slice-aggregate-collected-list-4 : (t : ℕ) → appends-lts.Need-slice-aggregate-collected-list-4 (appends-claims t) (appends-at t) appends.Post appends-Inv-loop appends-μ-loop
 appends-slice-aggregate-collected-list-4 t c = sym (c .before .before .before .before .loop .inv .counts-long)
 
 pub appends-collected-list-requires-2 : (t : ℕ) → appends-lts.Need-collected-list-requires-2 (appends-claims t) (appends-at t) appends.Post appends-Inv-loop appends-μ-loop
 appends-collected-list-requires-2 t c κs = omega (arith, c .before .before .before .before .loop .inv .runs)
 
 pub appends-same-length-9 : (t : ℕ) → appends-lts.Need-same-length-9 (appends-claims t) (appends-at t) appends.Post appends-Inv-loop appends-μ-loop
-appends-same-length-9 t c = c .before .before .collected-list2 .kept .1 .0 ∙ c .before .before .before .before .before .before .before .loop .inv .kept
+appends-same-length-9 t c =
+    let loop = c .before .before .before .before .before .before .before .loop in
+    c .before .before .collected-list2 .kept .1 .0 ∙ loop .inv .kept
 
 pub appends-same-length-10 : (t : ℕ) → appends-lts.Need-same-length-10 (appends-claims t) (appends-at t) appends.Post appends-Inv-loop appends-μ-loop
-appends-same-length-10 t c = c .before .before .before .before .before .before .before .loop .inv .keptx
+appends-same-length-10 t c =
+    let loop = c .before .before .before .before .before .before .before .loop in
+    loop .inv .keptx
 
 pub appends-returns-5 : (t : ℕ) → appends-lts.Need-returns-5 (appends-claims t) (appends-at t) appends.Post appends-Inv-loop appends-μ-loop
 appends-returns-5 t c =
-    let args = c .before .before .before .before .before .before .before .before .before .before .before .before .before .before .args in
     let loop = c .before .before .before .before .before .before .before .loop in
-    let loop-test = c .before .before .before .before .before .before .loop-test in
+    let args = c .before .before .before .before .before .before .before .before .before .before .before .before .before .before .before .before .args in
     let table = args .table .now in
     let literal = args .literal .now in
-    let texts = args .binding-text .now in
-    c .before .before .collected-list2 .ensures literal texts (loop .text) ∙ (sym (no-append (loopAt table literal (args .limit) (args .at) (args .places)) (appendAt table literal (args .limit) (args .guarded) (args .guard) (args .list)) (args .space) (args .each) (loop .left) (loop .cell) (omega (arith, loop-test .left)) (gatheredIn (loop .firsts) (loop .counts) (loop .collected)) (loop .inner) (loop .spent) (rooms literal (args .binding-cells .now) texts (loop .cells) (loop .text))) ∙ loop .inv .same (args .places) refl refl)
+    let texts = args .binding-text .now in c .before .before .collected-list2 .ensures literal texts (loop .text) ∙ (sym (no-append (loopAt table literal (args .limit) (args .at) (args .places)) (appendAt table literal (args .limit) (args .guarded) (args .guard) (args .list)) (args .space) (args .each) (loop .left) (loop .cell) (omega (arith, c .before .before .before .before .before .before .loop-test .left)) (gatheredIn (loop .firsts) (loop .counts) (loop .collected)) (loop .inner) (loop .spent) (rooms literal (args .binding-cells .now) texts (loop .cells) (loop .text))) ∙ loop .inv .same (args .places) refl refl)

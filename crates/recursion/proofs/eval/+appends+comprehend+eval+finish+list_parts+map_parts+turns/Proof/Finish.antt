@@ -2,13 +2,14 @@
 use borrow.Author.Needs.{needs}
 use native.Mathlib.Omega.{arith}
 use Rattle.rooms.specs.Rooms.{rooms}
-use Rattle.rooms.proofs.Scopes.{mapped-length}
-use Rattle.accepted.specs.Records.{exprOf}
+use Prim.Native.Nat.{ℕ}
 use Rattle.leaves.proofs.KindLaws.{sound-stands}
-use Rattle.recursion.proofs.Operands.{leaf-here, leaf-does}
+use Rattle.rooms.proofs.Scopes.{mapped-length}
+use Rattle.flats.proofs.Slots.{leaf-here}
+use Rattle.accepted.specs.Records.{exprOf}
+use Rattle.recursion.proofs.Operands.{leaf-does}
 use Rattle.recursion.proofs.Turns.{held-is, result-is}
 use Rattle.machine.specs.Machine.{machine}
-use Prim.Native.Nat.{ℕ}
 use Rattle.recursion.proofs.eval.finish.Reads as finish
 use Rattle.recursion.proofs.eval.+appends+comprehend+eval+finish+list_parts+map_parts+turns.Lts-finish as finish-lts
 use Rattle.recursion.proofs.eval.+appends+comprehend+eval+finish+list_parts+map_parts+turns.Proof.Kit.{finish-at, finish-claims}
@@ -26,7 +27,9 @@ finish-is-leaf-requires t c κs =
     sound-stands (args .table .now) (args .literal .now) (args .result) (pre .1) .here
 
 pub finish-slot-at-requires : (t : ℕ) → finish-lts.Need-slot-at-requires (finish-claims t) (finish-at t) finish.Post
-finish-slot-at-requires t c κs = c .before .before .before .before .before .before .before .before .before .before .pre .1
+finish-slot-at-requires t c κs =
+    let pre = c .before .before .before .before .before .before .before .before .before .before .pre in
+    pre .1
 
 pub finish-mul-leaf : (t : ℕ) → finish-lts.Need-mul-leaf (finish-claims t) (finish-at t) finish.Post
 finish-mul-leaf t c = search needs
@@ -36,34 +39,30 @@ finish-element-copy-out-leaf t c = c .slot-at .ensures .1
 
 pub finish-leaf-requires : (t : ℕ) → finish-lts.Need-leaf-requires (finish-claims t) (finish-at t) finish.Post
 finish-leaf-requires t c κs =
-    let pre = c .before .before .before .before .before .before .before .before .before .before .before .before .pre in
     let args = c .before .before .before .before .before .before .before .before .before .before .before .before .args in
-    let is-leaf = c .before .before .before .is-leaf in
-    (pre .1, leaf-here (args .table .now) (args .result) (is-leaf .ensures) (c .before .before .if1 .taken))
+    let pre = c .before .before .before .before .before .before .before .before .before .before .before .before .pre in
+    (pre .1, leaf-here (args .table .now) (args .result) (c .before .before .before .is-leaf .ensures) (c .before .before .if1 .taken))
 
 pub finish-eval-requires : (t : ℕ) → finish-lts.Need-eval-requires (finish-claims t) (finish-at t) finish.Post
-finish-eval-requires t c κs = (omega (arith, c .before .before .before .before .before .before .before .before .before .before .before .before .pre .0), c .before .before .before .before .before .before .before .before .before .before .before .before .pre .1)
+finish-eval-requires t c κs =
+    let pre = c .before .before .before .before .before .before .before .before .before .before .before .before .pre in
+    (omega (arith, pre .0), pre .1)
 
 pub finish-returns : (t : ℕ) → finish-lts.Need-returns (finish-claims t) (finish-at t) finish.Post
 finish-returns t c =
     let args = c .before .before .before .before .before .before .before .before .before .args in
     let table = args .table .now in
-    let literal = args .literal .now in
-    held-is (machine table (args .limit) (exprOf table literal (args .result))) (c .before .held .given .1) (args .t9) (args .used) (rooms literal (args .binding-cells .now) (args .binding-text .now) (args .cells .now) (args .text .now))
+    let literal = args .literal .now in held-is (machine table (args .limit) (exprOf table literal (args .result))) (c .before .held .given .1) (args .t9) (args .used) (rooms literal (args .binding-cells .now) (args .binding-text .now) (args .cells .now) (args .text .now))
 
 pub finish-returns-2 : (t : ℕ) → finish-lts.Need-returns-2 (finish-claims t) (finish-at t) finish.Post
 finish-returns-2 t c =
     let args = c .before .before .before .before .before .before .before .before .before .before .before .before .before .args in
     let pre = c .before .before .before .before .before .before .before .before .before .before .before .before .before .pre in
     let good = c .before .before .before .before .before .before .before .before .before .before .before .before .before .good in
-    let enum-told = c .before .before .before .before .before .enum-told in
-    let is-leaf = c .before .before .before .before .is-leaf in
-    let if1 = c .before .before .before .if1 in
     let table = args .table .now in
     let literal = args .literal .now in
     let bindings = args .binding-cells .now in
-    let texts = args .binding-text .now in
-    result-is (machine table (args .limit) (exprOf table literal (args .result))) (enum-told .given .1) (args .t9) (args .used) (rooms literal bindings texts (args .cells .now) (args .text .now)) (leaf-does table literal (args .limit) (args .result) (pre .1) (args .t9) (args .used) (mapped-length (args .t9 .slots) _ 128 (good .1 .1 .1 .1 .1 .1 .1 .1 .0 .1 .1 .0 .1 .0 .1)) (leaf-here table (args .result) (is-leaf .ensures) (if1 .taken)) (c .before .before .slot-at .ensures) (c .leaf .ensures) (rooms literal bindings texts (args .cells .now) (args .text .now)))
+    let texts = args .binding-text .now in result-is (machine table (args .limit) (exprOf table literal (args .result))) (c .before .before .before .before .before .enum-told .given .1) (args .t9) (args .used) (rooms literal bindings texts (args .cells .now) (args .text .now)) (leaf-does table literal (args .limit) (args .result) (pre .1) (args .t9) (args .used) (mapped-length (args .t9 .slots) _ 128 (good .1 .1 .1 .1 .1 .1 .1 .1 .0 .1 .1 .0 .1 .0 .1)) (leaf-here table (args .result) (c .before .before .before .before .is-leaf .ensures) (c .before .before .before .if1 .taken)) (c .before .before .slot-at .ensures) (c .leaf .ensures) (rooms literal bindings texts (args .cells .now) (args .text .now)))
 
 pub finish-same-length : (t : ℕ) → finish-lts.Need-same-length (finish-claims t) (finish-at t) finish.Post
 finish-same-length t c = c .before .before .before .before .eval .kept .1 .1 .1 .1 .0
@@ -73,9 +72,7 @@ finish-same-length-2 t c = c .before .before .before .before .eval .kept .1 .1 .
 
 pub finish-returns-3 : (t : ℕ) → finish-lts.Need-returns-3 (finish-claims t) (finish-at t) finish.Post
 finish-returns-3 t c =
-    let args = c .before .before .before .before .before .before .before .before .before .before .before .before .before .before .before .before .before .args in
     let enum-told = c .before .before .before .before .before .before .before .before .before .enum-told in
-    let eval-call = c .before .before .before .before .eval in
+    let args = c .before .before .before .before .before .before .before .before .before .before .before .before .before .before .before .before .before .args in
     let table = args .table .now in
-    let literal = args .literal .now in
-    result-is (machine table (args .limit) (exprOf table literal (args .result))) (enum-told .given .1) (args .t9) (args .used) (rooms literal (args .binding-cells .now) (args .binding-text .now) (args .cells .now) (args .text .now)) (eval-call .ensures)
+    let literal = args .literal .now in result-is (machine table (args .limit) (exprOf table literal (args .result))) (enum-told .given .1) (args .t9) (args .used) (rooms literal (args .binding-cells .now) (args .binding-text .now) (args .cells .now) (args .text .now)) (c .before .before .before .before .eval .ensures)

@@ -25,38 +25,42 @@ use Rattle.recursion.proofs.eval.+appends+comprehend+eval+finish+list_p
 use Rattle.recursion.proofs.eval.turns.Reads as turns
 use Rattle.recursion.proofs.eval.turns.Kinds as turns-kinds
 use Rattle.recursion.proofs.eval.+appends+comprehend+eval+finish+list_parts+map_parts+turns.Lts-turns as turns-lts
-use Rattle.marking.proofs.add_element.Reads as add-element-reads
-use Rattle.inserting.proofs.add_entry.Reads as add-entry-reads
+use Rattle.bodies.proofs.count_at.Reads as count-at-reads
+use Rattle.cells.proofs.cell_at.Reads as cell-at-reads
+use Rattle.conditions.proofs.asks.Reads as asks-reads
 use Rattle.containers.proofs.begin.Reads as begin-reads
 use Rattle.containers.proofs.key_of.Reads as key-of-reads
 use Rattle.containers.proofs.whole_list.Reads as whole-list-reads
 use Rattle.containers.proofs.whole_map.Reads as whole-map-reads
-use Rattle.runs.proofs.add_run.Reads as add-run-reads
-use Rattle.runs.proofs.collected_list.Reads as collected-list-reads
+use Rattle.forms.proofs.begun_first.Reads as begun-first-reads
+use Rattle.forms.proofs.shape_at.Reads as shape-at-reads
 use Rattle.gathering.proofs.gather_items.Reads as gather-items-reads
-use Rattle.ranges.proofs.range_of.Reads as range-of-reads
-use Rattle.loops.proofs.step_of.Reads as step-of-reads
+use Rattle.inserting.proofs.add_entry.Reads as add-entry-reads
 use Rattle.joins.proofs.both.after_both.Reads as after-both-reads
-use Rattle.bodies.proofs.count_at.Reads as count-at-reads
-use Rattle.outline.proofs.end_at.Reads as end-at-reads
-use Rattle.outline.proofs.first_operand.Reads as first-operand-reads
-use Rattle.conditions.proofs.asks.Reads as asks-reads
-use Rattle.outcomes.proofs.outcomes.out_of_cells.Reads as out-of-cells-reads
-use Rattle.outcomes.proofs.outcomes.out_of_steps.Reads as out-of-steps-reads
-use Rattle.outcomes.proofs.outcomes.stepped.Reads as stepped-reads
 use Rattle.leaves.proofs.is_leaf.Reads as is-leaf-reads
 use Rattle.leaves.proofs.is_marked.Reads as is-marked-reads
 use Rattle.leaves.proofs.leaf.Reads as leaf-reads
 use Rattle.leaves.proofs.leaf_value.Reads as leaf-value-reads
 use Rattle.leaves.proofs.slot_at.Reads as slot-at-reads
 use Rattle.leaves.proofs.unmarked.Reads as unmarked-reads
+use Rattle.loops.proofs.step_of.Reads as step-of-reads
+use Rattle.marking.proofs.add_element.Reads as add-element-reads
+use Rattle.nodes.proofs.after_first.Reads as after-first-reads
+use Rattle.outcomes.proofs.outcomes.out_of_cells.Reads as out-of-cells-reads
+use Rattle.outcomes.proofs.outcomes.out_of_steps.Reads as out-of-steps-reads
+use Rattle.outcomes.proofs.outcomes.stepped.Reads as stepped-reads
+use Rattle.outline.proofs.end_at.Reads as end-at-reads
+use Rattle.outline.proofs.first_operand.Reads as first-operand-reads
 use Rattle.paths.proofs.append_path.Reads as append-path-reads
 use Rattle.paths.proofs.folds_at.Reads as folds-at-reads
 use Rattle.paths.proofs.places_at.Reads as places-at-reads
-use Rattle.nodes.proofs.after_first.Reads as after-first-reads
-use Rattle.forms.proofs.begun_first.Reads as begun-first-reads
-use Rattle.forms.proofs.shape_at.Reads as shape-at-reads
-use Rattle.cells.proofs.cell_at.Reads as cell-at-reads
+use Rattle.ranges.proofs.range_of.Reads as range-of-reads
+use Rattle.reach.proofs.reach.Reads as reach-reads
+use Rattle.reach.proofs.reach_at.Reads as reach-at-reads
+use Rattle.runs.proofs.add_run.Reads as add-run-reads
+use Rattle.runs.proofs.collected_list.Reads as collected-list-reads
+use Rattle.singles.proofs.single.Reads as single-reads
+use Rattle.singles.proofs.single_at.Reads as single-at-reads
 
 abbrev pub μ-appends : Measures 6 appends-kinds.ps ℕ
 μ-appends κs a = 4 * wordAt (a .0 .now) (a .1 .1 .1 .1 .1 .1 .1 .0 + 1) + 1
@@ -127,161 +131,22 @@ abbrev pub turns-below : ℕ → In 6 turns-kinds.ps
 turns-below t = and 6 turns-kinds.ps (falls 6 turns-kinds.ps _<_ μ-turns t) turns.Pre
 
 abbrev pub appends-claims : ℕ → appends-lts.Claims
-appends-claims t = (
-  leaf-reads.Asked,
-  leaf-reads.Learnt,
-  asks-reads.Asked,
-  asks-reads.Learnt,
-  collected-list-reads.Asked,
-  collected-list-reads.Learnt,
-  cell-at-reads.Asked,
-  cell-at-reads.Learnt,
-  eval-below t,
-  eval.Post,
-  gather-items-reads.Asked,
-  gather-items-reads.Learnt,
-  add-run-reads.Asked,
-  add-run-reads.Learnt,
-)
+appends-claims t = (reach-at-reads.Asked, reach-at-reads.Learnt, single-at-reads.Asked, single-at-reads.Learnt, leaf-reads.Asked, leaf-reads.Learnt, asks-reads.Asked, asks-reads.Learnt, collected-list-reads.Asked, collected-list-reads.Learnt, cell-at-reads.Asked, cell-at-reads.Learnt, reach-reads.Asked, reach-reads.Learnt, eval-below t, eval.Post, single-reads.Asked, single-reads.Learnt, gather-items-reads.Asked, gather-items-reads.Learnt, add-run-reads.Asked, add-run-reads.Learnt)
 
 abbrev pub comprehend-claims : ℕ → comprehend-lts.Claims
-comprehend-claims t = (
-  first-operand-reads.Asked,
-  first-operand-reads.Learnt,
-  end-at-reads.Asked,
-  end-at-reads.Learnt,
-  eval-below t,
-  eval.Post,
-  range-of-reads.Asked,
-  range-of-reads.Learnt,
-  places-at-reads.Asked,
-  places-at-reads.Learnt,
-  append-path-reads.Asked,
-  append-path-reads.Learnt,
-  turns-below t,
-  turns.Post,
-  appends-below t,
-  appends.Post,
-)
+comprehend-claims t = (first-operand-reads.Asked, first-operand-reads.Learnt, end-at-reads.Asked, end-at-reads.Learnt, eval-below t, eval.Post, range-of-reads.Asked, range-of-reads.Learnt, places-at-reads.Asked, places-at-reads.Learnt, append-path-reads.Asked, append-path-reads.Learnt, turns-below t, turns.Post, appends-below t, appends.Post)
 
 abbrev pub eval-claims : ℕ → eval-lts.Claims
-eval-claims t = (
-  out-of-steps-reads.Asked,
-  out-of-steps-reads.Learnt,
-  stepped-reads.Asked,
-  stepped-reads.Learnt,
-  shape-at-reads.Asked,
-  shape-at-reads.Learnt,
-  slot-at-reads.Asked,
-  slot-at-reads.Learnt,
-  leaf-value-reads.Asked,
-  leaf-value-reads.Learnt,
-  count-at-reads.Asked,
-  count-at-reads.Learnt,
-  begin-reads.Asked,
-  begin-reads.Learnt,
-  out-of-cells-reads.Asked,
-  out-of-cells-reads.Learnt,
-  list-parts-below t,
-  list-parts.Post,
-  map-parts-below t,
-  map-parts.Post,
-  comprehend-below t,
-  comprehend.Post,
-  begun-first-reads.Asked,
-  begun-first-reads.Learnt,
-  is-leaf-reads.Asked,
-  is-leaf-reads.Learnt,
-  leaf-reads.Asked,
-  leaf-reads.Learnt,
-  eval-below t,
-  eval.Post,
-  after-first-reads.Asked,
-  after-first-reads.Learnt,
-  after-both-reads.Asked,
-  after-both-reads.Learnt,
-)
+eval-claims t = (out-of-steps-reads.Asked, out-of-steps-reads.Learnt, stepped-reads.Asked, stepped-reads.Learnt, shape-at-reads.Asked, shape-at-reads.Learnt, slot-at-reads.Asked, slot-at-reads.Learnt, leaf-value-reads.Asked, leaf-value-reads.Learnt, count-at-reads.Asked, count-at-reads.Learnt, begin-reads.Asked, begin-reads.Learnt, out-of-cells-reads.Asked, out-of-cells-reads.Learnt, list-parts-below t, list-parts.Post, map-parts-below t, map-parts.Post, comprehend-below t, comprehend.Post, begun-first-reads.Asked, begun-first-reads.Learnt, reach-at-reads.Asked, reach-at-reads.Learnt, reach-reads.Asked, reach-reads.Learnt, eval-below t, eval.Post, after-first-reads.Asked, after-first-reads.Learnt, after-both-reads.Asked, after-both-reads.Learnt)
 
 abbrev pub finish-claims : ℕ → finish-lts.Claims
-finish-claims t = (
-  is-leaf-reads.Asked,
-  is-leaf-reads.Learnt,
-  slot-at-reads.Asked,
-  slot-at-reads.Learnt,
-  leaf-reads.Asked,
-  leaf-reads.Learnt,
-  eval-below t,
-  eval.Post,
-)
+finish-claims t = (is-leaf-reads.Asked, is-leaf-reads.Learnt, slot-at-reads.Asked, slot-at-reads.Learnt, leaf-reads.Asked, leaf-reads.Learnt, eval-below t, eval.Post)
 
 abbrev pub list-parts-claims : ℕ → list-parts-lts.Claims
-list-parts-claims t = (
-  first-operand-reads.Asked,
-  first-operand-reads.Learnt,
-  is-marked-reads.Asked,
-  is-marked-reads.Learnt,
-  unmarked-reads.Asked,
-  unmarked-reads.Learnt,
-  is-leaf-reads.Asked,
-  is-leaf-reads.Learnt,
-  slot-at-reads.Asked,
-  slot-at-reads.Learnt,
-  leaf-reads.Asked,
-  leaf-reads.Learnt,
-  eval-below t,
-  eval.Post,
-  add-element-reads.Asked,
-  add-element-reads.Learnt,
-  end-at-reads.Asked,
-  end-at-reads.Learnt,
-  whole-list-reads.Asked,
-  whole-list-reads.Learnt,
-)
+list-parts-claims t = (first-operand-reads.Asked, first-operand-reads.Learnt, is-marked-reads.Asked, is-marked-reads.Learnt, unmarked-reads.Asked, unmarked-reads.Learnt, is-leaf-reads.Asked, is-leaf-reads.Learnt, slot-at-reads.Asked, slot-at-reads.Learnt, leaf-reads.Asked, leaf-reads.Learnt, eval-below t, eval.Post, add-element-reads.Asked, add-element-reads.Learnt, end-at-reads.Asked, end-at-reads.Learnt, whole-list-reads.Asked, whole-list-reads.Learnt)
 
 abbrev pub map-parts-claims : ℕ → map-parts-lts.Claims
-map-parts-claims t = (
-  first-operand-reads.Asked,
-  first-operand-reads.Learnt,
-  is-leaf-reads.Asked,
-  is-leaf-reads.Learnt,
-  slot-at-reads.Asked,
-  slot-at-reads.Learnt,
-  leaf-reads.Asked,
-  leaf-reads.Learnt,
-  eval-below t,
-  eval.Post,
-  key-of-reads.Asked,
-  key-of-reads.Learnt,
-  end-at-reads.Asked,
-  end-at-reads.Learnt,
-  is-marked-reads.Asked,
-  is-marked-reads.Learnt,
-  unmarked-reads.Asked,
-  unmarked-reads.Learnt,
-  add-entry-reads.Asked,
-  add-entry-reads.Learnt,
-  whole-map-reads.Asked,
-  whole-map-reads.Learnt,
-)
+map-parts-claims t = (first-operand-reads.Asked, first-operand-reads.Learnt, is-leaf-reads.Asked, is-leaf-reads.Learnt, slot-at-reads.Asked, slot-at-reads.Learnt, leaf-reads.Asked, leaf-reads.Learnt, eval-below t, eval.Post, key-of-reads.Asked, key-of-reads.Learnt, end-at-reads.Asked, end-at-reads.Learnt, is-marked-reads.Asked, is-marked-reads.Learnt, unmarked-reads.Asked, unmarked-reads.Learnt, add-entry-reads.Asked, add-entry-reads.Learnt, whole-map-reads.Asked, whole-map-reads.Learnt)
 
 abbrev pub turns-claims : ℕ → turns-lts.Claims
-turns-claims t = (
-  folds-at-reads.Asked,
-  folds-at-reads.Learnt,
-  is-leaf-reads.Asked,
-  is-leaf-reads.Learnt,
-  slot-at-reads.Asked,
-  slot-at-reads.Learnt,
-  leaf-reads.Asked,
-  leaf-reads.Learnt,
-  eval-below t,
-  eval.Post,
-  asks-reads.Asked,
-  asks-reads.Learnt,
-  finish-below t,
-  finish.Post,
-  cell-at-reads.Asked,
-  cell-at-reads.Learnt,
-  step-of-reads.Asked,
-  step-of-reads.Learnt,
-)
+turns-claims t = (folds-at-reads.Asked, folds-at-reads.Learnt, reach-at-reads.Asked, reach-at-reads.Learnt, reach-reads.Asked, reach-reads.Learnt, eval-below t, eval.Post, asks-reads.Asked, asks-reads.Learnt, finish-below t, finish.Post, cell-at-reads.Asked, cell-at-reads.Learnt, step-of-reads.Asked, step-of-reads.Learnt)

@@ -1,32 +1,24 @@
 -- The member `list_parts` of the cycle: each part that the borrow checker leaves. Assumes nothing.
 use borrow.Author.Needs.{needs}
-use mathlib.Core.Logic.{⊎-elim}
-use mathlib.Core.Path.{ap, sym, _∙_}
+use mathlib.Core.Path.{sym, _∙_, ap}
 use native.Mathlib.Omega.{arith}
-use Rattle.machine.specs.Views.{partIn}
 use Rattle.rooms.specs.Rooms.{rooms}
-use Rattle.rooms.proofs.Scopes.{mapped-length}
-use Rattle.leaves.proofs.KindLaws.{sound-stands}
-use Rattle.leaves.proofs.Rows.{element-next}
-use Rattle.recursion.proofs.Lists.{ListLoop, list-begins, added-count, no-element, element-stops, element-again}
-use Rattle.recursion.proofs.Operands.{leaf-here, came-leaf, came-record}
 use Prim.Native.Nat.{ℕ}
-use borrow.Fn.PlainCycle.{is}
+use Rattle.leaves.proofs.KindLaws.{sound-stands}
+use Rattle.flats.proofs.Slots.{leaf-here}
+use Rattle.machine.specs.Views.{partIn}
+use Rattle.leaves.proofs.Rows.{element-next}
+use Rattle.recursion.proofs.Lists.{list-begins}
+use Rattle.singles.proofs.Lists.{added-count, no-element, element-stops, element-again}
 use Rattle.recursion.proofs.eval.list_parts.Reads as list-parts
 use Rattle.recursion.proofs.eval.+appends+comprehend+eval+finish+list_parts+map_parts+turns.Lts-list_parts as list-parts-lts
 use Rattle.recursion.proofs.eval.+appends+comprehend+eval+finish+list_parts+map_parts+turns.Proof.Kit.{list-parts-at, list-parts-claims}
-
-abbrev pub list-parts-Inv-loop : list-parts-lts.InvT-loop
-list-parts-Inv-loop table literal binding-cells binding-text cells₀ text₀ limit at first count scope place₀ left₀ spent₀ ready₀ cells text place left spent ready = ListLoop table literal binding-cells binding-text cells₀ text₀ limit at first count scope spent₀ cells text place left spent ready
-
-abbrev pub list-parts-μ-loop : list-parts-lts.MeasureT-loop
-list-parts-μ-loop table literal binding-cells binding-text cells₀ text₀ limit at first count scope place₀ left₀ spent₀ ready₀ cells text place left spent ready = left
+use Rattle.recursion.proofs.eval.+appends+comprehend+eval+finish+list_parts+map_parts+turns.Proof.ListPartsCame.{list-parts-Inv-loop, list-parts-μ-loop, element-came}
 
 pub list-parts-first-operand-requires : (t : ℕ) → list-parts-lts.Need-first-operand-requires (list-parts-claims t) (list-parts-at t) list-parts.Post list-parts-Inv-loop list-parts-μ-loop
 list-parts-first-operand-requires t c κs =
     let args = c .before .before .before .before .before .before .args in
-    let pre = c .before .before .before .before .before .before .pre in
-    let s = sound-stands (args .table .now) (args .literal .now) (args .at) (pre .1 .0) in (s .here, s .known)
+    let s = sound-stands (args .table .now) (args .literal .now) (args .at) (c .before .before .before .before .before .before .pre .1 .0) in (s .here, s .known)
 
 pub list-parts-loop-holds : (t : ℕ) → list-parts-lts.Need-loop-holds (list-parts-claims t) (list-parts-at t) list-parts.Post list-parts-Inv-loop list-parts-μ-loop
 list-parts-loop-holds t c =
@@ -36,32 +28,30 @@ list-parts-loop-holds t c =
 
 pub list-parts-is-marked-requires : (t : ℕ) → list-parts-lts.Need-is-marked-requires (list-parts-claims t) (list-parts-at t) list-parts.Post list-parts-Inv-loop list-parts-μ-loop
 list-parts-is-marked-requires t c κs =
-    let args = c .before .before .before .before .before .before .before .before .before .args in
     let loop = c .before .loop in
+    let args = c .before .before .before .before .before .before .before .before .before .args in
     let f = element-next (args .table .now) (args .literal .now) (args .at) (loop .left) (loop .place) (c .loop-test .taken) (loop .inv .row) in omega (arith, f .part .start)
 
 pub list-parts-unmarked-requires : (t : ℕ) → list-parts-lts.Need-unmarked-requires (list-parts-claims t) (list-parts-at t) list-parts.Post list-parts-Inv-loop list-parts-μ-loop
 list-parts-unmarked-requires t c κs =
-    let args = c .before .before .before .before .before .before .before .before .before .before .args in
     let loop = c .before .before .loop in
+    let args = c .before .before .before .before .before .before .before .before .before .before .args in
     let f = element-next (args .table .now) (args .literal .now) (args .at) (loop .left) (loop .place) (c .before .loop-test .taken) (loop .inv .row) in f .sound
 
 pub list-parts-is-leaf-requires : (t : ℕ) → list-parts-lts.Need-is-leaf-requires (list-parts-claims t) (list-parts-at t) list-parts.Post list-parts-Inv-loop list-parts-μ-loop
 list-parts-is-leaf-requires t c κs =
-    let args = c .before .before .before .before .before .before .before .before .before .before .before .args in
     let loop = c .before .before .before .loop in
-    let unmarked = c .unmarked in
+    let args = c .before .before .before .before .before .before .before .before .before .before .before .args in
     let table = args .table .now in
     let literal = args .literal .now in
     let f = element-next table literal (args .at) (loop .left) (loop .place) (c .before .before .loop-test .taken) (loop .inv .row) in
-    let s = rw (sym (unmarked .ensures)) at (f .part .sound) in sound-stands table literal (unmarked .result) s .here
+    let s = rw (sym (c .unmarked .ensures)) at (f .part .sound) in sound-stands table literal (c .unmarked .result) s .here
 
 pub list-parts-slot-at-requires : (t : ℕ) → list-parts-lts.Need-slot-at-requires (list-parts-claims t) (list-parts-at t) list-parts.Post list-parts-Inv-loop list-parts-μ-loop
 list-parts-slot-at-requires t c κs =
-    let args = c .before .before .before .before .before .before .before .before .before .before .before .before .before .args in
     let loop = c .before .before .before .before .before .loop in
-    let loop-test = c .before .before .before .before .loop-test in
-    let f = element-next (args .table .now) (args .literal .now) (args .at) (loop .left) (loop .place) (loop-test .taken) (loop .inv .row) in
+    let args = c .before .before .before .before .before .before .before .before .before .before .before .before .before .args in
+    let f = element-next (args .table .now) (args .literal .now) (args .at) (loop .left) (loop .place) (c .before .before .before .before .loop-test .taken) (loop .inv .row) in
     let s = rw (sym (c .before .before .unmarked .ensures)) at (f .part .sound) in s
 
 pub list-parts-mul-leaf : (t : ℕ) → list-parts-lts.Need-mul-leaf (list-parts-claims t) (list-parts-at t) list-parts.Post list-parts-Inv-loop list-parts-μ-loop
@@ -72,81 +62,54 @@ list-parts-element-copy-out-leaf t c = c .slot-at .ensures .1
 
 pub list-parts-leaf-requires : (t : ℕ) → list-parts-lts.Need-leaf-requires (list-parts-claims t) (list-parts-at t) list-parts.Post list-parts-Inv-loop list-parts-μ-loop
 list-parts-leaf-requires t c κs =
-    let args = c .before .before .before .before .before .before .before .before .before .before .before .before .before .before .before .args in
     let loop = c .before .before .before .before .before .before .before .loop in
-    let loop-test = c .before .before .before .before .before .before .loop-test in
     let unmarked = c .before .before .before .before .unmarked in
-    let is-leaf = c .before .before .before .is-leaf in
+    let args = c .before .before .before .before .before .before .before .before .before .before .before .before .before .before .before .args in
     let table = args .table .now in
-    let f = element-next table (args .literal .now) (args .at) (loop .left) (loop .place) (loop-test .taken) (loop .inv .row) in
-    let s = rw (sym (unmarked .ensures)) at (f .part .sound) in (s, leaf-here table (unmarked .result) (is-leaf .ensures) (c .before .before .if1 .taken))
+    let f = element-next table (args .literal .now) (args .at) (loop .left) (loop .place) (c .before .before .before .before .before .before .loop-test .taken) (loop .inv .row) in
+    let s = rw (sym (unmarked .ensures)) at (f .part .sound) in (s, leaf-here table (unmarked .result) (c .before .before .before .is-leaf .ensures) (c .before .before .if1 .taken))
 
 pub list-parts-eval-requires : (t : ℕ) → list-parts-lts.Need-eval-requires (list-parts-claims t) (list-parts-at t) list-parts.Post list-parts-Inv-loop list-parts-μ-loop
 list-parts-eval-requires t c κs =
+    let loop = c .before .before .before .before .before .before .before .loop in
+    let unmarked = c .before .before .before .before .unmarked in
     let args = c .before .before .before .before .before .before .before .before .before .before .before .before .before .before .before .args in
     let pre = c .before .before .before .before .before .before .before .before .before .before .before .before .before .before .before .pre in
-    let loop = c .before .before .before .before .before .before .before .loop in
-    let loop-test = c .before .before .before .before .before .before .loop-test in
-    let unmarked = c .before .before .before .before .unmarked in
-    let f = element-next (args .table .now) (args .literal .now) (args .at) (loop .left) (loop .place) (loop-test .taken) (loop .inv .row) in
+    let f = element-next (args .table .now) (args .literal .now) (args .at) (loop .left) (loop .place) (c .before .before .before .before .before .before .loop-test .taken) (loop .inv .row) in
     let s = rw (sym (unmarked .ensures)) at (f .part .sound) in (let q = rw (sym (unmarked .ensures)) at (f .smaller) in omega (arith, q, pre .0), s)
 
 pub list-parts-enum-known-part : (t : ℕ) → list-parts-lts.Need-enum-known-part (list-parts-claims t) (list-parts-at t) list-parts.Post list-parts-Inv-loop list-parts-μ-loop
 list-parts-enum-known-part t c = search needs
 
 pub list-parts-same-length : (t : ℕ) → list-parts-lts.Need-same-length (list-parts-claims t) (list-parts-at t) list-parts.Post list-parts-Inv-loop list-parts-μ-loop
-list-parts-same-length t c =
-    let args = c .before .before .before .before .before .before .before .before .before .before .before .before .before .before .args in
-    let good = c .before .before .before .before .before .before .before .before .before .before .before .before .before .before .good in
-    let loop = c .before .before .before .before .before .before .loop in
-    let loop-test = c .before .before .before .before .before .loop-test in
-    let unmarked = c .before .before .before .unmarked in
-    let table = args .table .now in
-    let literal = args .literal .now in
-    let bindings = args .binding-cells .now in
-    let texts = args .binding-text .now in
-    let f = element-next table literal (args .at) (loop .left) (loop .place) (loop-test .taken) (loop .inv .row) in
-    let s = rw (sym (unmarked .ensures)) at (f .part .sound) in
-    let k = rw (unmarked .ensures) at (⊎-elim (λ w. came-leaf table literal bindings texts (args .limit) (unmarked .result) s (args .t9) (loop .spent) (loop .cells) (loop .text) (mapped-length (args .t9 .slots) _ 128 (good .1 .1 .1 .1 .1 .1 .1 .1 .0 .1 .1 .0 .1 .0 .1)) (leaf-here table (unmarked .result) (c .before .before .is-leaf .ensures) (w .0 .taken)) (w .1 .ensures) (w .3 .ensures) (w .4) (w .5) (w .6)) (λ w. came-record table literal bindings texts (args .limit) (unmarked .result) s (args .t9) (loop .spent) (loop .cells) (loop .text) (w .3 .ensures) (w .3 .kept .1 .1 .1 .1 .0) (w .3 .kept .1 .1 .1 .1 .1 .0) (w .8) (w .9) (w .10)) (c .before .if1 .came)) in k .kept ∙ loop .inv .kept
+list-parts-same-length t c = (element-came t (c .before)) .kept ∙ c .before .before .before .before .before .before .loop .inv .kept
 
 pub list-parts-same-length-2 : (t : ℕ) → list-parts-lts.Need-same-length-2 (list-parts-claims t) (list-parts-at t) list-parts.Post list-parts-Inv-loop list-parts-μ-loop
-list-parts-same-length-2 t c =
-    let args = c .before .before .before .before .before .before .before .before .before .before .before .before .before .before .args in
-    let good = c .before .before .before .before .before .before .before .before .before .before .before .before .before .before .good in
-    let loop = c .before .before .before .before .before .before .loop in
-    let loop-test = c .before .before .before .before .before .loop-test in
-    let unmarked = c .before .before .before .unmarked in
-    let table = args .table .now in
-    let literal = args .literal .now in
-    let bindings = args .binding-cells .now in
-    let texts = args .binding-text .now in
-    let f = element-next table literal (args .at) (loop .left) (loop .place) (loop-test .taken) (loop .inv .row) in
-    let s = rw (sym (unmarked .ensures)) at (f .part .sound) in
-    let k = rw (unmarked .ensures) at (⊎-elim (λ w. came-leaf table literal bindings texts (args .limit) (unmarked .result) s (args .t9) (loop .spent) (loop .cells) (loop .text) (mapped-length (args .t9 .slots) _ 128 (good .1 .1 .1 .1 .1 .1 .1 .1 .0 .1 .1 .0 .1 .0 .1)) (leaf-here table (unmarked .result) (c .before .before .is-leaf .ensures) (w .0 .taken)) (w .1 .ensures) (w .3 .ensures) (w .4) (w .5) (w .6)) (λ w. came-record table literal bindings texts (args .limit) (unmarked .result) s (args .t9) (loop .spent) (loop .cells) (loop .text) (w .3 .ensures) (w .3 .kept .1 .1 .1 .1 .0) (w .3 .kept .1 .1 .1 .1 .1 .0) (w .8) (w .9) (w .10)) (c .before .if1 .came)) in k .keptx ∙ loop .inv .keptx
+list-parts-same-length-2 t c = (element-came t (c .before)) .keptx ∙ c .before .before .before .before .before .before .loop .inv .keptx
 
 pub list-parts-returns : (t : ℕ) → list-parts-lts.Need-returns (list-parts-claims t) (list-parts-at t) list-parts.Post list-parts-Inv-loop list-parts-μ-loop
 list-parts-returns t c =
-    let args = c .before .before .before .before .before .before .before .before .before .before .before .before .before .before .args in
-    let good = c .before .before .before .before .before .before .before .before .before .before .before .before .before .before .good in
     let loop = c .before .before .before .before .before .before .loop in
     let loop-test = c .before .before .before .before .before .loop-test in
-    let unmarked = c .before .before .before .unmarked in
+    let args = c .before .before .before .before .before .before .before .before .before .before .before .before .before .before .args in
     let table = args .table .now in
     let literal = args .literal .now in
     let bindings = args .binding-cells .now in
     let texts = args .binding-text .now in
     let f = element-next table literal (args .at) (loop .left) (loop .place) (loop-test .taken) (loop .inv .row) in
-    let s = rw (sym (unmarked .ensures)) at (f .part .sound) in
-    let k = rw (unmarked .ensures) at (⊎-elim (λ w. came-leaf table literal bindings texts (args .limit) (unmarked .result) s (args .t9) (loop .spent) (loop .cells) (loop .text) (mapped-length (args .t9 .slots) _ 128 (good .1 .1 .1 .1 .1 .1 .1 .1 .0 .1 .1 .0 .1 .0 .1)) (leaf-here table (unmarked .result) (c .before .before .is-leaf .ensures) (w .0 .taken)) (w .1 .ensures) (w .3 .ensures) (w .4) (w .5) (w .6)) (λ w. came-record table literal bindings texts (args .limit) (unmarked .result) s (args .t9) (loop .spent) (loop .cells) (loop .text) (w .3 .ensures) (w .3 .kept .1 .1 .1 .1 .0) (w .3 .kept .1 .1 .1 .1 .1 .0) (w .8) (w .9) (w .10)) (c .before .if1 .came)) in element-stops table literal (args .limit) (args .first) (args .t9) (loop .left) (loop .place) (loop-test .taken) (f .sound) (loop .ready) (loop .spent) (rooms literal bindings texts (loop .cells) (loop .text)) (k .is) (c .match .keys2) ∙ loop .inv .same
+    element-stops table literal (args .limit) (args .first) (args .t9) (loop .left) (loop .place) (loop-test .taken) (f .sound) (loop .ready) (loop .spent) (rooms literal bindings texts (loop .cells) (loop .text)) ((element-came t (c .before)) .is) (c .match .keys2) ∙ loop .inv .same
 
 pub list-parts-add-element-requires : (t : ℕ) → list-parts-lts.Need-add-element-requires (list-parts-claims t) (list-parts-at t) list-parts.Post list-parts-Inv-loop list-parts-μ-loop
-list-parts-add-element-requires t c κs = omega (arith, c .before .before .before .before .before .before .before .before .before .loop .inv .room, c .before .before .before .before .before .before .before .before .loop-test .taken)
+list-parts-add-element-requires t c κs =
+    let loop = c .before .before .before .before .before .before .before .before .before .loop in
+    let loop-test = c .before .before .before .before .before .before .before .before .loop-test in
+    omega (arith, loop .inv .room, loop-test .taken)
 
 pub list-parts-end-at-requires : (t : ℕ) → list-parts-lts.Need-end-at-requires (list-parts-claims t) (list-parts-at t) list-parts.Post list-parts-Inv-loop list-parts-μ-loop
 list-parts-end-at-requires t c κs =
-    let args = c .before .before .before .before .before .before .before .before .before .before .before .before .before .before .before .before .before .before .before .before .args in
     let loop = c .before .before .before .before .before .before .before .before .before .before .before .before .loop in
     let loop-test = c .before .before .before .before .before .before .before .before .before .before .before .loop-test in
+    let args = c .before .before .before .before .before .before .before .before .before .before .before .before .before .before .before .before .before .before .before .before .args in
     let f = element-next (args .table .now) (args .literal .now) (args .at) (loop .left) (loop .place) (loop-test .taken) (loop .inv .row) in f .part .start
 
 pub list-parts-sub-left : (t : ℕ) → list-parts-lts.Need-sub-left (list-parts-claims t) (list-parts-at t) list-parts.Post list-parts-Inv-loop list-parts-μ-loop
@@ -157,23 +120,19 @@ list-parts-loop-less t c = search needs
 
 pub list-parts-loop-again : (t : ℕ) → list-parts-lts.Need-loop-again (list-parts-claims t) (list-parts-at t) list-parts.Post list-parts-Inv-loop list-parts-μ-loop
 list-parts-loop-again t c =
-    let args = c .before .before .before .before .before .before .before .before .before .before .before .before .before .before .before .before .before .before .before .before .before .args in
-    let good = c .before .before .before .before .before .before .before .before .before .before .before .before .before .before .before .before .before .before .before .before .before .good in
     let loop = c .before .before .before .before .before .before .before .before .before .before .before .before .before .loop in
     let loop-test = c .before .before .before .before .before .before .before .before .before .before .before .before .loop-test in
     let is-marked = c .before .before .before .before .before .before .before .before .before .before .before .is-marked in
-    let unmarked = c .before .before .before .before .before .before .before .before .before .before .unmarked in
-    let is-leaf = c .before .before .before .before .before .before .before .before .before .is-leaf in
     let if1 = c .before .before .before .before .before .before .before .before .if1 in
     let part = c .before .before .before .before .before .before .part in
     let add-element = c .before .before .before .add-element in
+    let args = c .before .before .before .before .before .before .before .before .before .before .before .before .before .before .before .before .before .before .before .before .before .args in
     let table = args .table .now in
     let literal = args .literal .now in
     let bindings = args .binding-cells .now in
     let texts = args .binding-text .now in
     let f = element-next table literal (args .at) (loop .left) (loop .place) (loop-test .taken) (loop .inv .row) in
-    let s = rw (sym (unmarked .ensures)) at (f .part .sound) in
-    let k = rw (unmarked .ensures) at (⊎-elim (λ w. came-leaf table literal bindings texts (args .limit) (unmarked .result) s (args .t9) (loop .spent) (loop .cells) (loop .text) (mapped-length (args .t9 .slots) _ 128 (good .1 .1 .1 .1 .1 .1 .1 .1 .0 .1 .1 .0 .1 .0 .1)) (leaf-here table (unmarked .result) (is-leaf .ensures) (w .0 .taken)) (w .1 .ensures) (w .3 .ensures) (w .4) (w .5) (w .6)) (λ w. came-record table literal bindings texts (args .limit) (unmarked .result) s (args .t9) (loop .spent) (loop .cells) (loop .text) (w .3 .ensures) (w .3 .kept .1 .1 .1 .1 .0) (w .3 .kept .1 .1 .1 .1 .1 .0) (w .8) (w .9) (w .10)) (if1 .came)) in rw (c .end-at .ensures) (record { row = f .rest; kept = add-element .kept .1 .0 ∙ (k .kept ∙ loop .inv .kept); keptx = k .keptx ∙ loop .inv .keptx; room = let n = added-count (partIn (rooms literal bindings texts (if1 .cells) (if1 .text)) (is-marked .result) (part .given .0 .0)) (args .first) (loop .ready) (if1 .cells) (add-element .ensures literal texts (if1 .text)) in omega (arith, n, loop .inv .room, loop-test .taken); same = element-again table literal (args .limit) (args .first) (args .t9) (loop .left) (loop .place) (loop-test .taken) (f .sound) (loop .ready) (loop .spent) (rooms literal bindings texts (loop .cells) (loop .text)) (k .is) (part .given .1) (is-marked .ensures) (add-element .ensures literal texts (if1 .text)) ∙ loop .inv .same })
+    rw (c .end-at .ensures) (record { row = f .rest; kept = add-element .kept .1 .0 ∙ ((element-came t (c .before .before .before .before .before .before .before .before)) .kept ∙ loop .inv .kept); keptx = (element-came t (c .before .before .before .before .before .before .before .before)) .keptx ∙ loop .inv .keptx; room = let n = added-count (partIn (rooms literal bindings texts (if1 .cells) (if1 .text)) (is-marked .result) (part .given .0 .0)) (args .first) (loop .ready) (if1 .cells) (add-element .ensures literal texts (if1 .text)) in omega (arith, n, loop .inv .room, loop-test .taken); same = element-again table literal (args .limit) (args .first) (args .t9) (loop .left) (loop .place) (loop-test .taken) (f .sound) (loop .ready) (loop .spent) (rooms literal bindings texts (loop .cells) (loop .text)) ((element-came t (c .before .before .before .before .before .before .before .before)) .is) (part .given .1) (is-marked .ensures) (add-element .ensures literal texts (if1 .text)) ∙ loop .inv .same })
 
 pub list-parts-whole-list-requires : (t : ℕ) → list-parts-lts.Need-whole-list-requires (list-parts-claims t) (list-parts-at t) list-parts.Post list-parts-Inv-loop list-parts-μ-loop
 list-parts-whole-list-requires t c κs = omega (arith, c .before .loop .inv .room)
@@ -186,9 +145,8 @@ list-parts-same-length-4 t c = c .before .before .loop .inv .keptx
 
 pub list-parts-returns-2 : (t : ℕ) → list-parts-lts.Need-returns-2 (list-parts-claims t) (list-parts-at t) list-parts.Post list-parts-Inv-loop list-parts-μ-loop
 list-parts-returns-2 t c =
-    let args = c .before .before .before .before .before .before .before .before .before .before .args in
     let loop = c .before .before .loop in
+    let args = c .before .before .before .before .before .before .before .before .before .before .args in
     let literal = args .literal .now in
     let bindings = args .binding-cells .now in
-    let texts = args .binding-text .now in
-    ap (λ o. (o, rooms literal bindings texts (loop .cells) (loop .text))) (c .whole-list .ensures) ∙ (sym (no-element (args .table .now) literal (args .limit) (args .first) (args .t9) (loop .left) (loop .place) (omega arith) (loop .ready) (loop .spent) (rooms literal bindings texts (loop .cells) (loop .text))) ∙ loop .inv .same)
+    let texts = args .binding-text .now in ap (λ o. (o, rooms literal bindings texts (loop .cells) (loop .text))) (c .whole-list .ensures) ∙ (sym (no-element (args .table .now) literal (args .limit) (args .first) (args .t9) (loop .left) (loop .place) (omega arith) (loop .ready) (loop .spent) (rooms literal bindings texts (loop .cells) (loop .text))) ∙ loop .inv .same)

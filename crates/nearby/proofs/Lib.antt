@@ -1,0 +1,2 @@
+-- `NearLaws` is for the function's proof.
+pub mod NearLaws

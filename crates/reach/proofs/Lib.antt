@@ -1,0 +1,2 @@
+-- `ReachLaws` is for the functions' proofs.
+pub mod ReachLaws

@@ -1,0 +1,121 @@
+-- Records of one operand or two, and the slots that a record reads which is a literal or a name, or which is two levels at most above those.
+use Prim.Native.Nat.{ℕ, _<_}
+use mathlib.Core.Path.{_≡_}
+use mathlib.Core.Bool.{Bool, true, false, cond}
+use mathlib.Core.List.{List}
+use Rattle.meaning.specs.Expr.{Expr, literal, name, unary, binary, conditional, select, listOf, mapOf, comprehension, call, noneCall, orValue}
+use Rattle.rooms.specs.declared.value.Value.{Value}
+use Rattle.rooms.specs.declared.scope.Scope.{Scope}
+use Rattle.rooms.specs.Scope.{slotOf}
+use Rattle.accepted.specs.Records.{Sound, exprOf}
+use Rattle.leaves.specs.Leaf.{slotIn}
+use Rattle.forms.specs.declared.Shape.{Shape}
+use Rattle.forms.specs.declared.Shape.the-variants as Shape
+use Rattle.forms.specs.Records.{shapeOf}
+use Rattle.sides.specs.declared.Sides.{Sides}
+use Rattle.sides.specs.declared.Sides.the-variants as Sides
+use Rattle.sides.specs.declared.Pair.{Pair}
+use Rattle.sides.specs.declared.Pair.the-variants as Pair
+use Rattle.sides.specs.declared.Quad.{Quad}
+use Rattle.sides.specs.declared.Quad.the-variants as Quad
+
+-- ---- one operand or two
+
+pub data Operands : Type 0 where
+  neither : Operands
+  one : Expr → Operands
+  two : Expr → Expr → Operands
+
+-- of operators, select and the functions of one argument
+abbrev pub operandsOf : Expr → Operands
+operandsOf (literal p x) = neither
+operandsOf (name p n) = neither
+operandsOf (unary p o e) = one e
+operandsOf (binary p o e f) = two e f
+operandsOf (conditional p c e f) = neither
+operandsOf (select p t f e) = one e
+operandsOf (listOf p es) = neither
+operandsOf (mapOf p es) = neither
+operandsOf (comprehension p a i r s c t e) = neither
+operandsOf (call p f e) = one e
+operandsOf (noneCall p) = neither
+operandsOf (orValue p e f) = neither
+
+-- as the code has them, by their places
+abbrev pub sidesSeen : (t x : List ℕ) → Sides → Operands
+sidesSeen t x Sides.Neither = neither
+sidesSeen t x (Sides.One p) = one (exprOf t x p)
+sidesSeen t x (Sides.Two p q) = two (exprOf t x p) (exprOf t x q)
+
+abbrev pub SoundSides : (t x : List ℕ) → Sides → Type 0
+SoundSides t x Sides.Neither = Unit {0}
+SoundSides t x (Sides.One p) = Sound t x p
+SoundSides t x (Sides.Two p q) = Sound t x p × Sound t x q
+
+-- ---- literals and names
+
+abbrev pub leafShape : Shape → Bool
+leafShape Shape.Leaf = true
+leafShape Shape.List = false
+leafShape Shape.Map = false
+leafShape Shape.Comprehension = false
+leafShape Shape.None = false
+leafShape (Shape.Operands f) = false
+
+abbrev pub isLeaf : Expr → Bool
+isLeaf e = leafShape (shapeOf e)
+
+-- ---- the slots of a record whose operands are literals and names
+
+abbrev pub flatSlots : Operands → Pair
+flatSlots neither = Pair.No
+flatSlots (one e) = cond (isLeaf e) (Pair.Slots (slotIn e) 0) Pair.No
+flatSlots (two e f) = cond (isLeaf e) (cond (isLeaf f) (Pair.Slots (slotIn e) (slotIn f)) Pair.No) Pair.No
+
+abbrev pub flatOf : Expr → Pair
+flatOf e = flatSlots (operandsOf e)
+
+-- a literal or a name itself, or such a record
+abbrev pub smallOf : Expr → Pair
+smallOf e = cond (isLeaf e) (Pair.Slots (slotIn e) 0) (flatOf e)
+
+-- ---- and of one whose operands are all of those
+
+abbrev pub beside : Pair → Pair → Quad
+beside Pair.No m = Quad.No
+beside (Pair.Slots a b) Pair.No = Quad.No
+beside (Pair.Slots a b) (Pair.Slots c d) = Quad.Slots a b c d
+
+abbrev pub nearSlots : Operands → Quad
+nearSlots neither = Quad.No
+nearSlots (one e) = beside (smallOf e) (Pair.Slots 0 0)
+nearSlots (two e f) = beside (smallOf e) (smallOf f)
+
+abbrev pub nearOf : Expr → Quad
+nearOf e = nearSlots (operandsOf e)
+
+-- ---- such slots: there are some, each is a name's, a scope has these values in them
+
+abbrev pub IsPair : Pair → Type 0
+IsPair Pair.No = ⊥
+IsPair (Pair.Slots a b) = Unit {0}
+
+abbrev pub PairBelow : Pair → Type 0
+PairBelow Pair.No = Unit {0}
+PairBelow (Pair.Slots a b) = (a < 128) × (b < 128)
+
+abbrev pub PairHolds : Scope → Pair → (v w : Value) → Type 0
+PairHolds s Pair.No v w = ⊥
+PairHolds s (Pair.Slots a b) v w = (slotOf s a ≡ v) × (slotOf s b ≡ w)
+
+abbrev pub IsQuad : Quad → Type 0
+IsQuad Quad.No = ⊥
+IsQuad (Quad.Slots a b c d) = Unit {0}
+
+abbrev pub QuadBelow : Quad → Type 0
+QuadBelow Quad.No = Unit {0}
+QuadBelow (Quad.Slots a b c d) = (a < 128) × (b < 128) × (c < 128) × (d < 128)
+
+abbrev pub QuadHolds : Scope → Quad → (v w x y : Value) → Type 0
+QuadHolds s Quad.No v w x y = ⊥
+QuadHolds s (Quad.Slots a b c d) v w x y = (slotOf s a ≡ v) × (slotOf s b ≡ w) × (slotOf s c ≡ x) × (slotOf s d ≡ y)

@@ -1,0 +1,123 @@
+// Records of one operand or two, and the slots that they read where all that stands below them, at most two levels, are literals and names: such
+// a record can be evaluated with those slots alone.
+ghost use mathlib.Core.Path.{_≡_};
+ghost use Rattle.accepted.specs.Records.{Sound, exprOf};
+ghost use Rattle.forms.specs.Records.{shapeOf};
+ghost use Rattle.sides.specs.Sides.{operandsOf, sidesSeen, SoundSides, flatOf, smallOf, nearOf, beside, PairBelow, QuadBelow};
+use following::Fixed;
+use forms::Shape;
+use forms::shape_at;
+use leaves::is_leaf;
+use leaves::slot_at;
+use outline::end_at;
+use outline::first_operand;
+
+// The places of the operands of an operator, a select or a function of one argument.
+pub enum Sides {
+    Neither,
+    One(usize),
+    Two(usize, usize),
+}
+
+// The slots of two literals or names; of a literal, and where there is no second, the first slot, which is not looked at.
+pub enum Pair {
+    No,
+    Slots(usize, usize),
+}
+
+pub enum Quad {
+    No,
+    Slots(usize, usize, usize, usize),
+}
+
+fn sides_of(table: &[u8], literal: &[u8], at: usize, fixed: Fixed) -> Sides
+    requires { ⌜ Sound (now table) (now literal) at × (shapeOf (exprOf (now table) (now literal) at) ≡ Shape.Operands fixed) ⌝ }
+    ensures { λ r. ⌜ (sidesSeen (now (table .entry)) (now (literal .entry)) r ≡ operandsOf (exprOf (now (table .entry)) (now (literal .entry)) at)) × SoundSides (now (table .entry)) (now (literal .entry)) r ⌝ }
+{
+    match fixed {
+        Fixed::Unary(_) => Sides::One(first_operand(table, at)),
+        Fixed::Binary(_) => {
+            let one = first_operand(table, at);
+            Sides::Two(one, end_at(table, one))
+        }
+        Fixed::Conditional => Sides::Neither,
+        Fixed::Select(_) => Sides::One(first_operand(table, at)),
+        Fixed::Call(_) => Sides::One(first_operand(table, at)),
+        Fixed::OrValue => Sides::Neither,
+    }
+}
+
+pub fn sides_at(table: &[u8], literal: &[u8], at: usize) -> Sides
+    requires { ⌜ Sound (now table) (now literal) at ⌝ }
+    ensures { λ r. ⌜ (sidesSeen (now (table .entry)) (now (literal .entry)) r ≡ operandsOf (exprOf (now (table .entry)) (now (literal .entry)) at)) × SoundSides (now (table .entry)) (now (literal .entry)) r ⌝ }
+{
+    match shape_at(table, literal, at) {
+        Shape::Operands(fixed) => sides_of(table, literal, at, fixed),
+        _ => Sides::Neither,
+    }
+}
+
+// Of a record whose operands are all literals and names.
+pub fn flat_at(table: &[u8], literal: &[u8], at: usize) -> Pair
+    requires { ⌜ Sound (now table) (now literal) at ⌝ }
+    ensures { λ r. ⌜ (r ≡ flatOf (exprOf (now (table .entry)) (now (literal .entry)) at)) × PairBelow r ⌝ }
+{
+    match sides_at(table, literal, at) {
+        Sides::Neither => Pair::No,
+        Sides::One(one) => {
+            if !is_leaf(table, one) {
+                return Pair::No;
+            }
+            Pair::Slots(slot_at(table, literal, one), 0)
+        }
+        Sides::Two(one, two) => {
+            if !is_leaf(table, one) {
+                return Pair::No;
+            }
+            if !is_leaf(table, two) {
+                return Pair::No;
+            }
+            let first = slot_at(table, literal, one);
+            Pair::Slots(first, slot_at(table, literal, two))
+        }
+    }
+}
+
+// Of such a record, or of a literal or a name.
+pub fn small_at(table: &[u8], literal: &[u8], at: usize) -> Pair
+    requires { ⌜ Sound (now table) (now literal) at ⌝ }
+    ensures { λ r. ⌜ (r ≡ smallOf (exprOf (now (table .entry)) (now (literal .entry)) at)) × PairBelow r ⌝ }
+{
+    if is_leaf(table, at) {
+        return Pair::Slots(slot_at(table, literal, at), 0);
+    }
+    flat_at(table, literal, at)
+}
+
+fn both(first: Pair, second: Pair) -> Quad
+    requires { ⌜ PairBelow first × PairBelow second ⌝ }
+    ensures { λ r. ⌜ (r ≡ beside first second) × QuadBelow r ⌝ }
+{
+    match first {
+        Pair::No => Quad::No,
+        Pair::Slots(a, b) => match second {
+            Pair::No => Quad::No,
+            Pair::Slots(c, d) => Quad::Slots(a, b, c, d),
+        },
+    }
+}
+
+// Of a record whose operands are all of those.
+pub fn near_at(table: &[u8], literal: &[u8], at: usize) -> Quad
+    requires { ⌜ Sound (now table) (now literal) at ⌝ }
+    ensures { λ r. ⌜ (r ≡ nearOf (exprOf (now (table .entry)) (now (literal .entry)) at)) × QuadBelow r ⌝ }
+{
+    match sides_at(table, literal, at) {
+        Sides::Neither => Quad::No,
+        Sides::One(one) => both(small_at(table, literal, one), Pair::Slots(0, 0)),
+        Sides::Two(one, two) => {
+            let first = small_at(table, literal, one);
+            both(first, small_at(table, literal, two))
+        }
+    }
+}
