@@ -4,6 +4,7 @@
 pub mod CellWords
 pub mod WordsAgain
 pub mod ReadWords
+pub mod BindingWords
 pub mod SettledValues
 pub mod SettledAnswers
 pub mod FitSlots

@@ -38,11 +38,11 @@ module _ (w : List ℕ) (s : isState w ≡ true) where
   unfolding bindingsIn
   is-bindings = rw s refl
 
-  cell-there : (n : ℕ) → n < 128 → cellIn w n ≡ cellOf (getD w (n * 2) 0) (getD w (n * 2 + 1) 0)
+  pub cell-there : (n : ℕ) → n < 128 → cellIn w n ≡ cellOf (getD w (n * 2) 0) (getD w (n * 2 + 1) 0)
   unfolding cellIn
   cell-there n h = rw (lt-ltb n (length w / 2) (omega (arith, h, state-long))) refl
 
-  says-words : (n : ℕ) → saysAbsent w n ≡ true → (getD w (n * 2) 0 ≡ 16) × (getD w (n * 2 + 1) 0 ≡ 0)
+  pub says-words : (n : ℕ) → saysAbsent w n ≡ true → (getD w (n * 2) 0 ≡ 16) × (getD w (n * 2 + 1) 0 ≡ 0)
   unfolding saysAbsent
   says-words n e = let f = both-true {a = eqb (getD w (n * 2) 0) 16} (both-true {a = hasCell w n} e .1) in (eqb-true (getD w (n * 2) 0) 16 (f .0), eqb-true (getD w (n * 2 + 1) 0) 0 (f .1))
 

@@ -1,6 +1,6 @@
 -- What a call of the interface in C comes to, said of the room of the definition that a state, its cells and its text stand for.
 -- In order: standing for a room; a binding brought in; one that is refused; every call that brings in; an evaluation;
--- the states that calls make.
+-- the states that calls make, each with the definition's room.
 use Prim.Native.Nat.{ℕ, _*_, _/_, _≤_, _<_}
 use mathlib.Core.Path.{_≡_}
 use mathlib.Core.List.{List}
@@ -10,7 +10,7 @@ use Rattle.meaning.specs.Errors.{UnsoundBinding, errorNumber, refusalNumber}
 use Rattle.meaning.specs.Limited as Limited
 use Rattle.meaning.specs.Heads.{Got, got, refused}
 use Rattle.meaning.specs.Bindings as Meaning
-use Rattle.meaning.specs.Bindings.{bring}
+use Rattle.meaning.specs.Bindings.{emptyRoom, bring}
 use Rattle.meaning.specs.Answer as Answers
 use Rattle.meaning.specs.Answer.{Answer, ran, Answered}
 use Rattle.meaning.specs.WellFormed.{AllBytes}
@@ -105,8 +105,9 @@ pub record EvaluatesAs (m : Answered) (lent : Rooms) (said : Said) (answer : Lis
 
 -- ---- states that calls make
 
--- emptied, and then a binding after the other brought in, with 0 returned
-pub data Made : BindingRoom → Type 0 where
-  emptied : (state cells text : List ℕ) → length state ≡ 259 → Made (bindingRoom (empties state .1) cells text)
-  brought : (before : BindingRoom) (name : ℕ) (table literal answer : List ℕ) → Made before → Words (before .state) → AllBytes table → AllBytes literal
-      → brings before name table literal answer .0 .0 ≡ whichDone → Made (brings before name table literal answer .1)
+-- emptied, and then a binding after the other brought in, with 0 returned; and the room that the definition makes by the same bindings
+pub data Made : BindingRoom → Meaning.BindingRoom → Type 0 where
+  emptied : (state cells text : List ℕ) → length state ≡ 259 → Made (bindingRoom (empties state .1) cells text) emptyRoom
+  brought : (before : BindingRoom) (room more : Meaning.BindingRoom) (name : ℕ) (table literal answer : List ℕ) → Made before room
+      → Words (before .state) → AllBytes table → AllBytes literal → brings before name table literal answer .0 .0 ≡ whichDone
+      → bring (length (before .cells) / 2) (length (before .text)) room name table literal ≡ got more → Made (brings before name table literal answer .1) more
