@@ -1,4 +1,4 @@
-// Numbers and texts spelled by hexadecimal digits.
+// Numbers and texts spelled by hexadecimal digits in lower case.
 use check::same;
 use spelling::hexadecimal::put_bytes;
 use spelling::hexadecimal::word_at;
@@ -8,9 +8,25 @@ pub enum Digits {
     Unreadable,
 }
 
+// Neither a decimal digit nor in lower case.
+fn is_upper(byte: u8) -> bool {
+    b'9' < byte && byte < b'a'
+}
+
+fn has_upper(word: &[u8]) -> bool {
+    let mut at = 0;
+    while at < word.len() {
+        if is_upper(word[at]) {
+            return true;
+        }
+        at += 1;
+    }
+    false
+}
+
 // The number that 16 digits spell.
 pub fn number(word: &[u8]) -> Digits {
-    if word.len() != 16 {
+    if word.len() != 16 || has_upper(word) {
         return Digits::Unreadable;
     }
     let mut bytes = [0; 8];
@@ -24,9 +40,9 @@ pub fn number(word: &[u8]) -> Digits {
 pub fn is_whole(word: &[u8], count: usize) -> bool {
     if same(word, b"-") {
         true
-    } else if word.len() % 2 == 0 {
-        word.len() / 2 == count
-    } else {
+    } else if word.len() % 2 == 1 || has_upper(word) {
         false
+    } else {
+        word.len() / 2 == count
     }
 }
