@@ -3,7 +3,7 @@
 ghost use mathlib.Core.Path.{_≡_};
 ghost use Prim.Native.Nat.{_<_};
 ghost use lib.ListN.{length};
-ghost use Rattle.io.specs.Counts.{Counts};
+use lending::bytes_of;
 use libc::STDIN_FILENO;
 use libc::STDOUT_FILENO;
 use lines::LONGEST_LINE;
@@ -46,14 +46,6 @@ fn say(words: &[u8]) {
     io::write_all(STDOUT_FILENO, words);
 }
 
-// So many bytes, or as many as there are.
-fn at_most(bytes: &[u8], count: usize) -> usize
-    ensures { λ r. ⌜ Counts r (now (bytes .entry)) ⌝ }
-{
-    let most = bytes.len();
-    if most < count { most } else { count }
-}
-
 fn answer(literal: &[u8], table: &[u8]) {
     let mut cells = cell_room();
     let mut text = text_room();
@@ -70,7 +62,7 @@ fn answer(literal: &[u8], table: &[u8]) {
         MOST_STEPS,
     );
     let length = put_answer(literal, &[], &[], &cells, &text, answer, &mut line);
-    let end = at_most(&line, length);
+    let end = bytes_of(&line, length);
     say(&line[..end]);
     say(b"\n");
 }

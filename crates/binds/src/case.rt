@@ -1,16 +1,17 @@
 // A room and what is done to it, deed by deed.
-use crate::lent::fill_bytes;
-use crate::lent::fill_words;
-use crate::lent::put_bytes;
 use crate::lent::put_words;
-use crate::lent::some_bytes;
 use crate::lent::some_words;
-use crate::lent::word_of;
+use crate::line::number;
 use crate::say;
-use crate::spelled;
 use cells::read_cell;
+use lending::bytes_of;
+use lending::fill;
+use pieces::put_word;
 use rooms::scope::Scope;
 use soundness::Bindings;
+use spelling::hexadecimal::put_bytes;
+use spelling::hexadecimal::put_pieces;
+use spelling::hexadecimal::word_at;
 
 // How much is lent, and the bindings in it.
 pub struct Case {
@@ -44,9 +45,8 @@ fn lend(
     bindings: Bindings,
 ) -> Case {
     let lent = some_words(cells, words);
-    let lent_bytes = some_bytes(text, bytes);
-    fill_words(&mut cells[..lent]);
-    fill_bytes(&mut text[..lent_bytes]);
+    let lent_bytes = bytes_of(text, bytes);
+    fill(&mut cells[..lent], &mut text[..lent_bytes]);
     Case {
         words: lent,
         bytes: lent_bytes,
@@ -55,20 +55,20 @@ fn lend(
 }
 
 fn put(cells: &mut [u64], from: usize, digits: &[u8], room: &mut [u8]) {
-    let size = spelled::bytes(digits, room);
+    let size = put_pieces(digits, room);
     put_words(cells, from, &room[..size]);
 }
 
 fn put_text(text: &mut [u8], from: usize, digits: &[u8], room: &mut [u8]) {
-    let size = spelled::bytes(digits, room);
-    put_bytes(text, from, &room[..size]);
+    let size = put_pieces(digits, room);
+    put_word(text, from, &room[..size]);
 }
 
 // The word of sixteen digits.
 fn word(digits: &[u8]) -> u64 {
     let mut bytes = [0; 8];
-    spelled::bytes(digits, &mut bytes);
-    word_of(&bytes, 0)
+    put_bytes(digits, &mut bytes);
+    word_at(&bytes, 0)
 }
 
 // The slot that a cell with these words makes.
@@ -153,9 +153,9 @@ fn answered(
     case: Case,
 ) -> Case {
     let words = some_words(cells, case.words);
-    let bytes = some_bytes(text, case.bytes);
-    let size = spelled::bytes(table, left);
-    let length = spelled::bytes(literal, right);
+    let bytes = bytes_of(text, case.bytes);
+    let size = put_pieces(table, left);
+    let length = put_pieces(literal, right);
     let after = call(
         deed,
         name,
@@ -180,22 +180,19 @@ pub fn act(
     right: &mut [u8],
     case: Case,
 ) -> Case {
-    let number = spelled::number(first);
+    let count = number(first);
     match deed {
-        b'l' => lend(cells, text, number, spelled::number(second), case.bindings),
+        b'l' => lend(cells, text, count, number(second), case.bindings),
         b'w' => {
-            put(cells, number, second, left);
+            put(cells, count, second, left);
             case
         }
         b't' => {
-            put_text(text, number, second, left);
+            put_text(text, count, second, left);
             case
         }
-        b's' => with(case, with_slot(case.bindings, number, second, third)),
-        b'u' => with(
-            case,
-            with_counts(case.bindings, number, spelled::number(second)),
-        ),
-        _ => answered(deed, number, second, third, cells, text, left, right, case),
+        b's' => with(case, with_slot(case.bindings, count, second, third)),
+        b'u' => with(case, with_counts(case.bindings, count, number(second))),
+        _ => answered(deed, count, second, third, cells, text, left, right, case),
     }
 }

@@ -1,21 +1,8 @@
-// Parts of a line.
+// Parts of a line, and the numbers in them.
 ghost use Prim.Native.Nat.{_≤_};
 ghost use lib.ListN.{length};
-
-// Where the first `mark` at `from` or after it stands, or the end.
-pub fn find(part: &[u8], from: usize, mark: u8) -> usize
-    requires { ⌜ from ≤ length (now part) ⌝ }
-    ensures { λ r. ⌜ (from ≤ r) × (r ≤ length (now (part .entry))) ⌝ }
-{
-    let mut at = from;
-    while at < part.len() {
-        if part[at] == mark {
-            return at;
-        }
-        at += 1;
-    }
-    at
-}
+use spelling::decimal::Number;
+use spelling::decimal::number_of;
 
 // Behind a space, or the end where there is none.
 pub fn after(part: &[u8], end: usize) -> usize
@@ -28,4 +15,12 @@ pub fn after(part: &[u8], end: usize) -> usize
 // The first byte, or 0 where there is none.
 pub fn first(part: &[u8]) -> u8 {
     if 0 < part.len() { part[0] } else { 0 }
+}
+
+// The number that a word spells, or 0 where it spells none.
+pub fn number(word: &[u8]) -> usize {
+    let Number::Is(count) = number_of(word) else {
+        return 0;
+    };
+    count
 }

@@ -5,13 +5,13 @@ ghost use Prim.Native.Nat.{_≤_};
 ghost use lib.ListN.{length};
 use crate::case::Case;
 use libc::STDIN_FILENO;
+use spelling::find;
 
 mod case;
 mod digest;
 mod lent;
 mod line;
 mod say;
-mod spelled;
 
 // Bytes that are read: the longest list, and one byte more, by which a longer one is seen.
 const ROOM: usize = 524288;
@@ -53,10 +53,10 @@ fn deed_end(part: &[u8], from: usize) -> usize
     requires { ⌜ from ≤ length (now part) ⌝ }
     ensures { λ r. ⌜ (from ≤ r) × (r ≤ length (now (part .entry))) ⌝ }
 {
-    let first = line::after(part, line::find(part, from, b' '));
-    let second = line::after(part, line::find(part, first, b' '));
-    let third = line::after(part, line::find(part, second, b' '));
-    line::find(part, third, b' ')
+    let first = line::after(part, find(part, from, b' '));
+    let second = line::after(part, find(part, first, b' '));
+    let third = line::after(part, find(part, second, b' '));
+    find(part, third, b' ')
 }
 
 fn deed(
@@ -67,10 +67,10 @@ fn deed(
     right: &mut [u8],
     case: Case,
 ) -> Case {
-    let first = line::after(part, line::find(part, 0, b' '));
-    let first_end = line::find(part, first, b' ');
+    let first = line::after(part, find(part, 0, b' '));
+    let first_end = find(part, first, b' ');
     let second = line::after(part, first_end);
-    let second_end = line::find(part, second, b' ');
+    let second_end = find(part, second, b' ');
     let third = line::after(part, second_end);
     case::act(
         line::first(part),
@@ -107,7 +107,7 @@ fn answer_all(
     let mut cases = 0;
     let mut from = 0;
     while from < list.len() {
-        let end = line::find(list, from, b'\n');
+        let end = find(list, from, b'\n');
         cases += 1;
         say::number(b"", cases);
         answer_line(&list[from..end], cells, text, left, right);

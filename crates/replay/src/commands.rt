@@ -1,21 +1,21 @@
 // What a line does, and what it says.
 use crate::line::is_over;
 use crate::line::word_from;
-use crate::memory::bytes_of;
-use crate::memory::fill_bytes;
-use crate::memory::fill_words;
-use crate::memory::is_kept;
-use crate::memory::words_of;
 use crate::spelled::Spelled;
 use crate::spelled::bytes_from;
 use crate::spelled::number_from;
+use kept::is_kept;
+use lending::bytes_of;
+use lending::fill;
+use lending::words_of;
 use libc::STDOUT_FILENO;
 use lines::put_answer;
 use soundness::Bindings;
 use text::bytes::equal;
 
-// The lengths of a binding room, and what is bound in it.
-pub struct Session {
+// What stands between two lines: how many there were, and the binding room, its lengths and what is bound in it.
+pub struct Bench {
+    pub lines: usize,
     pub cells: usize,
     pub bytes: usize,
     pub bindings: Bindings,
@@ -37,10 +37,12 @@ fn say_number(number: usize) {
     io::print_decimal(STDOUT_FILENO, number as u64);
 }
 
-pub fn say_bad(number: usize) {
+// The line at hand is none that the program knows.
+pub fn bad(bench: Bench) -> Bench {
     say(b"bad line ");
-    say_number(number);
+    say_number(bench.lines);
     say(b"\n");
+    bench
 }
 
 fn command_of(word: &[u8]) -> Command {
@@ -59,21 +61,28 @@ fn command_of(word: &[u8]) -> Command {
     Command::Other
 }
 
+fn with(bench: Bench, bindings: Bindings) -> Bench {
+    Bench {
+        lines: bench.lines,
+        cells: bench.cells,
+        bytes: bench.bytes,
+        bindings,
+    }
+}
+
 // `room CELLS TEXT`.
-fn room(line: &[u8], from: usize, number: usize, session: Session) -> Session {
+fn room(line: &[u8], from: usize, bench: Bench) -> Bench {
     let Spelled::Is(cells, after_cells) = number_from(line, from) else {
-        say_bad(number);
-        return session;
+        return bad(bench);
     };
     let Spelled::Is(bytes, end) = number_from(line, after_cells) else {
-        say_bad(number);
-        return session;
+        return bad(bench);
     };
     if !is_over(line, end) {
-        say_bad(number);
-        return session;
+        return bad(bench);
     }
-    Session {
+    Bench {
+        lines: bench.lines,
         cells,
         bytes,
         bindings: bindings::empty(),
@@ -81,16 +90,11 @@ fn room(line: &[u8], from: usize, number: usize, session: Session) -> Session {
 }
 
 // `empty`.
-fn empty(line: &[u8], from: usize, number: usize, session: Session) -> Session {
+fn empty(line: &[u8], from: usize, bench: Bench) -> Bench {
     if !is_over(line, from) {
-        say_bad(number);
-        return session;
+        return bad(bench);
     }
-    Session {
-        cells: session.cells,
-        bytes: session.bytes,
-        bindings: bindings::empty(),
-    }
+    with(bench, bindings::empty())
 }
 
 fn say_brought(answer: admission::Answer) {
@@ -114,13 +118,13 @@ fn bring(
     binding_cells: &mut [u64],
     binding_text: &mut [u8],
     name: usize,
-    session: Session,
-) -> Session {
+    bench: Bench,
+) -> Bench {
     let literal_end = bytes_of(literal, literal_count);
     let table_end = bytes_of(table, table_count);
-    let words = words_of(binding_cells, session.cells);
-    let bytes = bytes_of(binding_text, session.bytes);
-    let before = session.bindings;
+    let words = words_of(binding_cells, bench.cells);
+    let bytes = bytes_of(binding_text, bench.bytes);
+    let before = bench.bindings;
     let brought = bindings::bring_in(
         &mut binding_cells[..words],
         &mut binding_text[..bytes],
@@ -131,40 +135,30 @@ fn bring(
     );
     let answer = brought.answer;
     say_brought(answer);
-    let after = brought.bindings;
-    Session {
-        cells: session.cells,
-        bytes: session.bytes,
-        bindings: after,
-    }
+    with(bench, brought.bindings)
 }
 
 // `bind NAME TEXTHEX TABLEHEX`.
 fn bind(
     line: &[u8],
     from: usize,
-    number: usize,
     literal: &mut [u8],
     table: &mut [u8],
     binding_cells: &mut [u64],
     binding_text: &mut [u8],
-    session: Session,
-) -> Session {
+    bench: Bench,
+) -> Bench {
     let Spelled::Is(name, after_name) = number_from(line, from) else {
-        say_bad(number);
-        return session;
+        return bad(bench);
     };
     let Spelled::Is(literal_count, after_literal) = bytes_from(line, after_name, literal) else {
-        say_bad(number);
-        return session;
+        return bad(bench);
     };
     let Spelled::Is(table_count, end) = bytes_from(line, after_literal, table) else {
-        say_bad(number);
-        return session;
+        return bad(bench);
     };
     if !is_over(line, end) {
-        say_bad(number);
-        return session;
+        return bad(bench);
     }
     bring(
         literal,
@@ -174,7 +168,7 @@ fn bind(
         binding_cells,
         binding_text,
         name,
-        session,
+        bench,
     )
 }
 
@@ -190,8 +184,7 @@ fn evaluate(
     steps: usize,
     bindings: Bindings,
 ) {
-    fill_words(cells);
-    fill_bytes(text);
+    fill(cells, text);
     let answer = evaluator::evaluate(
         table,
         literal,
@@ -271,16 +264,16 @@ fn evaluate_asked(
     cells: &mut [u64],
     text: &mut [u8],
     out: &mut [u8],
-    session: Session,
+    bench: Bench,
     lent: Lent,
 ) {
     let literal_end = bytes_of(literal, lent.literal);
     let table_end = bytes_of(table, lent.table);
-    let binding_words = words_of(binding_cells, session.cells);
-    let binding_bytes = bytes_of(binding_text, session.bytes);
+    let binding_words = words_of(binding_cells, bench.cells);
+    let binding_bytes = bytes_of(binding_text, bench.bytes);
     let words = words_of(cells, lent.cells);
     let bytes = bytes_of(text, lent.bytes);
-    let bindings = session.bindings;
+    let bindings = bench.bindings;
     evaluate(
         &literal[..literal_end],
         &table[..table_end],
@@ -297,7 +290,6 @@ fn evaluate_asked(
 fn eval(
     line: &[u8],
     from: usize,
-    number: usize,
     literal: &mut [u8],
     table: &mut [u8],
     binding_cells: &[u64],
@@ -305,11 +297,10 @@ fn eval(
     cells: &mut [u64],
     text: &mut [u8],
     out: &mut [u8],
-    session: Session,
-) {
+    bench: Bench,
+) -> Bench {
     let Asked::For(lent) = asked_from(line, from, literal, table) else {
-        say_bad(number);
-        return;
+        return bad(bench);
     };
     evaluate_asked(
         literal,
@@ -319,15 +310,15 @@ fn eval(
         cells,
         text,
         out,
-        session,
+        bench,
         lent,
     );
+    bench
 }
 
-// Answers the line with this number; the session afterwards.
+// Does what the line says, whose number is how many lines there were.
 pub fn answer_line(
     line: &[u8],
-    number: usize,
     literal: &mut [u8],
     table: &mut [u8],
     binding_cells: &mut [u64],
@@ -335,43 +326,27 @@ pub fn answer_line(
     cells: &mut [u64],
     text: &mut [u8],
     out: &mut [u8],
-    session: Session,
-) -> Session {
+    bench: Bench,
+) -> Bench {
     let word = word_from(line, 0);
     let start = word.start;
-    let end = word.end;
-    match command_of(&line[start..end]) {
-        Command::Room => room(line, end, number, session),
-        Command::Bind => bind(
+    let at = word.end;
+    match command_of(&line[start..at]) {
+        Command::Room => room(line, at, bench),
+        Command::Empty => empty(line, at, bench),
+        Command::Bind => bind(line, at, literal, table, binding_cells, binding_text, bench),
+        Command::Eval => eval(
             line,
-            end,
-            number,
+            at,
             literal,
             table,
             binding_cells,
             binding_text,
-            session,
+            cells,
+            text,
+            out,
+            bench,
         ),
-        Command::Empty => empty(line, end, number, session),
-        Command::Eval => {
-            eval(
-                line,
-                end,
-                number,
-                literal,
-                table,
-                binding_cells,
-                binding_text,
-                cells,
-                text,
-                out,
-                session,
-            );
-            session
-        }
-        Command::Other => {
-            say_bad(number);
-            session
-        }
+        Command::Other => bad(bench),
     }
 }

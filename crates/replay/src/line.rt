@@ -1,6 +1,7 @@
 // The words of a line, with spaces between.
 ghost use Prim.Native.Nat.{_≤_};
 ghost use lib.ListN.{length};
+use spelling::find;
 
 // Where a word starts and ends; both the line's end where there is none.
 pub struct Word {
@@ -8,23 +9,9 @@ pub struct Word {
     pub end: usize,
 }
 
-// The first place from one on that holds a byte; the end where there is none.
-pub fn find(bytes: &[u8], from: usize, byte: u8) -> usize
-    ensures { λ r. ⌜ (r ≤ length (now (bytes .entry))) × (from ≤ length (now (bytes .entry)) → from ≤ r) ⌝ }
-{
-    let mut at = from;
-    while at < bytes.len() {
-        if bytes[at] == byte {
-            return at;
-        }
-        at += 1;
-    }
-    bytes.len()
-}
-
 // The first place from one on that holds no space; the end where there is none.
 fn behind_spaces(line: &[u8], from: usize) -> usize
-    ensures { λ r. ⌜ (r ≤ length (now (line .entry))) × (from ≤ length (now (line .entry)) → from ≤ r) ⌝ }
+    ensures { λ r. ⌜ r ≤ length (now (line .entry)) ⌝ }
 {
     let mut at = from;
     while at < line.len() {

@@ -1,16 +1,16 @@
 // Binds and evaluates by lines from standard input, and writes a line for each `bind` and each `eval`.
 ghost use mathlib.Core.Path.{_≡_};
 ghost use lib.ListN.{length};
-use crate::commands::Session;
+use crate::commands::Bench;
 use crate::commands::answer_line;
-use crate::commands::say_bad;
-use crate::line::find;
+use crate::commands::bad;
 use libc::STDIN_FILENO;
 use lines::LONGEST_LINE;
+use pieces::put_word;
+use spelling::find;
 
 mod commands;
 mod line;
-mod memory;
 mod spelled;
 
 // So much is read at once.
@@ -70,18 +70,17 @@ fn answer_room() -> [u8; LONGEST_LINE]
     [0; LONGEST_LINE]
 }
 
-// Between two parts of the input: how much of the next line is there, and how many lines there were.
+// Between two parts of the input: how much of the next line is there, and what stands from the lines before.
 struct State {
     length: usize,
-    lines: usize,
-    session: Session,
+    bench: Bench,
 }
 
 fn at_first() -> State {
     State {
         length: 0,
-        lines: 0,
-        session: Session {
+        bench: Bench {
+            lines: 0,
             cells: CELLS_AT_FIRST,
             bytes: BYTES_AT_FIRST,
             bindings: bindings::empty(),
@@ -89,23 +88,18 @@ fn at_first() -> State {
     }
 }
 
-// A part of a line behind what is there of it, as far as it fits.
-fn append(line: &mut [u8], length: usize, part: &[u8]) -> usize {
-    let mut at = length;
-    let mut index = 0;
-    while index < part.len() {
-        if line.len() <= at {
-            return line.len();
-        }
-        line[at] = part[index];
-        at += 1;
-        index += 1;
-    }
-    at
-}
-
 fn one_more(count: usize) -> usize {
     if count < MOST { count + 1 } else { count }
+}
+
+fn counted(bench: Bench) -> Bench {
+    let bindings = bench.bindings;
+    Bench {
+        lines: one_more(bench.lines),
+        cells: bench.cells,
+        bytes: bench.bytes,
+        bindings,
+    }
 }
 
 // The line is there up to its end.
@@ -120,20 +114,14 @@ fn take_line(
     out: &mut [u8],
     state: State,
 ) -> State {
-    let number = one_more(state.lines);
     let length = state.length;
-    let before = state.session;
+    let before = counted(state.bench);
     if line.len() <= length {
-        say_bad(number);
-        return State {
-            length: 0,
-            lines: number,
-            session: before,
-        };
+        let bench = bad(before);
+        return State { length: 0, bench };
     }
-    let session = answer_line(
+    let bench = answer_line(
         &line[..length],
-        number,
         literal,
         table,
         binding_cells,
@@ -143,19 +131,15 @@ fn take_line(
         out,
         before,
     );
-    State {
-        length: 0,
-        lines: number,
-        session,
-    }
+    State { length: 0, bench }
 }
 
+// A part of a line behind what is there of it, as far as it fits.
 fn with_part(line: &mut [u8], part: &[u8], state: State) -> State {
-    let session = state.session;
+    let bench = state.bench;
     State {
-        length: append(line, state.length, part),
-        lines: state.lines,
-        session,
+        length: put_word(line, state.length, part),
+        bench,
     }
 }
 

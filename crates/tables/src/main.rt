@@ -4,10 +4,9 @@ ghost use mathlib.Core.Path.{_≡_};
 ghost use lib.ListN.{length};
 use libc::STDIN_FILENO;
 use libc::STDOUT_FILENO;
+use spelling::find;
+use spelling::hexadecimal::put_pieces;
 use table::Checked;
-
-mod line;
-mod spelled;
 
 // Bytes that are read: the longest list, and one byte more, by which a longer one is seen. A table and a text have as much room.
 const ROOM: usize = 524288;
@@ -40,14 +39,14 @@ fn answer(records: &[u8], literals: &[u8]) {
 
 fn answer_line(line: &[u8], number: usize, records: &mut [u8], literals: &mut [u8]) {
     say_number(b"", number);
-    let middle = line::find(line, 0, b' ');
+    let middle = find(line, 0, b' ');
     if middle == line.len() {
         say(b" unreadable\n");
         return;
     }
     let after = middle + 1;
-    let size = spelled::bytes(&line[0..middle], records);
-    let length = spelled::bytes(&line[after..], literals);
+    let size = put_pieces(&line[0..middle], records);
+    let length = put_pieces(&line[after..], literals);
     say_number(b" ", size);
     say_number(b" ", length);
     answer(&records[..size], &literals[..length]);
@@ -58,7 +57,7 @@ fn answer_all(list: &[u8], records: &mut [u8], literals: &mut [u8]) -> usize {
     let mut cases = 0;
     let mut from = 0;
     while from < list.len() {
-        let end = line::find(list, from, b'\n');
+        let end = find(list, from, b'\n');
         cases += 1;
         answer_line(&list[from..end], cases, records, literals);
         from = end + 1;

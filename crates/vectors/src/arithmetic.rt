@@ -73,14 +73,30 @@ fn double(operator: u8, x: Double, y: Double) -> Answer {
     }
 }
 
-// `int -`, `double -`, and `double bits`, which answers the bits that came.
+fn one_int(name: &[u8], z: i64) -> Answer {
+    if same(name, b"-") {
+        of_int(signed::neg(z))
+    } else {
+        Answer::Unreadable
+    }
+}
+
+// `bits` answers the bits that came.
+fn one_double(name: &[u8], x: Double) -> Answer {
+    if same(name, b"-") {
+        of_double(floats::neg(x))
+    } else if same(name, b"bits") {
+        of_double(x)
+    } else {
+        Answer::Unreadable
+    }
+}
+
 fn one(kind: &[u8], name: &[u8], bits: u64) -> Answer {
-    if same(kind, b"int") && same(name, b"-") {
-        of_int(signed::neg(int_of(bits)))
-    } else if same(kind, b"double") && same(name, b"-") {
-        of_double(floats::neg(numbers::double::from_bits(bits)))
-    } else if same(kind, b"double") && same(name, b"bits") {
-        of_double(numbers::double::from_bits(bits))
+    if same(kind, b"int") {
+        one_int(name, int_of(bits))
+    } else if same(kind, b"double") {
+        one_double(name, numbers::double::from_bits(bits))
     } else {
         Answer::Unreadable
     }

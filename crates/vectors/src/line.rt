@@ -1,21 +1,7 @@
 // A line as words, with one space between two of them.
 ghost use Prim.Native.Nat.{_≤_};
 ghost use lib.ListN.{length};
-
-// Where the first `mark` at `from` or after it stands, or the end.
-pub fn find(part: &[u8], from: usize, mark: u8) -> usize
-    requires { ⌜ from ≤ length (now part) ⌝ }
-    ensures { λ r. ⌜ (from ≤ r) × (r ≤ length (now (part .entry))) ⌝ }
-{
-    let mut at = from;
-    while at < part.len() {
-        if part[at] == mark {
-            return at;
-        }
-        at += 1;
-    }
-    at
-}
+use spelling::find;
 
 // Where the word with this index begins, counted from 0, or the end.
 fn start(line: &[u8], index: usize) -> usize

@@ -6,6 +6,7 @@ use crate::answer::Answer;
 use check::same;
 use libc::STDIN_FILENO;
 use libc::STDOUT_FILENO;
+use spelling::find;
 
 mod answer;
 mod arithmetic;
@@ -50,7 +51,7 @@ fn answer_all(list: &[u8]) -> u64 {
     let mut cases = 0;
     let mut from = 0;
     while from < list.len() {
-        let end = line::find(list, from, b'\n');
+        let end = find(list, from, b'\n');
         answer_line(&list[from..end]);
         from = end + 1;
         cases += 1;

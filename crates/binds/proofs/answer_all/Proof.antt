@@ -1,16 +1,10 @@
+-- `answer_all` is safe and ends: there are no more cases than bytes. Assumes nothing.
 use borrow.Author.Needs.{needs}
-use mathlib.Core.Path.{_≡_, refl, _∙_}
-use Prim.Native.Nat.{_+_, _-_, _*_, _≤_}
-use native.Mathlib.Omega.{arith}
+use mathlib.Core.Path.{_≡_}
+use Prim.Native.Nat.{_-_, _≤_}
 use lib.ListN.{length}
 use Rattle.binds.proofs.answer_all.Statement.{statement}
 use Rattle.binds.proofs.answer_all.Tie as tie
-use Rattle.binds.proofs.answer_all.Reads as reads
-use Rattle.binds.proofs.answer_all.Lts as lts
-use Rattle.binds.proofs.answer_line.Reads as answer-line-reads
-use Rattle.binds.proofs.line.find.Reads as find-reads
-use Rattle.binds.proofs.say.words.Reads as words-reads
-use Rattle.binds.proofs.say.number.Reads as number-reads
 
 abbrev Inv-loop : tie.InvT-loop
 Inv-loop list cells₀ text₀ left₀ right₀ cases₀ from₀ t9 t10 cells text left right cases from = (cases ≤ from) × (length cells ≡ length cells₀) × (length text ≡ length text₀) × (length left ≡ length left₀) × (length right ≡ length right₀)
@@ -18,79 +12,60 @@ Inv-loop list cells₀ text₀ left₀ right₀ cases₀ from₀ t9 t10 cells te
 abbrev μ-loop : tie.MeasureT-loop
 μ-loop list cells₀ text₀ left₀ right₀ cases₀ from₀ t9 t10 cells text left right cases from = length list - from
 
--- src/main.rt:353:5
 loop-holds : tie.Need-loop-holds Inv-loop μ-loop
 loop-holds c = search needs
 
--- src/main.rt:354:13
 find-requires : tie.Need-find-requires Inv-loop μ-loop
 find-requires c κs = search needs
 
--- src/main.rt:355:9
 add-cases : tie.Need-add-cases Inv-loop μ-loop
 add-cases c = search needs
 
--- src/main.rt:356:20
 slice-aggregate-number : tie.Need-slice-aggregate-number Inv-loop μ-loop
 slice-aggregate-number c = search needs
 
--- src/main.rt:356:9
 number-requires : tie.Need-number-requires Inv-loop μ-loop
 number-requires c κs = search needs
 
--- src/main.rt:357:21
 sub-answer-line : tie.Need-sub-answer-line Inv-loop μ-loop
 sub-answer-line c = search needs
 
--- src/main.rt:357:21
 part-answer-line-start : tie.Need-part-answer-line-start Inv-loop μ-loop
 part-answer-line-start c = search needs
 
--- src/main.rt:357:21
 part-answer-line-end : tie.Need-part-answer-line-end Inv-loop μ-loop
 part-answer-line-end c = search needs
 
--- src/main.rt:357:9
 answer-line-requires : tie.Need-answer-line-requires Inv-loop μ-loop
 answer-line-requires c κs = search needs
 
--- src/main.rt:358:13
 slice-aggregate-words : tie.Need-slice-aggregate-words Inv-loop μ-loop
 slice-aggregate-words c = search needs
 
--- src/main.rt:358:9
 words-requires : tie.Need-words-requires Inv-loop μ-loop
 words-requires c κs = search needs
 
--- src/main.rt:359:16
 add-from : tie.Need-add-from Inv-loop μ-loop
 add-from c = search needs
 
--- src/main.rt:353:5
 loop-less : tie.Need-loop-less Inv-loop μ-loop
 loop-less c = search needs
 
--- src/main.rt:353:5
 loop-again : tie.Need-loop-again Inv-loop μ-loop
 loop-again c = search needs
 
--- src/main.rt:344:1
 same-length : tie.Need-same-length Inv-loop μ-loop
 same-length c = search needs
 
--- src/main.rt:344:1
 same-length-2 : tie.Need-same-length-2 Inv-loop μ-loop
 same-length-2 c = search needs
 
--- src/main.rt:344:1
 same-length-3 : tie.Need-same-length-3 Inv-loop μ-loop
 same-length-3 c = search needs
 
--- src/main.rt:344:1
 same-length-4 : tie.Need-same-length-4 Inv-loop μ-loop
 same-length-4 c = search needs
 
--- src/main.rt:344:1
 returns : tie.Need-returns Inv-loop μ-loop
 returns c = search needs
 

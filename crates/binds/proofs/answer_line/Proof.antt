@@ -1,15 +1,11 @@
+-- `answer_line` is safe and ends: every deed starts behind the one before. Assumes nothing.
 use borrow.Author.Needs.{needs}
-use mathlib.Core.Path.{_≡_, refl, _∙_}
-use Prim.Native.Nat.{_+_, _-_, _*_, _≤_}
+use mathlib.Core.Path.{_≡_}
+use Prim.Native.Nat.{_-_}
 use native.Mathlib.Omega.{arith}
 use lib.ListN.{length}
 use Rattle.binds.proofs.answer_line.Statement.{statement}
 use Rattle.binds.proofs.answer_line.Tie as tie
-use Rattle.binds.proofs.answer_line.Reads as reads
-use Rattle.binds.proofs.answer_line.Lts as lts
-use Rattle.binds.proofs.case.fresh.Reads as fresh-reads
-use Rattle.binds.proofs.deed.Reads as deed-reads
-use Rattle.binds.proofs.deed_end.Reads as deed-end-reads
 
 abbrev Inv-loop : tie.InvT-loop
 Inv-loop part cells₀ text₀ left₀ right₀ case₀ from₀ cells text left right case from = (length cells ≡ length cells₀) × (length text ≡ length text₀) × (length left ≡ length left₀) × (length right ≡ length right₀)

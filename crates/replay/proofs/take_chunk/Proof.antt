@@ -23,10 +23,10 @@ find-requires : tie.Need-find-requires Inv-loop μ-loop
 find-requires c κs = search needs
 
 sub-with-part : tie.Need-sub-with-part Inv-loop μ-loop
-sub-with-part c = omega (arith, c .before .find .ensures .1 (omega arith))
+sub-with-part c = search needs
 
 part-with-part-start : tie.Need-part-with-part-start Inv-loop μ-loop
-part-with-part-start c = omega (arith, c .before .find .ensures .1 (omega arith))
+part-with-part-start c = search needs
 
 part-with-part-end : tie.Need-part-with-part-end Inv-loop μ-loop
 part-with-part-end c = search needs
@@ -67,13 +67,13 @@ take-line-requires c κs = search needs
 add-from : tie.Need-add-from Inv-loop μ-loop
 add-from c =
     let found = c .before .before .before .before .before .before .before .before .before .before .before .before .before .before .before .before .before .before .before .before .before .before .before .before .before .before .before .before .before in
-    omega (arith, found .find .ensures .0, found .before .before .before .before .before .before .before .before .before .before .before .before .good)
+    omega (arith, found .find .ensures .1, found .before .before .before .before .before .before .before .before .before .before .before .before .good)
 
 loop-less : tie.Need-loop-less Inv-loop μ-loop
 loop-less c =
     let found = c .before .before .before .before .before .before .before .before .before .before .before .before .before .before .before .before .before .before .before .before .before .before .before .before .before .before .before .before .before in
     let inside = found .before .loop-test .taken in
-    omega (arith, inside, found .find .ensures .1 (omega (arith, inside)))
+    omega (arith, inside, found .find .ensures .1)
 
 loop-again : tie.Need-loop-again Inv-loop μ-loop
 loop-again c =

@@ -5,11 +5,11 @@ use lib.ListN.{length-take}
 use Rattle.replay.proofs.take_line.Statement.{statement}
 use Rattle.replay.proofs.take_line.Tie as tie
 
-one-more-requires : tie.Need-one-more-requires
-one-more-requires c κs = search needs
+counted-requires : tie.Need-counted-requires
+counted-requires c κs = search needs
 
-say-bad-requires : tie.Need-say-bad-requires
-say-bad-requires c κs = search needs
+bad-requires : tie.Need-bad-requires
+bad-requires c κs = search needs
 
 returns : tie.Need-returns
 returns c = search needs
@@ -48,8 +48,8 @@ pub take-line-spec : {M : Type 1} → statement M
 take-line-spec =
     tie.close
     (tie.spec
-    one-more-requires
-    say-bad-requires
+    counted-requires
+    bad-requires
     returns
     slice-aggregate-answer-line
     answer-line-requires

@@ -1,15 +1,12 @@
+-- `lent::some_words` meets its contract. Assumes nothing.
 use native.Mathlib.Omega.{arith}
 use lib.ListN.{length-take}
 use Rattle.binds.proofs.lent.some_words.Statement.{statement}
 use Rattle.binds.proofs.lent.some_words.Tie as tie
-use Rattle.binds.proofs.lent.some_words.Reads as reads
-use Rattle.binds.proofs.lent.some_words.Lts as lts
 
--- src/main.rt:92:1
 returns : tie.Need-returns
 returns c = (omega arith, simp length-take (omega arith))
 
--- src/main.rt:92:1
 returns-2 : tie.Need-returns-2
 returns-2 c = (omega arith, simp length-take (omega arith))
 

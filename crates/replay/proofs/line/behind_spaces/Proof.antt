@@ -1,9 +1,7 @@
 -- `line::behind_spaces` meets its contract. Assumes nothing.
 use borrow.Author.Needs.{needs}
-use Prim.Native.Nat.{_+_, _-_, _*_, _≤_}
-use mathlib.Core.Path.{_≡_, refl, _∙_}
-use native.Mathlib.Omega.{arith}
-use lib.ListN.{length, length-set, length-take}
+use Prim.Native.Nat.{_-_, _≤_}
+use lib.ListN.{length}
 use Rattle.replay.proofs.line.behind_spaces.Statement.{statement}
 use Rattle.replay.proofs.line.behind_spaces.Tie as tie
 
@@ -20,7 +18,7 @@ shared-slice-read-if1 : tie.Need-shared-slice-read-if1 Inv-loop μ-loop
 shared-slice-read-if1 c = search needs
 
 returns : tie.Need-returns Inv-loop μ-loop
-returns c = (omega arith, λ h. omega arith)
+returns c = search needs
 
 add-at : tie.Need-add-at Inv-loop μ-loop
 add-at c = search needs
@@ -32,7 +30,7 @@ loop-again : tie.Need-loop-again Inv-loop μ-loop
 loop-again c = search needs
 
 returns-2 : tie.Need-returns-2 Inv-loop μ-loop
-returns-2 c = (omega arith, λ h. omega arith)
+returns-2 c = search needs
 
 pub behind-spaces-spec : {M : Type 1} → statement M
 behind-spaces-spec =

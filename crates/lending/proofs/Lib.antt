@@ -1,0 +1,2 @@
+-- The laws that functions' proofs cite: memory filled place by place (`Filling`).
+pub mod Filling

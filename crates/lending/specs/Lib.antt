@@ -1,0 +1,2 @@
+-- What the contracts cite: what lent memory holds at first (`Lent`).
+pub mod Lent

@@ -1,2 +1,0 @@
--- The laws of lent memory that the proofs of `memory` cite (`Kept`).
-pub mod Kept
