@@ -22,6 +22,7 @@ use Rattle.soundness.specs.declared.Bindings.{Bindings}
 use Rattle.references.specs.Fits.{valueFits, isAbsent, slotFits}
 use Rattle.held.specs.Held.{heldScope, aliveBelow}
 use Rattle.held.proofs.Goods.{sound-room}
+use Rattle.held.proofs.HeldLaws.{HeldBy}
 use Rattle.held.proofs.SoundScope.{absent-is, beyond, fits-held, held-read}
 use Rattle.slots.specs.State.{saysAbsent, isState, bindingsIn}
 use Rattle.slots.proofs.Filling.{slot-absent, slot-value}
@@ -60,7 +61,7 @@ module _ (r : BindingRoom) (room : Meaning.BindingRoom) (stands : Stands r room)
   -- ---- the two words are the name's slot
 
   -- a value's, or those of no value
-  pub record SlotWords : Type 0 where
+  record SlotWords : Type 0 where
     pub is-slot : cellOf head payload ≡ slot
     pub absent : isAbsent slot ≡ true → (head ≡ 16) × (payload ≡ 0)
 
@@ -85,35 +86,39 @@ module _ (r : BindingRoom) (room : Meaning.BindingRoom) (stands : Stands r room)
 
   -- ---- the slot reads as what it holds, whatever is lent to an evaluation
 
-  slot-reads : (literal cells text : List ℕ) → reading (rooms literal (r .cells) (r .text) cells text) slot ≡ heldScope (r .cells) (r .text) bindings n
+  -- there is no value, or one that is held
+  slot-held : (slot ≡ Value.Absent) ⊎ HeldBy (r .cells) (r .text) (bindings .cells) (bindings .bytes) slot
   unfolding slotFits
-  slot-reads literal cells text = by-slot (isAbsent slot) refl (sound-room (r .cells) (r .text) bindings (stands .sound) .slots n h)
+  slot-held = by-slot (isAbsent slot) refl (sound-room (r .cells) (r .text) bindings (stands .sound) .slots n h)
     where
-      lent : Rooms
-      lent = rooms literal (r .cells) (r .text) cells text
-
       by-slot : (b : Bool) → isAbsent slot ≡ b → (b || valueFits (r .cells) (r .text) (bindings .cells) (bindings .bytes) 0 slot) ≡ true
-          → reading lent slot ≡ heldScope (r .cells) (r .text) bindings n
-      by-slot true e f = let a = absent-is slot e in ap (reading lent) a ∙ absent-reads lent ∙ sym (beyond (r .cells) (r .text) bindings n a)
-      by-slot false e f =
-          let k = fits-held (r .cells) (r .text) bindings (stands .sound) slot 0 f in
-          reads (aliveBelow (bindings .cells)) lent (k .value) slot (k .stands literal cells text) ∙ sym (held-read (r .cells) (r .text) bindings (stands .sound) n k)
+          → (slot ≡ Value.Absent) ⊎ HeldBy (r .cells) (r .text) (bindings .cells) (bindings .bytes) slot
+      by-slot true e f = inl (absent-is slot e)
+      by-slot false e f = inr (fits-held (r .cells) (r .text) bindings (stands .sound) slot 0 f)
 
   -- Words 2n and 2n + 1 of a state that stands for a room read as what name n has there, whatever is lent to an evaluation.
   pub binding-read-out : (literal cells text : List ℕ)
       → reading (rooms literal (r .cells) (r .text) cells text) (cellOf (getD (r .state) (2 * n) 0) (getD (r .state) (2 * n + 1) 0)) ≡ scopeOf room n
-  binding-read-out literal cells text = ap (reading (rooms literal (r .cells) (r .text) cells text)) (slot-words .is-slot) ∙ slot-reads literal cells text ∙ stands .scope n
+  binding-read-out literal cells text = ap (reading lent) (slot-words .is-slot) ∙ by-held slot-held ∙ stands .scope n
+    where
+      lent : Rooms
+      lent = rooms literal (r .cells) (r .text) cells text
+
+      by-held : (slot ≡ Value.Absent) ⊎ HeldBy (r .cells) (r .text) (bindings .cells) (bindings .bytes) slot → reading lent slot ≡ heldScope (r .cells) (r .text) bindings n
+      by-held (inl a) = ap (reading lent) a ∙ absent-reads lent ∙ sym (beyond (r .cells) (r .text) bindings n a)
+      by-held (inr k) =
+          reads (aliveBelow (bindings .cells)) lent (k .value) slot (k .stands literal cells text) ∙ sym (held-read (r .cells) (r .text) bindings (stands .sound) n k)
 
   -- A name that has no value there has the words 16 and 0, and no other name has.
   pub unbound-words : (scopeOf room n ≡ none) ↔ ((getD (r .state) (2 * n) 0 ≡ 16) × (getD (r .state) (2 * n + 1) 0 ≡ 0))
-  unfolding slotFits
-  unbound-words = (λ e. slot-words .absent (by-slot e (isAbsent slot) refl (sound-room (r .cells) (r .text) bindings (stands .sound) .slots n h)), λ w. sym (binding-read-out [] [] []) ∙ ap (reading (rooms [] (r .cells) (r .text) [] [])) (ap₂ cellOf (w .0) (w .1) ∙ absent-words) ∙ absent-reads (rooms [] (r .cells) (r .text) [] []))
+  unbound-words = (λ e. slot-words .absent (by-held e slot-held), λ w. sym (binding-read-out [] [] []) ∙ ap (reading none-lent) (ap₂ cellOf (w .0) (w .1) ∙ absent-words) ∙ absent-reads none-lent)
     where
+      none-lent : Rooms
+      none-lent = rooms [] (r .cells) (r .text) [] []
+
       unlike : (v : Meant) → some v ≡ none → ⊥
       unlike v e = let z : _≡_ {A = ℕ} 0 1 = cc in omega arith
 
-      by-slot : scopeOf room n ≡ none → (b : Bool) → isAbsent slot ≡ b → (b || valueFits (r .cells) (r .text) (bindings .cells) (bindings .bytes) 0 slot) ≡ true → isAbsent slot ≡ true
-      by-slot e true a f = a
-      by-slot e false a f =
-          let k = fits-held (r .cells) (r .text) bindings (stands .sound) slot 0 f in
-          absurd (unlike (k .value) (sym (held-read (r .cells) (r .text) bindings (stands .sound) n k) ∙ stands .scope n ∙ e))
+      by-held : scopeOf room n ≡ none → (slot ≡ Value.Absent) ⊎ HeldBy (r .cells) (r .text) (bindings .cells) (bindings .bytes) slot → isAbsent slot ≡ true
+      by-held e (inl a) = ap isAbsent a
+      by-held e (inr k) = absurd (unlike (k .value) (sym (held-read (r .cells) (r .text) bindings (stands .sound) n k) ∙ stands .scope n ∙ e))

@@ -69,11 +69,12 @@ made-stands r more (Called.brought before room _ name table literal answer m wor
 
 -- Over such a state 0 is returned only where the definition brings in: so every call that returns 0 makes one again.
 pub made-more : (before : BindingRoom) (room : Meaning.BindingRoom) → Made before room → (name : ℕ) (table literal answer : List ℕ) → Words (before .state) → AllBytes table → AllBytes literal
-    → brings before name table literal answer .0 .0 ≡ whichDone → (more : Meaning.BindingRoom) × Made (brings before name table literal answer .1) more
+    → brings before name table literal answer .0 .0 ≡ whichDone
+    → (more : Meaning.BindingRoom) × (bring (length (before .cells) / 2) (length (before .text)) room name table literal ≡ got more) × Made (brings before name table literal answer .1) more
 made-more before room m name table literal answer words tableBytes textBytes d =
     let (more, e) = brings-too before room (made-stands before room m .1) name table literal answer words tableBytes textBytes d in
-    (more, Called.brought before room more name table literal answer m words tableBytes textBytes d e)
+    (more, e, Called.brought before room more name table literal answer m words tableBytes textBytes d e)
 
--- Its words come back as they were when what they stand for is written again.
+-- The words of such a state come back as they were when what they stand for is written again.
 pub made-again : (r : BindingRoom) (room : Meaning.BindingRoom) → Made r room → Words (r .state) → stateOf (bindingsIn (r .state)) ≡ r .state
 made-again r room m words = accepted-again (r .state) (r .cells) (r .text) words (made-stands r room m .1 .sound)
