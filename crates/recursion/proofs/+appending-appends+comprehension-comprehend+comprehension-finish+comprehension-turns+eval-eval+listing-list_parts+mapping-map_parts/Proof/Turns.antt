@@ -10,10 +10,10 @@ use Rattle.rooms.proofs.Scopes.{mapped-length}
 use lib.ListN.{length-set}
 use Rattle.recursion.proofs.Turns.{no-turn, turn-ends, turn-fails, step-ends, step-holds, step-binds, extent-least, turns-begin, turns-again}
 use Rattle.recursion.proofs.Operands.{slots-asked, slots-below}
-use Rattle.recursion.proofs.eval.turns.Reads as turns
-use Rattle.recursion.proofs.eval.+appends+comprehend+eval+finish+list_parts+map_parts+turns.Lts-turns as turns-lts
-use Rattle.recursion.proofs.eval.+appends+comprehend+eval+finish+list_parts+map_parts+turns.Proof.Kit.{turns-at, turns-claims}
-use Rattle.recursion.proofs.eval.+appends+comprehend+eval+finish+list_parts+map_parts+turns.Proof.TurnsCame.{turns-Inv-loop, turns-μ-loop, condition-came, step-came}
+use Rattle.recursion.proofs.comprehension.turns.Reads as turns
+use Rattle.recursion.proofs.+appending-appends+comprehension-comprehend+comprehension-finish+comprehension-turns+eval-eval+listing-list_parts+mapping-map_parts.Lts-comprehension-turns as turns-lts
+use Rattle.recursion.proofs.+appending-appends+comprehension-comprehend+comprehension-finish+comprehension-turns+eval-eval+listing-list_parts+mapping-map_parts.Proof.Kit.{turns-at, turns-claims}
+use Rattle.recursion.proofs.+appending-appends+comprehension-comprehend+comprehension-finish+comprehension-turns+eval-eval+listing-list_parts+mapping-map_parts.Proof.TurnsCame.{turns-Inv-loop, turns-μ-loop, condition-came, step-came}
 
 pub turns-folds-at-requires : (t : ℕ) → turns-lts.Need-folds-at-requires (turns-claims t) (turns-at t) turns.Post turns-Inv-loop turns-μ-loop
 turns-folds-at-requires t c κs = c .before .before .before .before .before .before .pre .1 .1

@@ -6,9 +6,9 @@ use Prim.Native.Nat.{ℕ}
 use Rattle.recursion.proofs.Operands.{came-record, Came, came-slots}
 use lib.ListN.{length-set}
 use Rattle.recursion.proofs.Turns.{TurnsLoop}
-use Rattle.recursion.proofs.eval.turns.Reads as turns
-use Rattle.recursion.proofs.eval.+appends+comprehend+eval+finish+list_parts+map_parts+turns.Lts-turns as turns-lts
-use Rattle.recursion.proofs.eval.+appends+comprehend+eval+finish+list_parts+map_parts+turns.Proof.Kit.{turns-at, turns-claims}
+use Rattle.recursion.proofs.comprehension.turns.Reads as turns
+use Rattle.recursion.proofs.+appending-appends+comprehension-comprehend+comprehension-finish+comprehension-turns+eval-eval+listing-list_parts+mapping-map_parts.Lts-comprehension-turns as turns-lts
+use Rattle.recursion.proofs.+appending-appends+comprehension-comprehend+comprehension-finish+comprehension-turns+eval-eval+listing-list_parts+mapping-map_parts.Proof.Kit.{turns-at, turns-claims}
 
 abbrev pub turns-Inv-loop : turns-lts.InvT-loop
 turns-Inv-loop table literal binding-cells binding-text cells₀ text₀ limit at space first count each accumulator item condition step result folds condition-slots step-slots inner₀ held₀ spent₀ cell₀ left₀ cells text inner held spent cell left = TurnsLoop table literal binding-cells binding-text cells₀ text₀ limit at space first count each (record { accumulator = accumulator; item = item; condition = condition; step = step; result = result }) inner₀ spent₀ cells text inner held spent cell left

@@ -10,10 +10,10 @@ use Rattle.runs.specs.Collects.{gatheredIn}
 use Prim.Native.Nat.{ℕ}
 use Rattle.rooms.proofs.Scopes.{mapped-length}
 use lib.ListN.{length-set}
-use Rattle.recursion.proofs.eval.appends.Reads as appends
-use Rattle.recursion.proofs.eval.+appends+comprehend+eval+finish+list_parts+map_parts+turns.Lts-appends as appends-lts
-use Rattle.recursion.proofs.eval.+appends+comprehend+eval+finish+list_parts+map_parts+turns.Proof.Kit.{appends-at, appends-claims}
-use Rattle.recursion.proofs.eval.+appends+comprehend+eval+finish+list_parts+map_parts+turns.Proof.AppendsCame.{appends-Inv-loop, appends-μ-loop, guard-came, items-came}
+use Rattle.recursion.proofs.appending.appends.Reads as appends
+use Rattle.recursion.proofs.+appending-appends+comprehension-comprehend+comprehension-finish+comprehension-turns+eval-eval+listing-list_parts+mapping-map_parts.Lts-appending-appends as appends-lts
+use Rattle.recursion.proofs.+appending-appends+comprehension-comprehend+comprehension-finish+comprehension-turns+eval-eval+listing-list_parts+mapping-map_parts.Proof.Kit.{appends-at, appends-claims}
+use Rattle.recursion.proofs.+appending-appends+comprehension-comprehend+comprehension-finish+comprehension-turns+eval-eval+listing-list_parts+mapping-map_parts.Proof.AppendsCame.{appends-Inv-loop, appends-μ-loop, guard-came, items-came}
 
 pub appends-loop-holds : (t : ℕ) → appends-lts.Need-loop-holds (appends-claims t) (appends-at t) appends.Post appends-Inv-loop appends-μ-loop
 appends-loop-holds t c =

@@ -4,27 +4,27 @@ use Rattle.layout.specs.Layout.{wordAt}
 use Prim.Native.Nat.{ℕ, _<_}
 use borrow.Fn.Kinds.{In}
 use borrow.Fn.PlainCycle.{Measures, is, falls, and}
-use Rattle.recursion.proofs.eval.appends.Reads as appends
-use Rattle.recursion.proofs.eval.appends.Kinds as appends-kinds
-use Rattle.recursion.proofs.eval.+appends+comprehend+eval+finish+list_parts+map_parts+turns.Lts-appends as appends-lts
-use Rattle.recursion.proofs.eval.comprehend.Reads as comprehend
-use Rattle.recursion.proofs.eval.comprehend.Kinds as comprehend-kinds
-use Rattle.recursion.proofs.eval.+appends+comprehend+eval+finish+list_parts+map_parts+turns.Lts-comprehend as comprehend-lts
+use Rattle.recursion.proofs.appending.appends.Reads as appends
+use Rattle.recursion.proofs.appending.appends.Kinds as appends-kinds
+use Rattle.recursion.proofs.+appending-appends+comprehension-comprehend+comprehension-finish+comprehension-turns+eval-eval+listing-list_parts+mapping-map_parts.Lts-appending-appends as appends-lts
+use Rattle.recursion.proofs.comprehension.comprehend.Reads as comprehend
+use Rattle.recursion.proofs.comprehension.comprehend.Kinds as comprehend-kinds
+use Rattle.recursion.proofs.+appending-appends+comprehension-comprehend+comprehension-finish+comprehension-turns+eval-eval+listing-list_parts+mapping-map_parts.Lts-comprehension-comprehend as comprehend-lts
 use Rattle.recursion.proofs.eval.eval.Reads as eval
 use Rattle.recursion.proofs.eval.eval.Kinds as eval-kinds
-use Rattle.recursion.proofs.eval.+appends+comprehend+eval+finish+list_parts+map_parts+turns.Lts-eval as eval-lts
-use Rattle.recursion.proofs.eval.finish.Reads as finish
-use Rattle.recursion.proofs.eval.finish.Kinds as finish-kinds
-use Rattle.recursion.proofs.eval.+appends+comprehend+eval+finish+list_parts+map_parts+turns.Lts-finish as finish-lts
-use Rattle.recursion.proofs.eval.list_parts.Reads as list-parts
-use Rattle.recursion.proofs.eval.list_parts.Kinds as list-parts-kinds
-use Rattle.recursion.proofs.eval.+appends+comprehend+eval+finish+list_parts+map_parts+turns.Lts-list_parts as list-parts-lts
-use Rattle.recursion.proofs.eval.map_parts.Reads as map-parts
-use Rattle.recursion.proofs.eval.map_parts.Kinds as map-parts-kinds
-use Rattle.recursion.proofs.eval.+appends+comprehend+eval+finish+list_parts+map_parts+turns.Lts-map_parts as map-parts-lts
-use Rattle.recursion.proofs.eval.turns.Reads as turns
-use Rattle.recursion.proofs.eval.turns.Kinds as turns-kinds
-use Rattle.recursion.proofs.eval.+appends+comprehend+eval+finish+list_parts+map_parts+turns.Lts-turns as turns-lts
+use Rattle.recursion.proofs.+appending-appends+comprehension-comprehend+comprehension-finish+comprehension-turns+eval-eval+listing-list_parts+mapping-map_parts.Lts-eval-eval as eval-lts
+use Rattle.recursion.proofs.comprehension.finish.Reads as finish
+use Rattle.recursion.proofs.comprehension.finish.Kinds as finish-kinds
+use Rattle.recursion.proofs.+appending-appends+comprehension-comprehend+comprehension-finish+comprehension-turns+eval-eval+listing-list_parts+mapping-map_parts.Lts-comprehension-finish as finish-lts
+use Rattle.recursion.proofs.listing.list_parts.Reads as list-parts
+use Rattle.recursion.proofs.listing.list_parts.Kinds as list-parts-kinds
+use Rattle.recursion.proofs.+appending-appends+comprehension-comprehend+comprehension-finish+comprehension-turns+eval-eval+listing-list_parts+mapping-map_parts.Lts-listing-list_parts as list-parts-lts
+use Rattle.recursion.proofs.mapping.map_parts.Reads as map-parts
+use Rattle.recursion.proofs.mapping.map_parts.Kinds as map-parts-kinds
+use Rattle.recursion.proofs.+appending-appends+comprehension-comprehend+comprehension-finish+comprehension-turns+eval-eval+listing-list_parts+mapping-map_parts.Lts-mapping-map_parts as map-parts-lts
+use Rattle.recursion.proofs.comprehension.turns.Reads as turns
+use Rattle.recursion.proofs.comprehension.turns.Kinds as turns-kinds
+use Rattle.recursion.proofs.+appending-appends+comprehension-comprehend+comprehension-finish+comprehension-turns+eval-eval+listing-list_parts+mapping-map_parts.Lts-comprehension-turns as turns-lts
 use Rattle.bodies.proofs.count_at.Reads as count-at-reads
 use Rattle.cells.proofs.cell_at.Reads as cell-at-reads
 use Rattle.conditions.proofs.asks.Reads as asks-reads

@@ -8,9 +8,9 @@ use Rattle.recursion.proofs.Operands.{came-leaf, came-record, Came}
 use Rattle.leaves.proofs.Rows.{element-next}
 use Rattle.recursion.proofs.Lists.{ListLoop}
 use Rattle.leaves.specs.Leaf.{unmarkedAt}
-use Rattle.recursion.proofs.eval.list_parts.Reads as list-parts
-use Rattle.recursion.proofs.eval.+appends+comprehend+eval+finish+list_parts+map_parts+turns.Lts-list_parts as list-parts-lts
-use Rattle.recursion.proofs.eval.+appends+comprehend+eval+finish+list_parts+map_parts+turns.Proof.Kit.{list-parts-at, list-parts-claims}
+use Rattle.recursion.proofs.listing.list_parts.Reads as list-parts
+use Rattle.recursion.proofs.+appending-appends+comprehension-comprehend+comprehension-finish+comprehension-turns+eval-eval+listing-list_parts+mapping-map_parts.Lts-listing-list_parts as list-parts-lts
+use Rattle.recursion.proofs.+appending-appends+comprehension-comprehend+comprehension-finish+comprehension-turns+eval-eval+listing-list_parts+mapping-map_parts.Proof.Kit.{list-parts-at, list-parts-claims}
 
 abbrev pub list-parts-Inv-loop : list-parts-lts.InvT-loop
 list-parts-Inv-loop table literal binding-cells binding-text cells₀ text₀ limit at first count scope place₀ left₀ spent₀ ready₀ cells text place left spent ready = ListLoop table literal binding-cells binding-text cells₀ text₀ limit at first count scope spent₀ cells text place left spent ready

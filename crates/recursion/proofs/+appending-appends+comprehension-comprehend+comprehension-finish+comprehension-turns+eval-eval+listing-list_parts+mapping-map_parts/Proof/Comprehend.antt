@@ -8,9 +8,9 @@ use Rattle.layout.specs.Layout.{after}
 use Rattle.leaves.proofs.KindLaws.{sound-stands}
 use Rattle.paths.proofs.Comprehensions.{comprehension-at}
 use Rattle.recursion.proofs.Comprehends.{init-stops, range-stops, no-range, turns-are, plain-are, guarded-are, condition-sound, step-sound, result-sound, accumulator-small, item-small, operands-smaller, plain-run, guarded-run}
-use Rattle.recursion.proofs.eval.comprehend.Reads as comprehend
-use Rattle.recursion.proofs.eval.+appends+comprehend+eval+finish+list_parts+map_parts+turns.Lts-comprehend as comprehend-lts
-use Rattle.recursion.proofs.eval.+appends+comprehend+eval+finish+list_parts+map_parts+turns.Proof.Kit.{comprehend-at, comprehend-claims}
+use Rattle.recursion.proofs.comprehension.comprehend.Reads as comprehend
+use Rattle.recursion.proofs.+appending-appends+comprehension-comprehend+comprehension-finish+comprehension-turns+eval-eval+listing-list_parts+mapping-map_parts.Lts-comprehension-comprehend as comprehend-lts
+use Rattle.recursion.proofs.+appending-appends+comprehension-comprehend+comprehension-finish+comprehension-turns+eval-eval+listing-list_parts+mapping-map_parts.Proof.Kit.{comprehend-at, comprehend-claims}
 
 pub comprehend-first-operand-requires : (t : ℕ) → comprehend-lts.Need-first-operand-requires (comprehend-claims t) (comprehend-at t) comprehend.Post
 comprehend-first-operand-requires t c κs =

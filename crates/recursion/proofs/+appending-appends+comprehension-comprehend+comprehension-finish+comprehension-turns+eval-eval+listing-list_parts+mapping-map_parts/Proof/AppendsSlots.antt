@@ -3,10 +3,10 @@ use borrow.Author.Needs.{needs}
 use native.Mathlib.Omega.{arith}
 use Prim.Native.Nat.{ℕ}
 use Rattle.recursion.proofs.Operands.{slots-asked, slots-below}
-use Rattle.recursion.proofs.eval.appends.Reads as appends
-use Rattle.recursion.proofs.eval.+appends+comprehend+eval+finish+list_parts+map_parts+turns.Lts-appends as appends-lts
-use Rattle.recursion.proofs.eval.+appends+comprehend+eval+finish+list_parts+map_parts+turns.Proof.Kit.{appends-at, appends-claims}
-use Rattle.recursion.proofs.eval.+appends+comprehend+eval+finish+list_parts+map_parts+turns.Proof.AppendsCame.{appends-Inv-loop, appends-μ-loop}
+use Rattle.recursion.proofs.appending.appends.Reads as appends
+use Rattle.recursion.proofs.+appending-appends+comprehension-comprehend+comprehension-finish+comprehension-turns+eval-eval+listing-list_parts+mapping-map_parts.Lts-appending-appends as appends-lts
+use Rattle.recursion.proofs.+appending-appends+comprehension-comprehend+comprehension-finish+comprehension-turns+eval-eval+listing-list_parts+mapping-map_parts.Proof.Kit.{appends-at, appends-claims}
+use Rattle.recursion.proofs.+appending-appends+comprehension-comprehend+comprehension-finish+comprehension-turns+eval-eval+listing-list_parts+mapping-map_parts.Proof.AppendsCame.{appends-Inv-loop, appends-μ-loop}
 
 pub appends-reach-at-requires : (t : ℕ) → appends-lts.Need-reach-at-requires (appends-claims t) (appends-at t) appends.Post appends-Inv-loop appends-μ-loop
 appends-reach-at-requires t c κs = c .before .before .before .before .before .before .pre .1 .2

@@ -10,10 +10,10 @@ use Rattle.machine.specs.Views.{partIn}
 use Rattle.leaves.proofs.Rows.{element-next}
 use Rattle.recursion.proofs.Lists.{list-begins}
 use Rattle.singles.proofs.Lists.{added-count, no-element, element-stops, element-again}
-use Rattle.recursion.proofs.eval.list_parts.Reads as list-parts
-use Rattle.recursion.proofs.eval.+appends+comprehend+eval+finish+list_parts+map_parts+turns.Lts-list_parts as list-parts-lts
-use Rattle.recursion.proofs.eval.+appends+comprehend+eval+finish+list_parts+map_parts+turns.Proof.Kit.{list-parts-at, list-parts-claims}
-use Rattle.recursion.proofs.eval.+appends+comprehend+eval+finish+list_parts+map_parts+turns.Proof.ListPartsCame.{list-parts-Inv-loop, list-parts-μ-loop, element-came}
+use Rattle.recursion.proofs.listing.list_parts.Reads as list-parts
+use Rattle.recursion.proofs.+appending-appends+comprehension-comprehend+comprehension-finish+comprehension-turns+eval-eval+listing-list_parts+mapping-map_parts.Lts-listing-list_parts as list-parts-lts
+use Rattle.recursion.proofs.+appending-appends+comprehension-comprehend+comprehension-finish+comprehension-turns+eval-eval+listing-list_parts+mapping-map_parts.Proof.Kit.{list-parts-at, list-parts-claims}
+use Rattle.recursion.proofs.+appending-appends+comprehension-comprehend+comprehension-finish+comprehension-turns+eval-eval+listing-list_parts+mapping-map_parts.Proof.ListPartsCame.{list-parts-Inv-loop, list-parts-μ-loop, element-came}
 
 pub list-parts-first-operand-requires : (t : ℕ) → list-parts-lts.Need-first-operand-requires (list-parts-claims t) (list-parts-at t) list-parts.Post list-parts-Inv-loop list-parts-μ-loop
 list-parts-first-operand-requires t c κs =

@@ -10,9 +10,9 @@ use Rattle.accepted.specs.Records.{exprOf}
 use Rattle.recursion.proofs.Operands.{leaf-does}
 use Rattle.recursion.proofs.Turns.{held-is, result-is}
 use Rattle.machine.specs.Machine.{machine}
-use Rattle.recursion.proofs.eval.finish.Reads as finish
-use Rattle.recursion.proofs.eval.+appends+comprehend+eval+finish+list_parts+map_parts+turns.Lts-finish as finish-lts
-use Rattle.recursion.proofs.eval.+appends+comprehend+eval+finish+list_parts+map_parts+turns.Proof.Kit.{finish-at, finish-claims}
+use Rattle.recursion.proofs.comprehension.finish.Reads as finish
+use Rattle.recursion.proofs.+appending-appends+comprehension-comprehend+comprehension-finish+comprehension-turns+eval-eval+listing-list_parts+mapping-map_parts.Lts-comprehension-finish as finish-lts
+use Rattle.recursion.proofs.+appending-appends+comprehension-comprehend+comprehension-finish+comprehension-turns+eval-eval+listing-list_parts+mapping-map_parts.Proof.Kit.{finish-at, finish-claims}
 
 pub finish-enum-known-held : (t : ℕ) → finish-lts.Need-enum-known-held (finish-claims t) (finish-at t) finish.Post
 finish-enum-known-held t c = search needs

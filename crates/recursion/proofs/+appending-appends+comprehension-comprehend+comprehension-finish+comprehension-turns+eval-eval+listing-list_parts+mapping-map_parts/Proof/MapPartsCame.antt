@@ -9,9 +9,9 @@ use Rattle.recursion.proofs.Operands.{came-leaf, came-record, Came}
 use Rattle.leaves.specs.Leaf.{unmarkedAt}
 use Rattle.leaves.proofs.Rows.{entry-next}
 use Rattle.recursion.proofs.Maps.{MapLoop}
-use Rattle.recursion.proofs.eval.map_parts.Reads as map-parts
-use Rattle.recursion.proofs.eval.+appends+comprehend+eval+finish+list_parts+map_parts+turns.Lts-map_parts as map-parts-lts
-use Rattle.recursion.proofs.eval.+appends+comprehend+eval+finish+list_parts+map_parts+turns.Proof.Kit.{map-parts-at, map-parts-claims}
+use Rattle.recursion.proofs.mapping.map_parts.Reads as map-parts
+use Rattle.recursion.proofs.+appending-appends+comprehension-comprehend+comprehension-finish+comprehension-turns+eval-eval+listing-list_parts+mapping-map_parts.Lts-mapping-map_parts as map-parts-lts
+use Rattle.recursion.proofs.+appending-appends+comprehension-comprehend+comprehension-finish+comprehension-turns+eval-eval+listing-list_parts+mapping-map_parts.Proof.Kit.{map-parts-at, map-parts-claims}
 
 abbrev pub map-parts-Inv-loop : map-parts-lts.InvT-loop
 map-parts-Inv-loop table literal binding-cells binding-text cells₀ text₀ limit at first count scope place₀ left₀ spent₀ ready₀ cells text place left spent ready = MapLoop table literal binding-cells binding-text cells₀ text₀ limit at first count scope spent₀ cells text place left spent ready

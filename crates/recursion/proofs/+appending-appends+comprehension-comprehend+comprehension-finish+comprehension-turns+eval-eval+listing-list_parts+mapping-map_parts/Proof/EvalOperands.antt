@@ -8,9 +8,9 @@ use Rattle.flats.proofs.Fixeds.{after-step, stops-first, joins-both, second-at}
 use Rattle.forms.proofs.Operands.{fixed-at}
 use Rattle.recursion.proofs.Operands.{slots-asked, slots-below}
 use Rattle.recursion.proofs.eval.eval.Reads as eval
-use Rattle.recursion.proofs.eval.+appends+comprehend+eval+finish+list_parts+map_parts+turns.Lts-eval as eval-lts
-use Rattle.recursion.proofs.eval.+appends+comprehend+eval+finish+list_parts+map_parts+turns.Proof.Kit.{eval-at, eval-claims}
-use Rattle.recursion.proofs.eval.+appends+comprehend+eval+finish+list_parts+map_parts+turns.Proof.EvalCame.{left-came, right-came}
+use Rattle.recursion.proofs.+appending-appends+comprehension-comprehend+comprehension-finish+comprehension-turns+eval-eval+listing-list_parts+mapping-map_parts.Lts-eval-eval as eval-lts
+use Rattle.recursion.proofs.+appending-appends+comprehension-comprehend+comprehension-finish+comprehension-turns+eval-eval+listing-list_parts+mapping-map_parts.Proof.Kit.{eval-at, eval-claims}
+use Rattle.recursion.proofs.+appending-appends+comprehension-comprehend+comprehension-finish+comprehension-turns+eval-eval+listing-list_parts+mapping-map_parts.Proof.EvalCame.{left-came, right-came}
 
 pub eval-begun-first-requires : (t : ℕ) → eval-lts.Need-begun-first-requires (eval-claims t) (eval-at t) eval.Post
 eval-begun-first-requires t c κs =

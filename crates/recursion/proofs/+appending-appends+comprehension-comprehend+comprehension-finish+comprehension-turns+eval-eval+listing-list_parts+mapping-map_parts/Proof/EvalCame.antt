@@ -5,8 +5,8 @@ use Rattle.rooms.proofs.Scopes.{mapped-length}
 use Rattle.recursion.proofs.Operands.{came-record, Came, came-slots}
 use Rattle.forms.specs.Records.{firstAt}
 use Rattle.recursion.proofs.eval.eval.Reads as eval
-use Rattle.recursion.proofs.eval.+appends+comprehend+eval+finish+list_parts+map_parts+turns.Lts-eval as eval-lts
-use Rattle.recursion.proofs.eval.+appends+comprehend+eval+finish+list_parts+map_parts+turns.Proof.Kit.{eval-at, eval-claims}
+use Rattle.recursion.proofs.+appending-appends+comprehension-comprehend+comprehension-finish+comprehension-turns+eval-eval+listing-list_parts+mapping-map_parts.Lts-eval-eval as eval-lts
+use Rattle.recursion.proofs.+appending-appends+comprehension-comprehend+comprehension-finish+comprehension-turns+eval-eval+listing-list_parts+mapping-map_parts.Proof.Kit.{eval-at, eval-claims}
 
 pub left-came : (t : ℕ) (c : eval-lts.At-match4-came (eval-claims t) (eval-at t) eval.Post) → Came (c .before .before .before .before .before .before .before .before .before .before .before .before .before .before .before .before .args .table .now) (c .before .before .before .before .before .before .before .before .before .before .before .before .before .before .before .before .args .literal .now) (c .before .before .before .before .before .before .before .before .before .before .before .before .before .before .before .before .args .binding-cells .now) (c .before .before .before .before .before .before .before .before .before .before .before .before .before .before .before .before .args .binding-text .now) (c .before .before .before .before .before .before .before .before .before .before .before .before .before .before .before .before .args .limit) (firstAt (c .before .before .before .before .before .before .before .before .before .before .before .before .before .before .before .before .args .table .now) (c .before .before .before .before .before .before .before .before .before .before .before .before .before .before .before .before .args .at) (c .before .before .before .before .fixed .given .0 .0)) (c .before .before .before .before .before .before .before .before .before .before .before .before .before .before .before .before .args .t9) (c .before .before .before .before .before .before .before .stepped .result) (c .before .before .before .before .before .before .before .before .before .before .before .before .before .before .before .before .args .cells .now) (c .before .before .before .before .before .before .before .before .before .before .before .before .before .before .before .before .args .text .now) (c .match4 .left) (c .match4 .cells) (c .match4 .text)
 left-came t c =

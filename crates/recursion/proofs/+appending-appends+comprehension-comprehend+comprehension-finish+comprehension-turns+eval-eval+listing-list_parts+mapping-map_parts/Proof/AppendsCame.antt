@@ -6,9 +6,9 @@ use Rattle.rooms.specs.Scope.{stored}
 use Prim.Native.Nat.{ℕ}
 use Rattle.recursion.proofs.Operands.{came-record, Came, came-slots}
 use lib.ListN.{length-set}
-use Rattle.recursion.proofs.eval.appends.Reads as appends
-use Rattle.recursion.proofs.eval.+appends+comprehend+eval+finish+list_parts+map_parts+turns.Lts-appends as appends-lts
-use Rattle.recursion.proofs.eval.+appends+comprehend+eval+finish+list_parts+map_parts+turns.Proof.Kit.{appends-at, appends-claims}
+use Rattle.recursion.proofs.appending.appends.Reads as appends
+use Rattle.recursion.proofs.+appending-appends+comprehension-comprehend+comprehension-finish+comprehension-turns+eval-eval+listing-list_parts+mapping-map_parts.Lts-appending-appends as appends-lts
+use Rattle.recursion.proofs.+appending-appends+comprehension-comprehend+comprehension-finish+comprehension-turns+eval-eval+listing-list_parts+mapping-map_parts.Proof.Kit.{appends-at, appends-claims}
 
 abbrev pub appends-Inv-loop : appends-lts.InvT-loop
 appends-Inv-loop table literal binding-cells binding-text cells₀ text₀ limit at guarded guard list space first count each item condition guard-slots list-slots firsts₀ counts₀ inner₀ collected₀ spent₀ cell₀ left₀ cells text firsts counts inner collected spent cell left = AppendsLoop table literal binding-cells binding-text cells₀ text₀ limit at guarded guard list space first count each item condition inner₀ spent₀ cells text firsts counts inner collected spent cell left

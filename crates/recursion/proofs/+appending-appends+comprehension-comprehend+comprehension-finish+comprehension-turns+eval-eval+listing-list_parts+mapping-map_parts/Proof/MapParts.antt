@@ -13,10 +13,10 @@ use lib.ListN.{getD}
 use Rattle.leaves.specs.Leaf.{unmarkedAt}
 use Rattle.leaves.proofs.Rows.{entry-next}
 use Rattle.recursion.proofs.Maps.{map-begins, entered-count, no-entry, key-ends, value-stops, entry-ends, entry-again}
-use Rattle.recursion.proofs.eval.map_parts.Reads as map-parts
-use Rattle.recursion.proofs.eval.+appends+comprehend+eval+finish+list_parts+map_parts+turns.Lts-map_parts as map-parts-lts
-use Rattle.recursion.proofs.eval.+appends+comprehend+eval+finish+list_parts+map_parts+turns.Proof.Kit.{map-parts-at, map-parts-claims}
-use Rattle.recursion.proofs.eval.+appends+comprehend+eval+finish+list_parts+map_parts+turns.Proof.MapPartsCame.{map-parts-Inv-loop, map-parts-μ-loop, key-came, value-came}
+use Rattle.recursion.proofs.mapping.map_parts.Reads as map-parts
+use Rattle.recursion.proofs.+appending-appends+comprehension-comprehend+comprehension-finish+comprehension-turns+eval-eval+listing-list_parts+mapping-map_parts.Lts-mapping-map_parts as map-parts-lts
+use Rattle.recursion.proofs.+appending-appends+comprehension-comprehend+comprehension-finish+comprehension-turns+eval-eval+listing-list_parts+mapping-map_parts.Proof.Kit.{map-parts-at, map-parts-claims}
+use Rattle.recursion.proofs.+appending-appends+comprehension-comprehend+comprehension-finish+comprehension-turns+eval-eval+listing-list_parts+mapping-map_parts.Proof.MapPartsCame.{map-parts-Inv-loop, map-parts-μ-loop, key-came, value-came}
 
 pub map-parts-first-operand-requires : (t : ℕ) → map-parts-lts.Need-first-operand-requires (map-parts-claims t) (map-parts-at t) map-parts.Post map-parts-Inv-loop map-parts-μ-loop
 map-parts-first-operand-requires t c κs =

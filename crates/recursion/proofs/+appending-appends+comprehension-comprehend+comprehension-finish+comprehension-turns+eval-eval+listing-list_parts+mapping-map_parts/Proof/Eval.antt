@@ -12,8 +12,8 @@ use Rattle.flats.proofs.Fixeds.{no-step, after-step}
 use Rattle.singles.proofs.Begins.{begun-places, list-full, list-is}
 use Rattle.recursion.proofs.Evals.{leaf-is, none-is, map-full, map-is}
 use Rattle.recursion.proofs.eval.eval.Reads as eval
-use Rattle.recursion.proofs.eval.+appends+comprehend+eval+finish+list_parts+map_parts+turns.Lts-eval as eval-lts
-use Rattle.recursion.proofs.eval.+appends+comprehend+eval+finish+list_parts+map_parts+turns.Proof.Kit.{eval-at, eval-claims}
+use Rattle.recursion.proofs.+appending-appends+comprehension-comprehend+comprehension-finish+comprehension-turns+eval-eval+listing-list_parts+mapping-map_parts.Lts-eval-eval as eval-lts
+use Rattle.recursion.proofs.+appending-appends+comprehension-comprehend+comprehension-finish+comprehension-turns+eval-eval+listing-list_parts+mapping-map_parts.Proof.Kit.{eval-at, eval-claims}
 
 pub eval-out-of-steps-requires : (t : ℕ) → eval-lts.Need-out-of-steps-requires (eval-claims t) (eval-at t) eval.Post
 eval-out-of-steps-requires t c κs = search needs

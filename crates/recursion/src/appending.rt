@@ -1,0 +1,192 @@
+// The append path of a comprehension.
+ghost use Prim.Native.Nat.{_+_, _<_};
+ghost use lib.ListN.{getD};
+ghost use Rattle.rooms.specs.Rooms.{rooms};
+ghost use Rattle.layout.specs.Layout.{wordAt};
+ghost use Rattle.accepted.specs.Records.{Sound};
+ghost use Rattle.machine.specs.Comprehension.{appendTurns, nothingGathered};
+ghost use Rattle.outcomes.specs.Gives.{Gives};
+ghost use Rattle.paths.specs.Paths.{loopAt, appendAt};
+use crate::eval::eval;
+use cells::cell_at;
+use conditions::Asked;
+use conditions::asks;
+use gathering::Gather;
+use gathering::gather_items;
+use leaves::leaf;
+use machine::outcome::Outcome;
+use machine::outcome::Used;
+use paths::Places;
+use reach::reach;
+use reach::reach_at;
+use rooms::scope::Scope;
+use rooms::scope::Slot;
+use rooms::value::CellSpace;
+use rooms::value::Value;
+use runs::Collected;
+use runs::add_run;
+use runs::collected_list;
+use sides::Quad;
+use singles::single;
+use singles::single_at;
+
+// The append path: the accumulator is not stored, and the step and the result are not begun. The condition is a literal. A turn that gathers takes
+// at least two cells, and there are at most 4,096: 2,048 runs are enough.
+pub fn appends(
+    table: &[u8],
+    literal: &[u8],
+    binding_cells: &[u64],
+    binding_text: &[u8],
+    cells: &mut [u64],
+    text: &mut [u8],
+    limit: usize,
+    at: usize,
+    scope: Scope,
+    used: Used,
+    places: Places,
+    guarded: bool,
+    guard: usize,
+    list: usize,
+    space: CellSpace,
+    first: u16,
+    count: u16,
+    each: u16,
+) -> Outcome
+    requires { ⌜ Sound (now table) (now literal) (places .condition) × (getD (now table) (places .condition) 0 < 7) × Sound (now table) (now literal) guard × Sound (now table) (now literal) list × (wordAt (now table) (guard + 1) < wordAt (now table) (at + 1)) × (wordAt (now table) (list + 1) < wordAt (now table) (at + 1)) × (places .item < 128) ⌝ }
+    ensures { λ r. ⌜ Gives r (now (literal .entry)) (now («binding_cells» .entry)) (now («binding_text» .entry)) (now (cells .exit)) (now (text .exit)) (appendTurns (loopAt (now (table .entry)) (now (literal .entry)) limit at places) (appendAt (now (table .entry)) (now (literal .entry)) limit guarded guard list) space each count first nothingGathered scope used (rooms (now (literal .entry)) (now («binding_cells» .entry)) (now («binding_text» .entry)) (now (cells .entry)) (now (text .entry)))) ⌝ }
+{
+    let item = places.item;
+    let condition = places.condition;
+    let guard_slots = reach_at(table, literal, guard);
+    let list_slots = single_at(table, literal, list);
+    let mut firsts = [0u16; 2048];
+    let mut counts = [0u16; 2048];
+    let mut inner = scope;
+    let mut collected = Collected {
+        runs: 0,
+        count: 0,
+        nesting: 1,
+    };
+    let mut spent = used;
+    let mut cell = first as usize;
+    let mut left = count as usize;
+    while 0 < left {
+        let test = leaf(
+            table,
+            literal,
+            limit,
+            condition,
+            Slot {
+                value: Value::Absent,
+            },
+            spent,
+        );
+        match asks(test, at) {
+            Asked::Ends(outcome) => {
+                return outcome;
+            }
+            Asked::Fails(more) => {
+                return collected_list(binding_cells, cells, &firsts, &counts, collected, more);
+            }
+            Asked::Holds(more) => {
+                inner.slots[item] = Slot {
+                    value: cell_at(binding_cells, cells, space, cell),
+                };
+                cell += each as usize;
+                left -= 1;
+                let passes = if guarded {
+                    let reads = guard_slots;
+                    let test = match reads {
+                        Quad::Slots(a, b, c, d) => reach(
+                            table,
+                            literal,
+                            binding_cells,
+                            binding_text,
+                            cells,
+                            text,
+                            limit,
+                            guard,
+                            inner.slots[a],
+                            inner.slots[b],
+                            inner.slots[c],
+                            inner.slots[d],
+                            more,
+                        ),
+                        Quad::No => eval(
+                            table,
+                            literal,
+                            binding_cells,
+                            binding_text,
+                            cells,
+                            text,
+                            limit,
+                            guard,
+                            inner,
+                            more,
+                        ),
+                    };
+                    asks(test, at)
+                } else {
+                    Asked::Holds(more)
+                };
+                match passes {
+                    Asked::Ends(outcome) => {
+                        return outcome;
+                    }
+                    Asked::Fails(after) => {
+                        spent = after;
+                    }
+                    Asked::Holds(after) => {
+                        let reads = list_slots;
+                        let items = match reads {
+                            Quad::Slots(a, b, c, d) => single(
+                                table,
+                                literal,
+                                binding_cells,
+                                binding_text,
+                                cells,
+                                text,
+                                limit,
+                                list,
+                                inner.slots[a],
+                                inner.slots[b],
+                                inner.slots[c],
+                                inner.slots[d],
+                                after,
+                            ),
+                            Quad::No => eval(
+                                table,
+                                literal,
+                                binding_cells,
+                                binding_text,
+                                cells,
+                                text,
+                                limit,
+                                list,
+                                inner,
+                                after,
+                            ),
+                        };
+                        match gather_items(binding_cells, cells, items) {
+                            Gather::Ends(outcome) => {
+                                return outcome;
+                            }
+                            Gather::Run(from, length, nesting, taken) => {
+                                collected = add_run(
+                                    &mut firsts,
+                                    &mut counts,
+                                    collected,
+                                    from,
+                                    length,
+                                    nesting,
+                                );
+                                spent = taken;
+                            }
+                        }
+                    }
+                }
+            }
+        }
+    }
+    collected_list(binding_cells, cells, &firsts, &counts, collected, spent)
+}

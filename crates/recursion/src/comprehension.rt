@@ -1,0 +1,353 @@
+// A comprehension up to its loop, and the loop. A loop finds out once which slots its operands read.
+ghost use mathlib.Core.Path.{_≡_};
+ghost use mathlib.Core.Option.{none};
+ghost use Prim.Native.Nat.{_<_};
+ghost use lib.ListN.{getD};
+ghost use Rattle.rooms.specs.Rooms.{rooms};
+ghost use Rattle.rooms.specs.Scope.{stored};
+ghost use Rattle.accepted.specs.Records.{Sound, exprOf};
+ghost use Rattle.machine.specs.Comprehension.{turns};
+ghost use Rattle.machine.specs.Machine.{body, machine};
+ghost use Rattle.outcomes.specs.Gives.{Gives};
+ghost use Rattle.loops.specs.Loops.{pendingSeen};
+ghost use Rattle.paths.specs.Paths.{loopAt, finishWith};
+use crate::appending::appends;
+use crate::eval::eval;
+use cells::cell_at;
+use conditions::Asked;
+use conditions::asks;
+use leaves::is_leaf;
+use leaves::leaf;
+use leaves::slot_at;
+use loops::Pending;
+use loops::Step;
+use loops::step_of;
+use machine::outcome::Error;
+use machine::outcome::Outcome;
+use machine::outcome::Used;
+use outline::end_at;
+use outline::first_operand;
+use paths::Path;
+use paths::Places;
+use paths::append_path;
+use paths::folds_at;
+use paths::places_at;
+use ranges::Range;
+use ranges::range_of;
+use reach::reach;
+use reach::reach_at;
+use rooms::scope::Scope;
+use rooms::scope::Slot;
+use rooms::value::CellSpace;
+use rooms::value::Value;
+use sides::Quad;
+
+// Init, then range; then the append path or the turns.
+pub fn comprehend(
+    table: &[u8],
+    literal: &[u8],
+    binding_cells: &[u64],
+    binding_text: &[u8],
+    cells: &mut [u64],
+    text: &mut [u8],
+    limit: usize,
+    at: usize,
+    scope: Scope,
+    used: Used,
+) -> Outcome
+    requires { ⌜ Sound (now table) (now literal) at × (getD (now table) at 0 ≡ 15) ⌝ }
+    ensures { λ r. ⌜ Gives r (now (literal .entry)) (now («binding_cells» .entry)) (now («binding_text» .entry)) (now (cells .exit)) (now (text .exit)) (body (now (table .entry)) limit (exprOf (now (table .entry)) (now (literal .entry)) at) scope used (rooms (now (literal .entry)) (now («binding_cells» .entry)) (now («binding_text» .entry)) (now (cells .entry)) (now (text .entry)))) ⌝ }
+{
+    let over = first_operand(table, at);
+    let init = end_at(table, over);
+    let one = eval(
+        table,
+        literal,
+        binding_cells,
+        binding_text,
+        cells,
+        text,
+        limit,
+        init,
+        scope,
+        used,
+    );
+    let Outcome::Value(start, more) = one else {
+        return one;
+    };
+    let two = eval(
+        table,
+        literal,
+        binding_cells,
+        binding_text,
+        cells,
+        text,
+        limit,
+        over,
+        scope,
+        more,
+    );
+    let Outcome::Value(range, spent) = two else {
+        return two;
+    };
+    let Range::Over(space, first, count, each) = range_of(range) else {
+        return Outcome::Error(Error::IterableWanted, at, spent);
+    };
+    let places = places_at(table, literal, at, init);
+    match append_path(table, literal, places, start) {
+        Path::No => turns(
+            table,
+            literal,
+            binding_cells,
+            binding_text,
+            cells,
+            text,
+            limit,
+            at,
+            scope,
+            spent,
+            places,
+            start,
+            space,
+            first,
+            count,
+            each,
+        ),
+        Path::Plain(list) => appends(
+            table,
+            literal,
+            binding_cells,
+            binding_text,
+            cells,
+            text,
+            limit,
+            at,
+            scope,
+            spent,
+            places,
+            false,
+            list,
+            list,
+            space,
+            first,
+            count,
+            each,
+        ),
+        Path::Guarded(guard, list) => appends(
+            table,
+            literal,
+            binding_cells,
+            binding_text,
+            cells,
+            text,
+            limit,
+            at,
+            scope,
+            spent,
+            places,
+            true,
+            guard,
+            list,
+            space,
+            first,
+            count,
+            each,
+        ),
+    }
+}
+
+// The comprehension loop: the items are `count` cells from `first` on, `each` apart.
+pub fn turns(
+    table: &[u8],
+    literal: &[u8],
+    binding_cells: &[u64],
+    binding_text: &[u8],
+    cells: &mut [u64],
+    text: &mut [u8],
+    limit: usize,
+    at: usize,
+    scope: Scope,
+    used: Used,
+    places: Places,
+    start: Value,
+    space: CellSpace,
+    first: u16,
+    count: u16,
+    each: u16,
+) -> Outcome
+    requires { ⌜ Sound (now table) (now literal) (places .condition) × Sound (now table) (now literal) (places .step) × Sound (now table) (now literal) (places .result) × (places .accumulator < 128) × (places .item < 128) ⌝ }
+    ensures { λ r. ⌜ Gives r (now (literal .entry)) (now («binding_cells» .entry)) (now («binding_text» .entry)) (now (cells .exit)) (now (text .exit)) (turns (loopAt (now (table .entry)) (now (literal .entry)) limit at places) space each count first none (stored scope (places .accumulator) start) used (rooms (now (literal .entry)) (now («binding_cells» .entry)) (now («binding_text» .entry)) (now (cells .entry)) (now (text .entry)))) ⌝ }
+{
+    let accumulator = places.accumulator;
+    let item = places.item;
+    let condition = places.condition;
+    let step = places.step;
+    let result = places.result;
+    let folds = folds_at(table, literal, step, accumulator);
+    let condition_slots = reach_at(table, literal, condition);
+    let step_slots = reach_at(table, literal, step);
+    let mut inner = scope;
+    inner.slots[accumulator] = Slot { value: start };
+    let mut held = Pending::Nothing;
+    let mut spent = used;
+    let mut cell = first as usize;
+    let mut left = count as usize;
+    while 0 < left {
+        let reads = condition_slots;
+        let test = match reads {
+            Quad::Slots(a, b, c, d) => reach(
+                table,
+                literal,
+                binding_cells,
+                binding_text,
+                cells,
+                text,
+                limit,
+                condition,
+                inner.slots[a],
+                inner.slots[b],
+                inner.slots[c],
+                inner.slots[d],
+                spent,
+            ),
+            Quad::No => eval(
+                table,
+                literal,
+                binding_cells,
+                binding_text,
+                cells,
+                text,
+                limit,
+                condition,
+                inner,
+                spent,
+            ),
+        };
+
+        match asks(test, at) {
+            Asked::Ends(outcome) => {
+                return outcome;
+            }
+            Asked::Fails(more) => {
+                return finish(
+                    table,
+                    literal,
+                    binding_cells,
+                    binding_text,
+                    cells,
+                    text,
+                    limit,
+                    result,
+                    inner,
+                    more,
+                    held,
+                );
+            }
+            Asked::Holds(more) => {
+                inner.slots[item] = Slot {
+                    value: cell_at(binding_cells, cells, space, cell),
+                };
+                let reads = step_slots;
+                let gives = match reads {
+                    Quad::Slots(a, b, c, d) => reach(
+                        table,
+                        literal,
+                        binding_cells,
+                        binding_text,
+                        cells,
+                        text,
+                        limit,
+                        step,
+                        inner.slots[a],
+                        inner.slots[b],
+                        inner.slots[c],
+                        inner.slots[d],
+                        more,
+                    ),
+                    Quad::No => eval(
+                        table,
+                        literal,
+                        binding_cells,
+                        binding_text,
+                        cells,
+                        text,
+                        limit,
+                        step,
+                        inner,
+                        more,
+                    ),
+                };
+                cell += each as usize;
+                left -= 1;
+                match step_of(folds, held, gives) {
+                    Step::Ends(outcome) => {
+                        return outcome;
+                    }
+                    Step::Hold(pending, after) => {
+                        held = pending;
+                        spent = after;
+                    }
+                    Step::Bind(v, after) => {
+                        inner.slots[accumulator] = Slot { value: v };
+                        held = Pending::Nothing;
+                        spent = after;
+                    }
+                }
+            }
+        }
+    }
+    finish(
+        table,
+        literal,
+        binding_cells,
+        binding_text,
+        cells,
+        text,
+        limit,
+        result,
+        inner,
+        spent,
+        held,
+    )
+}
+
+// The result, unless an error is pending.
+pub fn finish(
+    table: &[u8],
+    literal: &[u8],
+    binding_cells: &[u64],
+    binding_text: &[u8],
+    cells: &mut [u64],
+    text: &mut [u8],
+    limit: usize,
+    result: usize,
+    scope: Scope,
+    used: Used,
+    held: Pending,
+) -> Outcome
+    requires { ⌜ Sound (now table) (now literal) result ⌝ }
+    ensures { λ r. ⌜ Gives r (now (literal .entry)) (now («binding_cells» .entry)) (now («binding_text» .entry)) (now (cells .exit)) (now (text .exit)) (finishWith (machine (now (table .entry)) limit (exprOf (now (table .entry)) (now (literal .entry)) result)) (pendingSeen held) scope used (rooms (now (literal .entry)) (now («binding_cells» .entry)) (now («binding_text» .entry)) (now (cells .entry)) (now (text .entry)))) ⌝ }
+{
+    match held {
+        Pending::Held(error, place) => Outcome::Error(error, place, used),
+        Pending::Nothing => {
+            if is_leaf(table, result) {
+                let slot = slot_at(table, literal, result);
+                leaf(table, literal, limit, result, scope.slots[slot], used)
+            } else {
+                eval(
+                    table,
+                    literal,
+                    binding_cells,
+                    binding_text,
+                    cells,
+                    text,
+                    limit,
+                    result,
+                    scope,
+                    used,
+                )
+            }
+        }
+    }
+}
