@@ -17,7 +17,6 @@ use Rattle.rooms.specs.declared.value.Value.the-variants as Value
 use Rattle.rooms.specs.declared.value.CellSpace.the-variants as Cells
 use Rattle.rooms.specs.declared.scope.Scope.{Scope}
 use Rattle.rooms.specs.Rooms.{Rooms}
-use Rattle.rooms.specs.Scope.{slotOf}
 use Rattle.layout.specs.Layout.{headBytes, wordAt, after}
 use Rattle.accepted.specs.Records.{exprOf, partOf, Sound, SoundPart, elementsOf}
 use Rattle.accepted.proofs.Opened.{opened}
@@ -26,21 +25,21 @@ use Rattle.machine.specs.declared.outcome.Used.{Used}
 use Rattle.machine.specs.declared.outcome.Limit.the-variants as Limit
 use Rattle.machine.specs.declared.outcome.Outcome.{Outcome}
 use Rattle.machine.specs.declared.outcome.Outcome.the-variants as Outcome
-use Rattle.machine.specs.Outcomes.{Res, withWords, whole}
+use Rattle.machine.specs.Outcomes.{withWords, whole}
 use Rattle.machine.specs.Views.{partIn}
 use Rattle.machine.specs.Machine.{body, machine}
 use Rattle.containers.specs.declared.Begun.{Begun}
 use Rattle.containers.specs.declared.Begun.the-variants as Begun
 use Rattle.containers.specs.declared.Ready.{Ready}
 use Rattle.containers.specs.Filling.{begunOf, BegunIn, addedOf, AddedIn}
-use Rattle.leaves.specs.Leaf.{slotIn, unmarkedAt}
+use Rattle.leaves.specs.Leaf.{unmarkedAt}
 use Rattle.leaves.proofs.KindLaws.{kindIn, kind-here, part-stands}
 use Rattle.leaves.proofs.Rows.{list-at, element-next}
-use Rattle.sides.specs.declared.Quad.{Quad}
 use Rattle.sides.specs.declared.Quad.the-variants as Quad
-use Rattle.sides.specs.Sides.{isLeaf, nearOf, IsQuad, QuadHolds}
+use Rattle.sides.specs.Sides.{IsQuad, QuadHolds}
+use Rattle.reach.specs.Reach.{reachOf}
 use Rattle.flats.proofs.Stops.{Is, Stops}
-use Rattle.singles.specs.Singles.{alone, onlyOf, onlyIn, partSlots, slotsOf, singleOf}
+use Rattle.singles.specs.Singles.{alone, onlyOf, onlyIn, slotsOf, singleOf}
 use Rattle.singles.proofs.Begins.{begun-places, list-full, list-is}
 use Rattle.singles.proofs.Lists.{no-element, element-stops, element-again}
 
@@ -141,26 +140,8 @@ module _ (t x : List ℕ) (p : ℕ) (s : Sound t x p) where
         bare-sound i =
             rw place (part-bare t x (p + 5) (part-sound t x p s k (omega (arith, n))) (eqb-false (getD t (p + 5) 0) 14 (sym mark-at ∙ i)) .0)
 
-        pub bare-one : b ≡ false → partSlots (exprOf t x q) ≡ singleOf (exprOf t x p)
+        pub bare-one : b ≡ false → reachOf (exprOf t x q) ≡ singleOf (exprOf t x p)
         bare-one i = rw place (rw (n, sym mark-at ∙ i) at (slots-here t x p s k))
-
--- ---- its element as a record
-
-module _ (e : Expr) {b : Bool} (i : b ≡ isLeaf e) where
-  pub leaf-slots : b ≡ true → {n : ℕ} → n ≡ slotIn e → Quad.Slots n 0 0 0 ≡ partSlots e
-  leaf-slots j k = rw (sym i ∙ j, k)
-
-  pub near-slots : b ≡ false → {m : Quad} → m ≡ nearOf e → m ≡ partSlots e
-  near-slots j k = rw (sym i ∙ j) k
-
-  pub own-slot : b ≡ true → (c : Scope) (v w x y : Value) → QuadHolds c (partSlots e) v w x y → slotOf c (slotIn e) ≡ v
-  own-slot j c v w x y h = let k : QuadHolds c (Quad.Slots (slotIn e) 0 0 0) v w x y = rw (sym i ∙ j) at h in k .0
-
-  pub near-asked : b ≡ false → IsQuad (partSlots e) → IsQuad (nearOf e)
-  near-asked j h = rw (sym i ∙ j) at h
-
-  pub near-shows : b ≡ false → (c : Scope) (v w x y : Value) → QuadHolds c (partSlots e) v w x y → QuadHolds c (nearOf e) v w x y
-  near-shows j c v w x y h = rw (sym i ∙ j) at h
 
 -- ---- what it does
 
@@ -171,7 +152,7 @@ pub record Single (t x : List ℕ) (p : ℕ) : Type 0 where
   pub bare : eqb (getD t (p + 5) 0) 14 ≡ false
   pub part : SoundPart t x (p + 5)
   pub sound : Sound t x (p + 5)
-  pub slots : singleOf (exprOf t x p) ≡ partSlots (exprOf t x (p + 5))
+  pub slots : singleOf (exprOf t x p) ≡ reachOf (exprOf t x (p + 5))
 
 by-tests : (a b : Bool) (e : Expr) → IsQuad (slotsOf (cond a (cond b none (some e)) none)) → (a ≡ true) × (b ≡ false)
 by-tests true true e h = absurd h
@@ -197,11 +178,11 @@ module _ (t x : List ℕ) (p : ℕ) (s : Sound t x p) where
 
 -- its element, as the code begins it
 module _ (t x : List ℕ) (p : ℕ) (single : Single t x p) {q : ℕ} (at : q ≡ p + headBytes (getD t p 0)) where
-  pub element-asked : IsQuad (singleOf (exprOf t x p)) → Sound t x q × IsQuad (partSlots (exprOf t x q))
+  pub element-asked : IsQuad (singleOf (exprOf t x p)) → Sound t x q × IsQuad (reachOf (exprOf t x q))
   element-asked h = rw (at ∙ single .place) (single .sound, rw (single .slots) at h)
 
   pub element-gives : (c : Scope) (v w y z : Value) → QuadHolds c (singleOf (exprOf t x p)) v w y z → (limit : ℕ) (u : Used) (r : Rooms) {o : Outcome} {d : Rooms} →
-      ((s : Scope) → QuadHolds s (partSlots (exprOf t x q)) v w y z → Is o d (machine t limit (exprOf t x q) s u r)) → Is o d (machine t limit (exprOf t x (p + 5)) c u r)
+      ((s : Scope) → QuadHolds s (reachOf (exprOf t x q)) v w y z → Is o d (machine t limit (exprOf t x q) s u r)) → Is o d (machine t limit (exprOf t x (p + 5)) c u r)
   element-gives c v w y z h limit u r e = let f = rw (at ∙ single .place) at e in f c (rw (single .slots) at h)
 
 module _ (t x : List ℕ) (limit p : ℕ) (sound : Sound t x p) (single : Single t x p) (c : Scope) (u : Used) (r : Rooms)

@@ -1,11 +1,9 @@
--- A List record of one element without a mark, and the slots that it reads where its element is a literal or a name, or near those.
-use mathlib.Core.Bool.{cond}
+-- A List record of one element without a mark, and the slots that it reads where its element is within reach.
 use mathlib.Core.Option.{Option, none, some}
 use Rattle.meaning.specs.Expr.{Expr, literal, name, unary, binary, conditional, select, listOf, mapOf, comprehension, call, noneCall, orValue, Elements, noElements, element, markedElement}
-use Rattle.leaves.specs.Leaf.{slotIn}
 use Rattle.sides.specs.declared.Quad.{Quad}
 use Rattle.sides.specs.declared.Quad.the-variants as Quad
-use Rattle.sides.specs.Sides.{isLeaf, nearOf}
+use Rattle.reach.specs.Reach.{reachOf}
 
 -- ---- its element
 
@@ -35,13 +33,9 @@ onlyIn (orValue p e f) = none
 
 -- ---- the slots
 
--- of a literal or a name its own
-abbrev pub partSlots : Expr → Quad
-partSlots e = cond (isLeaf e) (Quad.Slots (slotIn e) 0 0 0) (nearOf e)
-
 abbrev pub slotsOf : Option Expr → Quad
 slotsOf none = Quad.No
-slotsOf (some e) = partSlots e
+slotsOf (some e) = reachOf e
 
 abbrev pub singleOf : Expr → Quad
 singleOf e = slotsOf (onlyIn e)

@@ -1,36 +1,33 @@
-// A List record of one element without a mark, near its leaves, evaluated with its slots and no scope: what a turn of the append path begins.
+// A List record of one element without a mark, the element within reach, evaluated with its slots and no scope: what a turn of the append path begins.
 ghost use mathlib.Core.Path.{_≡_};
 ghost use Rattle.rooms.specs.Rooms.{rooms};
 ghost use Rattle.accepted.specs.Records.{Sound, exprOf};
 ghost use Rattle.machine.specs.Machine.{machine};
 ghost use Rattle.outcomes.specs.Gives.{Gives};
 ghost use Rattle.sides.specs.Sides.{IsQuad, QuadBelow, QuadHolds};
-ghost use Rattle.singles.specs.Singles.{partSlots, singleOf};
+ghost use Rattle.singles.specs.Singles.{singleOf};
 use bodies::count_at;
 use containers::Begun;
 use containers::Ready;
 use containers::begin;
 use containers::whole_list;
 use layout::kinds::LIST;
-use leaves::is_leaf;
 use leaves::is_marked;
-use leaves::leaf;
-use leaves::slot_at;
 use machine::outcome::Outcome;
 use machine::outcome::Used;
 use marking::add_element;
-use nearby::near;
 use outcomes::outcomes::out_of_cells;
 use outcomes::outcomes::out_of_steps;
 use outcomes::outcomes::stepped;
 use outline::first_operand;
 use outline::kind_at;
+use reach::reach;
+use reach::reach_at;
 use rooms::scope::Scope;
 use rooms::scope::Slot;
 use sides::Quad;
-use sides::near_at;
 
-// The slots of its element: of a literal or a name its own, of any other as `near_at` says.
+// The slots of its element.
 pub fn single_at(table: &[u8], literal: &[u8], at: usize) -> Quad
     requires { ⌜ Sound (now table) (now literal) at ⌝ }
     ensures { λ r. ⌜ (r ≡ singleOf (exprOf (now (table .entry)) (now (literal .entry)) at)) × QuadBelow r ⌝ }
@@ -45,49 +42,7 @@ pub fn single_at(table: &[u8], literal: &[u8], at: usize) -> Quad
     if is_marked(table, element) {
         return Quad::No;
     }
-    if is_leaf(table, element) {
-        return Quad::Slots(slot_at(table, literal, element), 0, 0, 0);
-    }
-    near_at(table, literal, element)
-}
-
-// The element: a literal or a name, or a record that is near.
-fn part(
-    table: &[u8],
-    literal: &[u8],
-    binding_cells: &[u64],
-    binding_text: &[u8],
-    cells: &mut [u64],
-    text: &mut [u8],
-    limit: usize,
-    at: usize,
-    first: Slot,
-    second: Slot,
-    third: Slot,
-    fourth: Slot,
-    used: Used,
-) -> Outcome
-    requires { ⌜ Sound (now table) (now literal) at × IsQuad (partSlots (exprOf (now table) (now literal) at)) ⌝ }
-    ensures { λ r. ⌜ ((c : Scope) → QuadHolds c (partSlots (exprOf (now (table .entry)) (now (literal .entry)) at)) (first .value) (second .value) (third .value) (fourth .value) → Gives r (now (literal .entry)) (now («binding_cells» .entry)) (now («binding_text» .entry)) (now (cells .exit)) (now (text .exit)) (machine (now (table .entry)) limit (exprOf (now (table .entry)) (now (literal .entry)) at) c used (rooms (now (literal .entry)) (now («binding_cells» .entry)) (now («binding_text» .entry)) (now (cells .entry)) (now (text .entry))))) ⌝ }
-{
-    if is_leaf(table, at) {
-        return leaf(table, literal, limit, at, first, used);
-    }
-    near(
-        table,
-        literal,
-        binding_cells,
-        binding_text,
-        cells,
-        text,
-        limit,
-        at,
-        first,
-        second,
-        third,
-        fourth,
-        used,
-    )
+    reach_at(table, literal, element)
 }
 
 // The step, the cell, the element, then the list of it: what it gives in any scope that has these values in its slots.
@@ -116,7 +71,7 @@ pub fn single(
     match begin(cells, 1, 1, begun) {
         Begun::Full => out_of_cells(begun),
         Begun::At(start, _, taken) => {
-            let element = part(
+            let element = reach(
                 table,
                 literal,
                 binding_cells,

@@ -48,8 +48,8 @@ first-operand-requires c κs =
     let stands = sound-stands (c .before .before .before .before .before .before .before .before .before .before .before .before .before .before .before .before .before .before .args .table .now) (c .before .before .before .before .before .before .before .before .before .before .before .before .before .before .before .before .before .before .args .literal .now) (c .before .before .before .before .before .before .before .before .before .before .before .before .before .before .before .before .before .before .args .at) (c .before .before .before .before .before .before .before .before .before .before .before .before .before .before .before .before .before .before .pre .0) in
     (stands .here, stands .known)
 
-part-requires : tie.Need-part-requires
-part-requires c κs =
+reach-requires : tie.Need-reach-requires
+reach-requires c κs =
     let args = c .before .before .before .before .before .before .before .before .before .before .before .before .before .before .before .before .before .before .before .args in
     let table = args .table .now in
     let literal = args .literal .now in
@@ -63,10 +63,10 @@ enum-known-element : tie.Need-enum-known-element
 enum-known-element c = search needs
 
 same-length : tie.Need-same-length
-same-length c = c .before .before .before .before .before .part .kept .1 .1 .1 .1 .0 ∙ c .before .before .before .before .before .before .before .before .before .before .before .before .before .before .begin .kept .0
+same-length c = c .before .before .before .before .before .reach .kept .1 .1 .1 .1 .0 ∙ c .before .before .before .before .before .before .before .before .before .before .before .before .before .before .begin .kept .0
 
 same-length-2 : tie.Need-same-length-2
-same-length-2 c = c .before .before .before .before .before .part .kept .1 .1 .1 .1 .1 .0
+same-length-2 c = c .before .before .before .before .before .reach .kept .1 .1 .1 .1 .1 .0
 
 returns-2 : tie.Need-returns-2
 returns-2 c =
@@ -81,7 +81,7 @@ returns-2 c =
     let pre = c .before .before .before .before .before .before .before .before .before .before .before .before .before .before .before .before .before .before .before .before .before .before .before .before .before .pre in
     let one = single-here table literal at (pre .0) (pre .1) in
     λ s h.
-    let element = element-gives table literal at one (c .before .before .before .before .before .before .first-operand .ensures) s (args .first .value) (args .second .value) (args .third .value) (args .fourth .value) h limit _ _ (c .before .before .before .before .before .part .ensures) in
+    let element = element-gives table literal at one (c .before .before .before .before .before .before .first-operand .ensures) s (args .first .value) (args .second .value) (args .third .value) (args .fourth .value) h limit _ _ (c .before .before .before .before .before .reach .ensures) in
     after-step table literal limit at s (args .used) lent (c .before .before .before .before .before .before .before .before .before .before .before .before .before .before .before .before .before .if1 .left) (c .before .before .before .before .before .before .before .before .before .before .before .before .before .before .before .before .stepped .ensures) (single-stops table literal limit at (pre .0) one s (c .before .before .before .before .before .before .before .before .before .before .before .before .before .before .before .before .stepped .result) lent (c .before .before .before .before .before .before .before .before .before .before .before .before .before .before .begin .ensures) (c .before .before .before .before .before .before .before .before .before .before .start .given .1) element (c .match2 .keys2))
 
 add-element-requires : tie.Need-add-element-requires
@@ -92,9 +92,9 @@ whole-list-requires c κs =
     let args = c .before .before .before .before .before .before .before .before .before .before .before .before .before .before .before .before .before .before .before .before .before .before .before .before .before .before .before .before .before .before .before .args in
     let literal = args .literal .now in
     let texts = args .binding-text .now in
-    let part = c .before .before .before .before .before .before .before .before .before .before .before .part in
-    let cells = part .last .1 .1 .1 .1 .0 in
-    let text = part .last .1 .1 .1 .1 .1 .0 in
+    let reach = c .before .before .before .before .before .before .before .before .before .before .before .reach in
+    let cells = reach .last .1 .1 .1 .1 .0 in
+    let text = reach .last .1 .1 .1 .1 .1 .0 in
     let none : Ready = record { count = 0; deep = 0 } in
     let count = added-count (partIn (rooms literal (args .binding-cells .now) texts cells text) false (c .before .before .before .before .before .element .given .0 .0)) (c .before .before .before .before .before .before .before .before .before .before .before .before .before .before .before .before .start .given .0 .0) none cells (c .before .before .add-element .ensures literal texts text) in
     omega (arith, count)
@@ -117,10 +117,10 @@ returns-3 c =
     λ s h. after-step table literal limit at s (args .used) lent (c .before .before .before .before .before .before .before .before .if1 .left) (c .before .before .before .before .before .before .before .stepped .ensures) (single-full table literal limit at (pre .0) one s (c .before .before .before .before .before .before .before .stepped .result) lent (c .before .before .before .before .before .begin .ensures) (c .before .enum-told .given .1) (c .out-of-cells .ensures))
 
 same-length-4 : tie.Need-same-length-4
-same-length-4 c = c .before .before .before .add-element .kept .1 .0 ∙ (c .before .before .before .before .before .before .before .before .before .before .before .before .part .kept .1 .1 .1 .1 .0 ∙ c .before .before .before .before .before .before .before .before .before .before .before .before .before .before .before .before .before .before .before .before .before .begin .kept .0)
+same-length-4 c = c .before .before .before .add-element .kept .1 .0 ∙ (c .before .before .before .before .before .before .before .before .before .before .before .before .reach .kept .1 .1 .1 .1 .0 ∙ c .before .before .before .before .before .before .before .before .before .before .before .before .before .before .before .before .before .before .before .before .before .begin .kept .0)
 
 same-length-5 : tie.Need-same-length-5
-same-length-5 c = c .before .before .before .before .before .before .before .before .before .before .before .before .part .kept .1 .1 .1 .1 .1 .0
+same-length-5 c = c .before .before .before .before .before .before .before .before .before .before .before .before .reach .kept .1 .1 .1 .1 .1 .0
 
 returns-4 : tie.Need-returns-4
 returns-4 c =
@@ -135,8 +135,8 @@ returns-4 c =
     let pre = c .before .before .before .before .before .before .before .before .before .before .before .before .before .before .before .before .before .before .before .before .before .before .before .before .before .before .before .before .before .before .before .before .pre in
     let one = single-here table literal at (pre .0) (pre .1) in
     λ s h.
-    let element = element-gives table literal at one (c .before .before .before .before .before .before .before .before .before .before .before .before .before .first-operand .ensures) s (args .first .value) (args .second .value) (args .third .value) (args .fourth .value) h limit _ _ (c .before .before .before .before .before .before .before .before .before .before .before .before .part .ensures) in
-    after-step table literal limit at s (args .used) lent (c .before .before .before .before .before .before .before .before .before .before .before .before .before .before .before .before .before .before .before .before .before .before .before .before .if1 .left) (c .before .before .before .before .before .before .before .before .before .before .before .before .before .before .before .before .before .before .before .before .before .before .before .stepped .ensures) (single-whole table literal limit at (pre .0) one s (c .before .before .before .before .before .before .before .before .before .before .before .before .before .before .before .before .before .before .before .before .before .before .before .stepped .result) lent (c .before .before .before .before .before .before .before .before .before .before .before .before .before .before .before .before .before .before .before .before .before .begin .ensures) (c .before .before .before .before .before .before .before .before .before .before .before .before .before .before .before .before .before .start .given .1) element (c .before .before .before .before .before .before .element .given .1) (c .before .before .before .add-element .ensures literal texts (c .before .before .before .before .before .before .before .before .before .before .before .before .part .last .1 .1 .1 .1 .1 .0)) (c .whole-list .ensures))
+    let element = element-gives table literal at one (c .before .before .before .before .before .before .before .before .before .before .before .before .before .first-operand .ensures) s (args .first .value) (args .second .value) (args .third .value) (args .fourth .value) h limit _ _ (c .before .before .before .before .before .before .before .before .before .before .before .before .reach .ensures) in
+    after-step table literal limit at s (args .used) lent (c .before .before .before .before .before .before .before .before .before .before .before .before .before .before .before .before .before .before .before .before .before .before .before .before .if1 .left) (c .before .before .before .before .before .before .before .before .before .before .before .before .before .before .before .before .before .before .before .before .before .before .before .stepped .ensures) (single-whole table literal limit at (pre .0) one s (c .before .before .before .before .before .before .before .before .before .before .before .before .before .before .before .before .before .before .before .before .before .before .before .stepped .result) lent (c .before .before .before .before .before .before .before .before .before .before .before .before .before .before .before .before .before .before .before .before .before .begin .ensures) (c .before .before .before .before .before .before .before .before .before .before .before .before .before .before .before .before .before .start .given .1) element (c .before .before .before .before .before .before .element .given .1) (c .before .before .before .add-element .ensures literal texts (c .before .before .before .before .before .before .before .before .before .before .before .before .reach .last .1 .1 .1 .1 .1 .0)) (c .whole-list .ensures))
 
 pub single-spec : {M : Type 1} → statement M
 single-spec =
@@ -150,7 +150,7 @@ single-spec =
     out-of-cells-requires
     enum-known-start
     first-operand-requires
-    part-requires
+    reach-requires
     enum-known-element
     same-length
     same-length-2

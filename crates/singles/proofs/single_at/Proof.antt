@@ -1,11 +1,8 @@
 -- `singles::single_at` meets its contract. Assumes nothing.
 use mathlib.Core.Path.{sym, _∙_}
-use native.Mathlib.Omega.{arith}
-use Rattle.accepted.specs.Records.{exprOf}
 use Rattle.leaves.proofs.KindLaws.{sound-stands}
 use Rattle.leaves.proofs.Rows.{list-at}
-use Rattle.sides.proofs.SideLaws.{leaf-seen}
-use Rattle.singles.proofs.SingleLaws.{other-kind, other-count, element-stands, marked-one, bare-sound, bare-one, leaf-slots, near-slots}
+use Rattle.singles.proofs.SingleLaws.{other-kind, other-count, element-stands, marked-one, bare-sound, bare-one}
 use Rattle.singles.proofs.single_at.Statement.{statement}
 use Rattle.singles.proofs.single_at.Tie as tie
 
@@ -57,8 +54,8 @@ returns-3 c =
     let place = c .before .before .first-operand .ensures in
     (marked-one table literal at pre kind count place (c .before .is-marked .ensures) (c .if3 .taken), tt)
 
-is-leaf-requires : tie.Need-is-leaf-requires
-is-leaf-requires c κs =
+reach-at-requires : tie.Need-reach-at-requires
+reach-at-requires c κs =
     let args = c .before .before .before .before .before .before .before .before .before .args in
     let pre = c .before .before .before .before .before .before .before .before .before .pre in
     let table = args .table .now in
@@ -68,65 +65,21 @@ is-leaf-requires c κs =
     let count = sym (c .before .before .before .before .count-at .ensures .0) ∙ c .before .before .before .if2 .left in
     let place = c .before .before .first-operand .ensures in
     let mark = c .before .is-marked .ensures in
-    sound-stands table literal (c .before .before .first-operand .result) (bare-sound table literal at pre kind count place mark (c .if3 .left)) .here
-
-slot-at-requires : tie.Need-slot-at-requires
-slot-at-requires c κs =
-    let args = c .before .before .before .before .before .before .before .before .before .before .before .args in
-    let pre = c .before .before .before .before .before .before .before .before .before .before .before .pre in
-    let table = args .table .now in
-    let literal = args .literal .now in
-    let at = args .at in
-    let kind = sym (c .before .before .before .before .before .before .before .before .kind-at .ensures) ∙ c .before .before .before .before .before .before .before .if1 .left in
-    let count = sym (c .before .before .before .before .before .before .count-at .ensures .0) ∙ c .before .before .before .before .before .if2 .left in
-    let place = c .before .before .before .before .first-operand .ensures in
-    let mark = c .before .before .before .is-marked .ensures in
-    bare-sound table literal at pre kind count place mark (c .before .before .if3 .left)
+    bare-sound table literal at pre kind count place mark (c .if3 .left)
 
 returns-4 : tie.Need-returns-4
 returns-4 c =
-    let args = c .before .before .before .before .before .before .before .before .before .before .before .before .args in
-    let pre = c .before .before .before .before .before .before .before .before .before .before .before .before .pre in
+    let args = c .before .before .before .before .before .before .before .before .before .before .args in
+    let pre = c .before .before .before .before .before .before .before .before .before .before .pre in
     let table = args .table .now in
     let literal = args .literal .now in
     let at = args .at in
-    let kind = sym (c .before .before .before .before .before .before .before .before .before .kind-at .ensures) ∙ c .before .before .before .before .before .before .before .before .if1 .left in
-    let count = sym (c .before .before .before .before .before .before .before .count-at .ensures .0) ∙ c .before .before .before .before .before .before .if2 .left in
-    let place = c .before .before .before .before .before .first-operand .ensures in
-    let mark = c .before .before .before .before .is-marked .ensures in
-    let element = c .before .before .before .before .before .first-operand .result in
-    let seen = leaf-seen table literal element (bare-sound table literal at pre kind count place mark (c .before .before .before .if3 .left)) (c .before .before .is-leaf .ensures) in
-    let slot = c .slot-at .ensures in
-    (leaf-slots (exprOf table literal element) seen (c .before .if4 .taken) (slot .0) ∙ bare-one table literal at pre kind count place mark (c .before .before .before .if3 .left), (slot .1, omega arith, omega arith, omega arith))
-
-near-at-requires : tie.Need-near-at-requires
-near-at-requires c κs =
-    let args = c .before .before .before .before .before .before .before .before .before .before .before .args in
-    let pre = c .before .before .before .before .before .before .before .before .before .before .before .pre in
-    let table = args .table .now in
-    let literal = args .literal .now in
-    let at = args .at in
-    let kind = sym (c .before .before .before .before .before .before .before .before .kind-at .ensures) ∙ c .before .before .before .before .before .before .before .if1 .left in
-    let count = sym (c .before .before .before .before .before .before .count-at .ensures .0) ∙ c .before .before .before .before .before .if2 .left in
-    let place = c .before .before .before .before .first-operand .ensures in
-    let mark = c .before .before .before .is-marked .ensures in
-    bare-sound table literal at pre kind count place mark (c .before .before .if3 .left)
-
-returns-5 : tie.Need-returns-5
-returns-5 c =
-    let args = c .before .before .before .before .before .before .before .before .before .before .before .before .args in
-    let pre = c .before .before .before .before .before .before .before .before .before .before .before .before .pre in
-    let table = args .table .now in
-    let literal = args .literal .now in
-    let at = args .at in
-    let kind = sym (c .before .before .before .before .before .before .before .before .before .kind-at .ensures) ∙ c .before .before .before .before .before .before .before .before .if1 .left in
-    let count = sym (c .before .before .before .before .before .before .before .count-at .ensures .0) ∙ c .before .before .before .before .before .before .if2 .left in
-    let place = c .before .before .before .before .before .first-operand .ensures in
-    let mark = c .before .before .before .before .is-marked .ensures in
-    let element = c .before .before .before .before .before .first-operand .result in
-    let seen = leaf-seen table literal element (bare-sound table literal at pre kind count place mark (c .before .before .before .if3 .left)) (c .before .before .is-leaf .ensures) in
-    let near = c .near-at .ensures in
-    (near-slots (exprOf table literal element) seen (c .before .if4 .left) (near .0) ∙ bare-one table literal at pre kind count place mark (c .before .before .before .if3 .left), near .1)
+    let kind = sym (c .before .before .before .before .before .before .before .kind-at .ensures) ∙ c .before .before .before .before .before .before .if1 .left in
+    let count = sym (c .before .before .before .before .before .count-at .ensures .0) ∙ c .before .before .before .before .if2 .left in
+    let place = c .before .before .before .first-operand .ensures in
+    let mark = c .before .before .is-marked .ensures in
+    let reach = c .reach-at .ensures in
+    (reach .0 ∙ bare-one table literal at pre kind count place mark (c .before .if3 .left), reach .1)
 
 pub single-at-spec : {M : Type 1} → statement M
 single-at-spec =
@@ -139,8 +92,5 @@ single-at-spec =
     first-operand-requires
     is-marked-requires
     returns-3
-    is-leaf-requires
-    slot-at-requires
-    returns-4
-    near-at-requires
-    returns-5)
+    reach-at-requires
+    returns-4)
