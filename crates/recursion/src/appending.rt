@@ -97,7 +97,7 @@ pub fn appends(
                 let passes = if guarded {
                     let reads = guard_slots;
                     let test = match reads {
-                        Quad::Slots(a, b, c, d) => reach(
+                        Quad::Slots(first_slot, second_slot, third_slot, fourth_slot) => reach(
                             table,
                             literal,
                             binding_cells,
@@ -106,10 +106,10 @@ pub fn appends(
                             text,
                             limit,
                             guard,
-                            inner.slots[a],
-                            inner.slots[b],
-                            inner.slots[c],
-                            inner.slots[d],
+                            inner.slots[first_slot],
+                            inner.slots[second_slot],
+                            inner.slots[third_slot],
+                            inner.slots[fourth_slot],
                             more,
                         ),
                         Quad::No => eval(
@@ -139,7 +139,7 @@ pub fn appends(
                     Asked::Holds(after) => {
                         let reads = list_slots;
                         let items = match reads {
-                            Quad::Slots(a, b, c, d) => single(
+                            Quad::Slots(first_slot, second_slot, third_slot, fourth_slot) => single(
                                 table,
                                 literal,
                                 binding_cells,
@@ -148,10 +148,10 @@ pub fn appends(
                                 text,
                                 limit,
                                 list,
-                                inner.slots[a],
-                                inner.slots[b],
-                                inner.slots[c],
-                                inner.slots[d],
+                                inner.slots[first_slot],
+                                inner.slots[second_slot],
+                                inner.slots[third_slot],
+                                inner.slots[fourth_slot],
                                 after,
                             ),
                             Quad::No => eval(

@@ -195,7 +195,7 @@ pub fn turns(
     while 0 < left {
         let reads = condition_slots;
         let test = match reads {
-            Quad::Slots(a, b, c, d) => reach(
+            Quad::Slots(first_slot, second_slot, third_slot, fourth_slot) => reach(
                 table,
                 literal,
                 binding_cells,
@@ -204,10 +204,10 @@ pub fn turns(
                 text,
                 limit,
                 condition,
-                inner.slots[a],
-                inner.slots[b],
-                inner.slots[c],
-                inner.slots[d],
+                inner.slots[first_slot],
+                inner.slots[second_slot],
+                inner.slots[third_slot],
+                inner.slots[fourth_slot],
                 spent,
             ),
             Quad::No => eval(
@@ -249,7 +249,7 @@ pub fn turns(
                 };
                 let reads = step_slots;
                 let gives = match reads {
-                    Quad::Slots(a, b, c, d) => reach(
+                    Quad::Slots(first_slot, second_slot, third_slot, fourth_slot) => reach(
                         table,
                         literal,
                         binding_cells,
@@ -258,10 +258,10 @@ pub fn turns(
                         text,
                         limit,
                         step,
-                        inner.slots[a],
-                        inner.slots[b],
-                        inner.slots[c],
-                        inner.slots[d],
+                        inner.slots[first_slot],
+                        inner.slots[second_slot],
+                        inner.slots[third_slot],
+                        inner.slots[fourth_slot],
                         more,
                     ),
                     Quad::No => eval(

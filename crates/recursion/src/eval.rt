@@ -114,7 +114,7 @@ pub fn eval(
         Shape::Operands(fixed) => {
             let one = begun_first(table, literal, at, fixed);
             let left = match reach_at(table, literal, one) {
-                Quad::Slots(a, b, c, d) => reach(
+                Quad::Slots(first_slot, second_slot, third_slot, fourth_slot) => reach(
                     table,
                     literal,
                     binding_cells,
@@ -123,10 +123,10 @@ pub fn eval(
                     text,
                     limit,
                     one,
-                    scope.slots[a],
-                    scope.slots[b],
-                    scope.slots[c],
-                    scope.slots[d],
+                    scope.slots[first_slot],
+                    scope.slots[second_slot],
+                    scope.slots[third_slot],
+                    scope.slots[fourth_slot],
                     begun,
                 ),
                 Quad::No => eval(
@@ -158,7 +158,7 @@ pub fn eval(
                 Next::Stop(outcome) => outcome,
                 Next::At(two, more) => {
                     let right = match reach_at(table, literal, two) {
-                        Quad::Slots(a, b, c, d) => reach(
+                        Quad::Slots(first_slot, second_slot, third_slot, fourth_slot) => reach(
                             table,
                             literal,
                             binding_cells,
@@ -167,10 +167,10 @@ pub fn eval(
                             text,
                             limit,
                             two,
-                            scope.slots[a],
-                            scope.slots[b],
-                            scope.slots[c],
-                            scope.slots[d],
+                            scope.slots[first_slot],
+                            scope.slots[second_slot],
+                            scope.slots[third_slot],
+                            scope.slots[fourth_slot],
                             more,
                         ),
                         Quad::No => eval(

@@ -36,7 +36,7 @@ use Rattle.recursion.proofs.+appending-appends+comprehension-comprehend
 use Rattle.recursion.proofs.+appending-appends+comprehension-comprehend+comprehension-finish+comprehension-turns+eval-eval+listing-list_parts+mapping-map_parts.Proof.Appends.{appends-loop-holds, appends-leaf-requires, appends-asks-requires, appends-enum-known-outcome, appends-same-length, appends-same-length-2, appends-returns, appends-enum-known-more, appends-slice-aggregate-collected-list, appends-slice-aggregate-collected-list-2, appends-collected-list-requires, appends-same-length-3, appends-same-length-4, appends-returns-2, appends-enum-known-more-2, appends-cell-at-requires, appends-element-set-from-inner, appends-add-cell, appends-sub-left, appends-asks-requires-2, appends-enum-known-passes, appends-same-length-5, appends-same-length-6, appends-returns-3, appends-enum-known-passes-2, appends-loop-less, appends-loop-again, appends-enum-known-passes-3, appends-gather-items-requires, appends-enum-known-outcome-2, appends-same-length-7, appends-same-length-8, appends-returns-4, appends-enum-known-from, appends-slice-aggregate-add-run, appends-slice-aggregate-add-run-2, appends-add-run-requires, appends-loop-less-2, appends-loop-again-2, appends-slice-aggregate-collected-list-3, appends-slice-aggregate-collected-list-4, appends-collected-list-requires-2, appends-same-length-9, appends-same-length-10, appends-returns-5}
 use Rattle.recursion.proofs.+appending-appends+comprehension-comprehend+comprehension-finish+comprehension-turns+eval-eval+listing-list_parts+mapping-map_parts.Proof.Comprehend.{comprehend-first-operand-requires, comprehend-end-at-requires, comprehend-eval-requires, comprehend-enum-known-one, comprehend-same-length, comprehend-same-length-2, comprehend-returns, comprehend-eval-requires-2, comprehend-enum-known-two, comprehend-same-length-3, comprehend-same-length-4, comprehend-returns-2, comprehend-range-of-requires, comprehend-enum-known-space, comprehend-enum-told, comprehend-same-length-5, comprehend-same-length-6, comprehend-returns-3, comprehend-places-at-requires, comprehend-append-path-requires, comprehend-enum-told-2, comprehend-turns-requires, comprehend-enum-known-list, comprehend-appends-requires, comprehend-enum-known-guard, comprehend-appends-requires-2, comprehend-same-length-7, comprehend-same-length-8, comprehend-returns-4, comprehend-same-length-9, comprehend-same-length-10, comprehend-returns-5, comprehend-same-length-11, comprehend-same-length-12, comprehend-returns-6}
 use Rattle.recursion.proofs.+appending-appends+comprehension-comprehend+comprehension-finish+comprehension-turns+eval-eval+listing-list_parts+mapping-map_parts.Proof.Eval.{eval-out-of-steps-requires, eval-returns, eval-stepped-requires, eval-shape-at-requires, eval-enum-told, eval-slot-at-requires, eval-mul-leaf-value, eval-element-copy-out-leaf-value, eval-leaf-value-requires, eval-enum-told-2, eval-enum-told-3, eval-count-at-requires, eval-begin-requires, eval-enum-told-4, eval-out-of-cells-requires, eval-enum-known-first, eval-list-parts-requires, eval-enum-told-5, eval-count-at-requires-2, eval-mul-begin, eval-begin-requires-2, eval-enum-told-6, eval-out-of-cells-requires-2, eval-enum-known-first-2, eval-map-parts-requires, eval-enum-told-7, eval-comprehend-requires, eval-enum-known-fixed, eval-returns-2, eval-returns-3, eval-same-length, eval-returns-4, eval-same-length-2, eval-same-length-3, eval-returns-5, eval-same-length-4, eval-returns-6, eval-same-length-5, eval-same-length-6, eval-returns-7, eval-same-length-7, eval-same-length-8, eval-returns-8}
-use Rattle.recursion.proofs.+appending-appends+comprehension-comprehend+comprehension-finish+comprehension-turns+eval-eval+listing-list_parts+mapping-map_parts.Proof.EvalOperands.{eval-begun-first-requires, eval-reach-at-requires, eval-enum-known-a, eval-mul-reach, eval-element-copy-out-reach, eval-mul-reach-2, eval-element-copy-out-reach-2, eval-mul-reach-3, eval-element-copy-out-reach-3, eval-mul-reach-4, eval-element-copy-out-reach-4, eval-reach-requires, eval-enum-told-8, eval-eval-requires, eval-after-first-requires, eval-enum-known-outcome, eval-enum-known-two, eval-reach-at-requires-2, eval-enum-known-a-2, eval-mul-reach-5, eval-element-copy-out-reach-5, eval-mul-reach-6, eval-element-copy-out-reach-6, eval-mul-reach-7, eval-element-copy-out-reach-7, eval-mul-reach-8, eval-element-copy-out-reach-8, eval-reach-requires-2, eval-enum-told-9, eval-eval-requires-2, eval-after-both-requires, eval-same-length-9, eval-same-length-10, eval-returns-9, eval-same-length-11, eval-same-length-12, eval-returns-10}
+use Rattle.recursion.proofs.+appending-appends+comprehension-comprehend+comprehension-finish+comprehension-turns+eval-eval+listing-list_parts+mapping-map_parts.Proof.EvalOperands.{eval-begun-first-requires, eval-reach-at-requires, eval-enum-known-first-slot, eval-mul-reach, eval-element-copy-out-reach, eval-mul-reach-2, eval-element-copy-out-reach-2, eval-mul-reach-3, eval-element-copy-out-reach-3, eval-mul-reach-4, eval-element-copy-out-reach-4, eval-reach-requires, eval-enum-told-8, eval-eval-requires, eval-after-first-requires, eval-enum-known-outcome, eval-enum-known-two, eval-reach-at-requires-2, eval-enum-known-first-slot-2, eval-mul-reach-5, eval-element-copy-out-reach-5, eval-mul-reach-6, eval-element-copy-out-reach-6, eval-mul-reach-7, eval-element-copy-out-reach-7, eval-mul-reach-8, eval-element-copy-out-reach-8, eval-reach-requires-2, eval-enum-told-9, eval-eval-requires-2, eval-after-both-requires, eval-same-length-9, eval-same-length-10, eval-returns-9, eval-same-length-11, eval-same-length-12, eval-returns-10}
 use Rattle.recursion.proofs.+appending-appends+comprehension-comprehend+comprehension-finish+comprehension-turns+eval-eval+listing-list_parts+mapping-map_parts.Proof.Finish.{finish-enum-known-held, finish-enum-told, finish-is-leaf-requires, finish-slot-at-requires, finish-mul-leaf, finish-element-copy-out-leaf, finish-leaf-requires, finish-eval-requires, finish-returns, finish-returns-2, finish-same-length, finish-same-length-2, finish-returns-3}
 use Rattle.recursion.proofs.+appending-appends+comprehension-comprehend+comprehension-finish+comprehension-turns+eval-eval+listing-list_parts+mapping-map_parts.Proof.ListPartsCame.{list-parts-Inv-loop, list-parts-μ-loop}
 use Rattle.recursion.proofs.+appending-appends+comprehension-comprehend+comprehension-finish+comprehension-turns+eval-eval+listing-list_parts+mapping-map_parts.Proof.ListParts.{list-parts-first-operand-requires, list-parts-loop-holds, list-parts-is-marked-requires, list-parts-unmarked-requires, list-parts-is-leaf-requires, list-parts-slot-at-requires, list-parts-mul-leaf, list-parts-element-copy-out-leaf, list-parts-leaf-requires, list-parts-eval-requires, list-parts-enum-known-part, list-parts-same-length, list-parts-same-length-2, list-parts-returns, list-parts-add-element-requires, list-parts-end-at-requires, list-parts-sub-left, list-parts-loop-less, list-parts-loop-again, list-parts-whole-list-requires, list-parts-same-length-3, list-parts-same-length-4, list-parts-returns-2}
@@ -287,7 +287,7 @@ pub +appending·appends+comprehension·comprehend+comprehension·finish+comprehe
     (eval-enum-known-fixed t)
     (eval-begun-first-requires t)
     (eval-reach-at-requires t)
-    (eval-enum-known-a t)
+    (eval-enum-known-first-slot t)
     (eval-mul-reach t)
     (eval-element-copy-out-reach t)
     (eval-mul-reach-2 t)
@@ -303,7 +303,7 @@ pub +appending·appends+comprehension·comprehend+comprehension·finish+comprehe
     (eval-enum-known-outcome t)
     (eval-enum-known-two t)
     (eval-reach-at-requires-2 t)
-    (eval-enum-known-a-2 t)
+    (eval-enum-known-first-slot-2 t)
     (eval-mul-reach-5 t)
     (eval-element-copy-out-reach-5 t)
     (eval-mul-reach-6 t)

@@ -24,40 +24,40 @@ eval-reach-at-requires t c κs =
     let x = fixed-at (args .table .now) (args .literal .now) (args .at) (pre .1) (c .before .before .fixed .given .0 .0) (sym (c .before .before .before .before .shape-at .ensures) ∙ c .before .before .fixed .given .1) in
     let s = rw (sym (c .begun-first .ensures)) at (x .first) in s
 
-pub eval-enum-known-a : (t : ℕ) → eval-lts.Need-enum-known-a (eval-claims t) (eval-at t) eval.Post
-eval-enum-known-a t c = search needs
+pub eval-enum-known-first-slot : (t : ℕ) → eval-lts.Need-enum-known-first-slot (eval-claims t) (eval-at t) eval.Post
+eval-enum-known-first-slot t c = search needs
 
 pub eval-mul-reach : (t : ℕ) → eval-lts.Need-mul-reach (eval-claims t) (eval-at t) eval.Post
-eval-mul-reach t c = omega (arith, slots-below (c .before .before .before .before .before .reach-at .ensures) (c .before .before .before .a .given .1) .0)
+eval-mul-reach t c = omega (arith, slots-below (c .before .before .before .before .before .reach-at .ensures) (c .before .before .before .first-slot .given .1) .0)
 
 pub eval-element-copy-out-reach : (t : ℕ) → eval-lts.Need-element-copy-out-reach (eval-claims t) (eval-at t) eval.Post
-eval-element-copy-out-reach t c = slots-below (c .before .before .before .before .before .reach-at .ensures) (c .before .before .before .a .given .1) .0
+eval-element-copy-out-reach t c = slots-below (c .before .before .before .before .before .reach-at .ensures) (c .before .before .before .first-slot .given .1) .0
 
 pub eval-mul-reach-2 : (t : ℕ) → eval-lts.Need-mul-reach-2 (eval-claims t) (eval-at t) eval.Post
-eval-mul-reach-2 t c = omega (arith, slots-below (c .before .before .before .before .before .before .reach-at .ensures) (c .before .before .before .before .a .given .1) .1)
+eval-mul-reach-2 t c = omega (arith, slots-below (c .before .before .before .before .before .before .reach-at .ensures) (c .before .before .before .before .first-slot .given .1) .1)
 
 pub eval-element-copy-out-reach-2 : (t : ℕ) → eval-lts.Need-element-copy-out-reach-2 (eval-claims t) (eval-at t) eval.Post
-eval-element-copy-out-reach-2 t c = slots-below (c .before .before .before .before .before .before .reach-at .ensures) (c .before .before .before .before .a .given .1) .1
+eval-element-copy-out-reach-2 t c = slots-below (c .before .before .before .before .before .before .reach-at .ensures) (c .before .before .before .before .first-slot .given .1) .1
 
 pub eval-mul-reach-3 : (t : ℕ) → eval-lts.Need-mul-reach-3 (eval-claims t) (eval-at t) eval.Post
 eval-mul-reach-3 t c =
     let reach-at = c .before .before .before .before .before .before .before .reach-at in
-    omega (arith, slots-below (reach-at .ensures) (c .before .before .before .before .before .a .given .1) .2)
+    omega (arith, slots-below (reach-at .ensures) (c .before .before .before .before .before .first-slot .given .1) .2)
 
 pub eval-element-copy-out-reach-3 : (t : ℕ) → eval-lts.Need-element-copy-out-reach-3 (eval-claims t) (eval-at t) eval.Post
 eval-element-copy-out-reach-3 t c =
     let reach-at = c .before .before .before .before .before .before .before .reach-at in
-    slots-below (reach-at .ensures) (c .before .before .before .before .before .a .given .1) .2
+    slots-below (reach-at .ensures) (c .before .before .before .before .before .first-slot .given .1) .2
 
 pub eval-mul-reach-4 : (t : ℕ) → eval-lts.Need-mul-reach-4 (eval-claims t) (eval-at t) eval.Post
 eval-mul-reach-4 t c =
     let reach-at = c .before .before .before .before .before .before .before .before .reach-at in
-    omega (arith, slots-below (reach-at .ensures) (c .before .before .before .before .before .before .a .given .1) .3)
+    omega (arith, slots-below (reach-at .ensures) (c .before .before .before .before .before .before .first-slot .given .1) .3)
 
 pub eval-element-copy-out-reach-4 : (t : ℕ) → eval-lts.Need-element-copy-out-reach-4 (eval-claims t) (eval-at t) eval.Post
 eval-element-copy-out-reach-4 t c =
     let reach-at = c .before .before .before .before .before .before .before .before .reach-at in
-    slots-below (reach-at .ensures) (c .before .before .before .before .before .before .a .given .1) .3
+    slots-below (reach-at .ensures) (c .before .before .before .before .before .before .first-slot .given .1) .3
 
 pub eval-reach-requires : (t : ℕ) → eval-lts.Need-reach-requires (eval-claims t) (eval-at t) eval.Post
 eval-reach-requires t c κs =
@@ -65,7 +65,7 @@ eval-reach-requires t c κs =
     let fixed = c .before .before .before .before .before .before .before .before .before .before .before .before .fixed in
     let begun-first = c .before .before .before .before .before .before .before .before .before .before .begun-first in
     let reach-at = c .before .before .before .before .before .before .before .before .before .reach-at in
-    let a = c .before .before .before .before .before .before .before .a in
+    let a = c .before .before .before .before .before .before .before .first-slot in
     let args = c .before .before .before .before .before .before .before .before .before .before .before .before .before .before .before .before .before .before .before .before .before .before .before .before .args in
     let pre = c .before .before .before .before .before .before .before .before .before .before .before .before .before .before .before .before .before .before .before .before .before .before .before .before .pre in
     let x = fixed-at (args .table .now) (args .literal .now) (args .at) (pre .1) (fixed .given .0 .0) (sym (shape-at .ensures) ∙ fixed .given .1) in
@@ -110,40 +110,40 @@ eval-reach-at-requires-2 t c κs =
     let x = fixed-at table literal (args .at) (pre .1) (fixed .given .0 .0) (sym (shape-at .ensures) ∙ fixed .given .1) in
     let q = second-at table literal (args .limit) (args .at) x (match4 .left) (rooms literal bindings texts (match4 .cells) (match4 .text)) (c .before .before .before .before .before .after-first .ensures) (c .before .two .given .1) in q .0
 
-pub eval-enum-known-a-2 : (t : ℕ) → eval-lts.Need-enum-known-a-2 (eval-claims t) (eval-at t) eval.Post
-eval-enum-known-a-2 t c = search needs
+pub eval-enum-known-first-slot-2 : (t : ℕ) → eval-lts.Need-enum-known-first-slot-2 (eval-claims t) (eval-at t) eval.Post
+eval-enum-known-first-slot-2 t c = search needs
 
 pub eval-mul-reach-5 : (t : ℕ) → eval-lts.Need-mul-reach-5 (eval-claims t) (eval-at t) eval.Post
-eval-mul-reach-5 t c = omega (arith, slots-below (c .before .before .before .before .before .reach-at2 .ensures) (c .before .before .before .a2 .given .1) .0)
+eval-mul-reach-5 t c = omega (arith, slots-below (c .before .before .before .before .before .reach-at2 .ensures) (c .before .before .before .first-slot2 .given .1) .0)
 
 pub eval-element-copy-out-reach-5 : (t : ℕ) → eval-lts.Need-element-copy-out-reach-5 (eval-claims t) (eval-at t) eval.Post
-eval-element-copy-out-reach-5 t c = slots-below (c .before .before .before .before .before .reach-at2 .ensures) (c .before .before .before .a2 .given .1) .0
+eval-element-copy-out-reach-5 t c = slots-below (c .before .before .before .before .before .reach-at2 .ensures) (c .before .before .before .first-slot2 .given .1) .0
 
 pub eval-mul-reach-6 : (t : ℕ) → eval-lts.Need-mul-reach-6 (eval-claims t) (eval-at t) eval.Post
-eval-mul-reach-6 t c = omega (arith, slots-below (c .before .before .before .before .before .before .reach-at2 .ensures) (c .before .before .before .before .a2 .given .1) .1)
+eval-mul-reach-6 t c = omega (arith, slots-below (c .before .before .before .before .before .before .reach-at2 .ensures) (c .before .before .before .before .first-slot2 .given .1) .1)
 
 pub eval-element-copy-out-reach-6 : (t : ℕ) → eval-lts.Need-element-copy-out-reach-6 (eval-claims t) (eval-at t) eval.Post
-eval-element-copy-out-reach-6 t c = slots-below (c .before .before .before .before .before .before .reach-at2 .ensures) (c .before .before .before .before .a2 .given .1) .1
+eval-element-copy-out-reach-6 t c = slots-below (c .before .before .before .before .before .before .reach-at2 .ensures) (c .before .before .before .before .first-slot2 .given .1) .1
 
 pub eval-mul-reach-7 : (t : ℕ) → eval-lts.Need-mul-reach-7 (eval-claims t) (eval-at t) eval.Post
 eval-mul-reach-7 t c =
     let reach-at2 = c .before .before .before .before .before .before .before .reach-at2 in
-    omega (arith, slots-below (reach-at2 .ensures) (c .before .before .before .before .before .a2 .given .1) .2)
+    omega (arith, slots-below (reach-at2 .ensures) (c .before .before .before .before .before .first-slot2 .given .1) .2)
 
 pub eval-element-copy-out-reach-7 : (t : ℕ) → eval-lts.Need-element-copy-out-reach-7 (eval-claims t) (eval-at t) eval.Post
 eval-element-copy-out-reach-7 t c =
     let reach-at2 = c .before .before .before .before .before .before .before .reach-at2 in
-    slots-below (reach-at2 .ensures) (c .before .before .before .before .before .a2 .given .1) .2
+    slots-below (reach-at2 .ensures) (c .before .before .before .before .before .first-slot2 .given .1) .2
 
 pub eval-mul-reach-8 : (t : ℕ) → eval-lts.Need-mul-reach-8 (eval-claims t) (eval-at t) eval.Post
 eval-mul-reach-8 t c =
     let reach-at2 = c .before .before .before .before .before .before .before .before .reach-at2 in
-    omega (arith, slots-below (reach-at2 .ensures) (c .before .before .before .before .before .before .a2 .given .1) .3)
+    omega (arith, slots-below (reach-at2 .ensures) (c .before .before .before .before .before .before .first-slot2 .given .1) .3)
 
 pub eval-element-copy-out-reach-8 : (t : ℕ) → eval-lts.Need-element-copy-out-reach-8 (eval-claims t) (eval-at t) eval.Post
 eval-element-copy-out-reach-8 t c =
     let reach-at2 = c .before .before .before .before .before .before .before .before .reach-at2 in
-    slots-below (reach-at2 .ensures) (c .before .before .before .before .before .before .a2 .given .1) .3
+    slots-below (reach-at2 .ensures) (c .before .before .before .before .before .before .first-slot2 .given .1) .3
 
 pub eval-reach-requires-2 : (t : ℕ) → eval-lts.Need-reach-requires-2 (eval-claims t) (eval-at t) eval.Post
 eval-reach-requires-2 t c κs =
@@ -153,7 +153,7 @@ eval-reach-requires-2 t c κs =
     let after-first = c .before .before .before .before .before .before .before .before .before .before .before .before .before .before .before .after-first in
     let two = c .before .before .before .before .before .before .before .before .before .before .before .two in
     let reach-at2 = c .before .before .before .before .before .before .before .before .before .reach-at2 in
-    let a2 = c .before .before .before .before .before .before .before .a2 in
+    let a2 = c .before .before .before .before .before .before .before .first-slot2 in
     let args = c .before .before .before .before .before .before .before .before .before .before .before .before .before .before .before .before .before .before .before .before .before .before .before .before .before .before .before .before .before .before .before .before .before .before .args in
     let pre = c .before .before .before .before .before .before .before .before .before .before .before .before .before .before .before .before .before .before .before .before .before .before .before .before .before .before .before .before .before .before .before .before .before .before .pre in
     let table = args .table .now in
