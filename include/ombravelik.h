@@ -147,8 +147,8 @@ extern "C" {
  * Words 2n and 2n + 1 are the value of name n, for the names 0 to 127: a caller reads a binding out by these two words. Then come the used cells,
  * the used bytes, and the number of names, by which a state is known. A state belongs to the cells and the text that its bindings were brought into.
  * It is made by `ombravelik_empty` and changed by `ombravelik_bring_in`. It may be copied, stored and lent again with its cells and text:
- * every call of `ombravelik_bring_in`, and every one of `ombravelik_evaluate` with an accepted table, judges what is used of it, and refuses a room
- * that is not sound (docs/FORMAT.md, "Binding rooms").
+ * every call of `ombravelik_bring_in` that has room for its answer, and every such call of `ombravelik_evaluate` with an accepted table, judges what
+ * is used of it, and refuses a room that is not sound (docs/FORMAT.md, "Binding rooms").
  */
 #define OMBRAVELIK_STATE_WORDS 259
 #define OMBRAVELIK_STATE_CELLS 256
