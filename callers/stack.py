@@ -17,6 +17,8 @@ sys.path[:0] = [str(HERE.parent / "tools"), str(HERE.parent / "tools" / "rules")
 from assemble import assemble, comprehension, listing, name, null, plus, true
 from stack import SHAPES, nested
 
+# more than any rule takes
+AMPLE = 8 << 20
 # an element of the list that the append path adds: three records a level
 APPENDED = lambda inner: comprehension(1, 2, listing(true), listing(), true, plus(name(1), listing(inner)), name(1))
 
@@ -37,20 +39,30 @@ def promised() -> int:
     return int(re.search(r"A call takes up to ([0-9,]+) KiB of the calling thread's stack", header)[1].replace(",", "")) * 1024
 
 
+def run(table: bytes, stack: int) -> tuple[int, int]:
+    """The bytes of a stack of that size that an evaluation touches, and its steps."""
+    ran = subprocess.run([sys.argv[1], str(stack)], input=table, capture_output=True)
+    if ran.returncode != 0:
+        sys.exit(f"an evaluation on a stack of {stack} bytes ended with status {ran.returncode}")
+    taken, steps = map(int, ran.stdout.split())
+    return taken, steps
+
+
 def main() -> None:
     most, bytes_kept, bytes_promised = 0, reserved(), promised()
     if bytes_promised > bytes_kept:
         sys.exit(f"the header says {bytes_promised} bytes of stack, and the Rust crate sees to {bytes_kept}")
     for words, (levels, shape) in {**SHAPES, "append path": (22, APPENDED)}.items():
         table = assemble(nested(shape, levels)).table
-        run = subprocess.run([sys.argv[1]], input=table, capture_output=True, check=True)
-        taken, steps = map(int, run.stdout.split())
+        taken, steps = run(table, AMPLE)
         if steps < levels // 2:
             sys.exit(f"{words}: only {steps} steps were made, so it did not nest")
         if taken > bytes_promised:
             sys.exit(f"{words}, {levels} deep: {taken} bytes of stack, and the header says {bytes_promised}")
+        if run(table, bytes_promised) != (taken, steps):
+            sys.exit(f"{words}, {levels} deep: something else on a stack of {bytes_promised} bytes")
         most = max(most, taken)
-    print(f"stack: the deepest rules take {most} bytes; the header says {bytes_promised}, the Rust crate sees to {bytes_kept}")
+    print(f"stack: the deepest rules take {most} bytes, and run on a stack of the {bytes_promised} that the header says; the Rust crate sees to {bytes_kept}")
 
 
 if __name__ == "__main__":
