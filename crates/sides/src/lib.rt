@@ -100,9 +100,9 @@ fn both(first: Pair, second: Pair) -> Quad
 {
     match first {
         Pair::No => Quad::No,
-        Pair::Slots(a, b) => match second {
+        Pair::Slots(one, two) => match second {
             Pair::No => Quad::No,
-            Pair::Slots(c, d) => Quad::Slots(a, b, c, d),
+            Pair::Slots(three, four) => Quad::Slots(one, two, three, four),
         },
     }
 }
