@@ -23,9 +23,9 @@ use Rattle.forms.proofs.Operands.{fixed-at}
 use Rattle.sides.specs.Sides.{operandsOf, smallOf, nearOf, IsPair, PairHolds, IsQuad, QuadHolds}
 use Rattle.sides.proofs.SideLaws.{none-beside}
 use Rattle.sides.proofs.Eachs.{Begins, begins-at, near-small, near-holds}
-use Rattle.flats.proofs.Stops.{Is}
-use Rattle.flats.proofs.Fixeds.{second-at}
-use Rattle.flats.proofs.FlatLaws.{then-at}
+use Rattle.nearby.proofs.Stops.{Is}
+use Rattle.nearby.proofs.Fixeds.{second-at}
+use Rattle.nearby.proofs.FlatLaws.{then-at}
 
 -- no other record is asked for
 pub near-else : {A : Type 0} (e : Expr) → IsQuad (nearOf e) → (r : Shape) → r ≡ shapeOf e → OneOf (0 ∷ 1 ∷ 2 ∷ 3 ∷ 4 ∷ []) (tagOf the-type r) → A

@@ -35,7 +35,7 @@ use Rattle.gathering.specs.Gathers.{gatherOf, GatherIn, onGather}
 use Rattle.gathering.proofs.GatherLaws.{items-as}
 use Rattle.paths.specs.declared.Places.{Places}
 use Rattle.paths.specs.Paths.{loopAt, guardAt, appendAt}
-use Rattle.flats.proofs.Stops.{Is, after-operand}
+use Rattle.nearby.proofs.Stops.{Is, after-operand}
 use Rattle.recursion.proofs.Operands.{Came}
 use Rattle.recursion.proofs.Turns.{asked}
 

@@ -33,7 +33,7 @@ use Rattle.paths.specs.declared.Places.{Places}
 use Rattle.paths.specs.Paths.{placesAt, loopAt, pathOf, pathSeen, appendAt, PathIn}
 use Rattle.paths.proofs.Sights.{literal-seen}
 use Rattle.paths.proofs.Comprehensions.{ComprehensionAt, openPath, turns-taken, appends-taken}
-use Rattle.flats.proofs.Stops.{Is, Stops, stops-there, goes-on}
+use Rattle.nearby.proofs.Stops.{Is, Stops, stops-there, goes-on}
 
 -- ---- the append path is only there with a literal for a condition
 

@@ -26,8 +26,8 @@ use Rattle.leaves.specs.Leaf.{leafKinds, slotIn, leafOut}
 use Rattle.forms.specs.Records.{shapeOf}
 use Rattle.leaves.proofs.Leaves.{leaf-body}
 use Rattle.leaves.proofs.Rows.{map-at}
-use Rattle.flats.proofs.Stops.{Is}
-use Rattle.singles.proofs.Begins.{begun-full, begun-at, begun-places}
+use Rattle.nearby.proofs.Stops.{Is}
+use Rattle.nearby.proofs.Begins.{begun-full, begun-at, begun-places}
 use Rattle.recursion.proofs.Operands.{beyond}
 use Rattle.forms.proofs.ShapeLaws.{none-body}
 

@@ -13,7 +13,7 @@ use Rattle.accepted.proofs.Opened.{opened}
 use Rattle.machine.specs.declared.outcome.Used.{Used}
 use Rattle.containers.specs.declared.Ready.{Ready}
 use Rattle.leaves.proofs.Rows.{ElementsLeft, list-at}
-use Rattle.singles.proofs.Lists.{fromElement}
+use Rattle.nearby.proofs.Lists.{fromElement}
 
 -- `left` elements are left of the record at p, from `place` on
 pub record ListLoop (t x b y cells₀ text₀ : List ℕ) (limit p base count : ℕ) (c : Scope) (u₀ : Used) (cells text : List ℕ) (place left : ℕ) (u : Used) (g : Ready) : Type 0 where

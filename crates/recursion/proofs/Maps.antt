@@ -34,7 +34,7 @@ use Rattle.containers.specs.Filling.{keyedOf, onKey, insertedIf, enteredOf, Ent
 use Rattle.containers.proofs.Filled.{keyed, entered}
 use Rattle.leaves.specs.Leaf.{unmarkedAt}
 use Rattle.leaves.proofs.Rows.{EntriesLeft, pairs-next, entry-does, map-at}
-use Rattle.flats.proofs.Stops.{Is, Stops, after-operand, stops-there, goes-on}
+use Rattle.nearby.proofs.Stops.{Is, Stops, after-operand, stops-there, goes-on}
 
 -- how many parts an entry leaves, if it is made
 abbrev AtMost : ℕ → Entry → Type 0

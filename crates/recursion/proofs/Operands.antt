@@ -19,8 +19,8 @@ use Rattle.leaves.specs.Leaf.{leafKinds, slotIn, leafStep}
 use Rattle.sides.specs.declared.Quad.{Quad}
 use Rattle.sides.specs.declared.Quad.the-variants as Quad
 use Rattle.sides.specs.Sides.{IsQuad, QuadBelow, QuadHolds}
-use Rattle.flats.proofs.Stops.{Is}
-use Rattle.flats.proofs.Slots as Slots
+use Rattle.nearby.proofs.Stops.{Is}
+use Rattle.nearby.proofs.Slots as Slots
 
 -- as the code reads a slot that there is not
 abbrev pub beyond : Slot

@@ -37,7 +37,7 @@ use Rattle.loops.specs.Loops.{pendingSeen, stepOf, onStep}
 use Rattle.loops.proofs.Looped.{step-as}
 use Rattle.paths.specs.declared.Places.{Places}
 use Rattle.paths.specs.Paths.{loopAt, finishWith}
-use Rattle.flats.proofs.Stops.{Is}
+use Rattle.nearby.proofs.Stops.{Is}
 
 -- ---- a condition
 

@@ -16,9 +16,11 @@ use gathering::gather_items;
 use leaves::leaf;
 use machine::outcome::Outcome;
 use machine::outcome::Used;
+use nearby::reach::reach;
+use nearby::reach::reach_at;
+use nearby::singles::single;
+use nearby::singles::single_at;
 use paths::Places;
-use reach::reach;
-use reach::reach_at;
 use rooms::scope::Scope;
 use rooms::scope::Slot;
 use rooms::value::CellSpace;
@@ -27,8 +29,6 @@ use runs::Collected;
 use runs::add_run;
 use runs::collected_list;
 use sides::Quad;
-use singles::single;
-use singles::single_at;
 
 // The append path: the accumulator is not stored, and the step and the result are not begun. The condition is a literal. A turn that gathers takes
 // at least two cells, and there are at most 4,096: 2,048 runs are enough.

@@ -8,8 +8,8 @@ use Rattle.rooms.proofs.Scopes.{mapped-length}
 use Rattle.leaves.proofs.Rows.{list-at, map-at}
 use Rattle.forms.specs.declared.Shape.the-variants as Shape
 use Rattle.forms.proofs.ShapeLaws.{leaf-byte, shape-byte}
-use Rattle.flats.proofs.Fixeds.{no-step, after-step}
-use Rattle.singles.proofs.Begins.{begun-places, list-full, list-is}
+use Rattle.nearby.proofs.Fixeds.{no-step, after-step}
+use Rattle.nearby.proofs.Begins.{begun-places, list-full, list-is}
 use Rattle.recursion.proofs.Evals.{leaf-is, none-is, map-full, map-is}
 use Rattle.recursion.proofs.eval.eval.Reads as eval
 use Rattle.recursion.proofs.+appending-appends+comprehension-comprehend+comprehension-finish+comprehension-turns+eval-eval+listing-list_parts+mapping-map_parts.Lts-eval-eval as eval-lts

@@ -4,7 +4,7 @@ use mathlib.Core.Path.{sym, _∙_}
 use native.Mathlib.Omega.{arith}
 use Rattle.rooms.specs.Rooms.{rooms}
 use Prim.Native.Nat.{ℕ}
-use Rattle.flats.proofs.Fixeds.{after-step, stops-first, joins-both, second-at}
+use Rattle.nearby.proofs.Fixeds.{after-step, stops-first, joins-both, second-at}
 use Rattle.forms.proofs.Operands.{fixed-at}
 use Rattle.recursion.proofs.Operands.{slots-asked, slots-below}
 use Rattle.recursion.proofs.eval.eval.Reads as eval

@@ -5,7 +5,7 @@ use Rattle.rooms.specs.Rooms.{rooms}
 use Prim.Native.Nat.{ℕ}
 use Rattle.leaves.proofs.KindLaws.{sound-stands}
 use Rattle.rooms.proofs.Scopes.{mapped-length}
-use Rattle.flats.proofs.Slots.{leaf-here}
+use Rattle.nearby.proofs.Slots.{leaf-here}
 use Rattle.accepted.specs.Records.{exprOf}
 use Rattle.recursion.proofs.Operands.{leaf-does}
 use Rattle.recursion.proofs.Turns.{held-is, result-is}

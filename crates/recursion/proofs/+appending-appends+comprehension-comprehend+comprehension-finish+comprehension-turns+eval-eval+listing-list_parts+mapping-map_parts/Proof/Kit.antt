@@ -45,6 +45,10 @@ use Rattle.leaves.proofs.slot_at.Reads as slot-at-reads
 use Rattle.leaves.proofs.unmarked.Reads as unmarked-reads
 use Rattle.loops.proofs.step_of.Reads as step-of-reads
 use Rattle.marking.proofs.add_element.Reads as add-element-reads
+use Rattle.nearby.proofs.reach.reach.Reads as reach-reads
+use Rattle.nearby.proofs.reach.reach_at.Reads as reach-at-reads
+use Rattle.nearby.proofs.singles.single.Reads as single-reads
+use Rattle.nearby.proofs.singles.single_at.Reads as single-at-reads
 use Rattle.nodes.proofs.after_first.Reads as after-first-reads
 use Rattle.outcomes.proofs.outcomes.out_of_cells.Reads as out-of-cells-reads
 use Rattle.outcomes.proofs.outcomes.out_of_steps.Reads as out-of-steps-reads
@@ -55,12 +59,8 @@ use Rattle.paths.proofs.append_path.Reads as append-path-reads
 use Rattle.paths.proofs.folds_at.Reads as folds-at-reads
 use Rattle.paths.proofs.places_at.Reads as places-at-reads
 use Rattle.ranges.proofs.range_of.Reads as range-of-reads
-use Rattle.reach.proofs.reach.Reads as reach-reads
-use Rattle.reach.proofs.reach_at.Reads as reach-at-reads
 use Rattle.runs.proofs.add_run.Reads as add-run-reads
 use Rattle.runs.proofs.collected_list.Reads as collected-list-reads
-use Rattle.singles.proofs.single.Reads as single-reads
-use Rattle.singles.proofs.single_at.Reads as single-at-reads
 
 abbrev pub μ-appends : Measures 6 appends-kinds.ps ℕ
 μ-appends κs a = 4 * wordAt (a .0 .now) (a .1 .1 .1 .1 .1 .1 .1 .0 + 1) + 1

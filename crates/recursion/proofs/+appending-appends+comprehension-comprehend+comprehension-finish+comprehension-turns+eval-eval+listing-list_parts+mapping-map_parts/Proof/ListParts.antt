@@ -5,11 +5,11 @@ use native.Mathlib.Omega.{arith}
 use Rattle.rooms.specs.Rooms.{rooms}
 use Prim.Native.Nat.{ℕ}
 use Rattle.leaves.proofs.KindLaws.{sound-stands}
-use Rattle.flats.proofs.Slots.{leaf-here}
+use Rattle.nearby.proofs.Slots.{leaf-here}
 use Rattle.machine.specs.Views.{partIn}
 use Rattle.leaves.proofs.Rows.{element-next}
 use Rattle.recursion.proofs.Lists.{list-begins}
-use Rattle.singles.proofs.Lists.{added-count, no-element, element-stops, element-again}
+use Rattle.nearby.proofs.Lists.{added-count, no-element, element-stops, element-again}
 use Rattle.recursion.proofs.listing.list_parts.Reads as list-parts
 use Rattle.recursion.proofs.+appending-appends+comprehension-comprehend+comprehension-finish+comprehension-turns+eval-eval+listing-list_parts+mapping-map_parts.Lts-listing-list_parts as list-parts-lts
 use Rattle.recursion.proofs.+appending-appends+comprehension-comprehend+comprehension-finish+comprehension-turns+eval-eval+listing-list_parts+mapping-map_parts.Proof.Kit.{list-parts-at, list-parts-claims}

@@ -3,7 +3,7 @@ use mathlib.Core.Logic.{⊎-elim}
 use mathlib.Core.Path.{sym}
 use Prim.Native.Nat.{ℕ}
 use Rattle.rooms.proofs.Scopes.{mapped-length}
-use Rattle.flats.proofs.Slots.{leaf-here}
+use Rattle.nearby.proofs.Slots.{leaf-here}
 use Rattle.recursion.proofs.Operands.{came-leaf, came-record, Came}
 use Rattle.leaves.proofs.Rows.{element-next}
 use Rattle.recursion.proofs.Lists.{ListLoop}

@@ -6,7 +6,7 @@ use Rattle.rooms.specs.Rooms.{rooms}
 use Prim.Native.Nat.{ℕ, _<_}
 use Rattle.layout.specs.Layout.{after}
 use Rattle.leaves.proofs.KindLaws.{sound-stands}
-use Rattle.flats.proofs.Slots.{leaf-here}
+use Rattle.nearby.proofs.Slots.{leaf-here}
 use Rattle.machine.specs.Views.{partIn}
 use lib.Dec.{eqb}
 use lib.ListN.{getD}

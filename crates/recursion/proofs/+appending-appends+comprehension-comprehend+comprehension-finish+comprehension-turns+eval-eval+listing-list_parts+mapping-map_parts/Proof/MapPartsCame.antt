@@ -4,7 +4,7 @@ use mathlib.Core.Path.{sym, _∙_, _≡_, ap}
 use Prim.Native.Nat.{ℕ}
 use Rattle.layout.specs.Layout.{after}
 use Rattle.rooms.proofs.Scopes.{mapped-length}
-use Rattle.flats.proofs.Slots.{leaf-here}
+use Rattle.nearby.proofs.Slots.{leaf-here}
 use Rattle.recursion.proofs.Operands.{came-leaf, came-record, Came}
 use Rattle.leaves.specs.Leaf.{unmarkedAt}
 use Rattle.leaves.proofs.Rows.{entry-next}

@@ -1,2 +1,0 @@
--- `ReachLaws` is for the functions' proofs.
-pub mod ReachLaws
