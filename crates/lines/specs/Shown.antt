@@ -1,4 +1,4 @@
--- The line of an answer where its value lies. That this is the line of what the answer says is proved in proofs/Says.
+-- The line of an answer where its value lies. That this is the line of what the answer says is proved in proofs/Said.
 use Prim.Native.Nat.{ℕ}
 use mathlib.Core.List.{List, _++_}
 use Rattle.meaning.specs.Errors.{errorNumber}
