@@ -17,8 +17,9 @@ use Rattle.meaning.specs.Heads.{Got, got, refused, _>>=_, _>>_, demand, orRefus
 use Rattle.meaning.specs.Table.{Part, bare, readTable, rootAt, wordBytes}
 use Rattle.meaning.specs.Bindings.{cellsOf, bytesOf}
 use Rattle.meaning.specs.Spelling.{Literal, literalOf, literalNesting, spelled, spelledRoot}
+use Rattle.laws.specs.Each.{Reads}
 use Rattle.laws.proofs.Fine.{Perhaps}
-use Rattle.laws.proofs.Reading.{Reads, reads-got, reads-refused, reads-bind, reads-bind-any, reads-demand, reads-orRefuse, reads-itself, was-read}
+use Rattle.laws.proofs.Reading.{reads-got, reads-refused, reads-bind, reads-bind-any, reads-demand, reads-orRefuse, reads-itself, was-read}
 use Rattle.table.specs.declared.Checked.{Checked}
 use Rattle.table.specs.declared.Checked.the-variants as Checked
 use Rattle.table.specs.Check.{verdict, checkOf}

@@ -16,7 +16,8 @@ use Rattle.meaning.specs.Heads.{Got, got, refused, _>>=_, _>>_, demand, orRefus
 use Rattle.meaning.specs.Table.{Part, bare, readTable}
 use Rattle.meaning.specs.Bindings.{cellsOf, bytesOf}
 use Rattle.meaning.specs.Spelling.{Literal, scalarAt, listAt, mapAt, literalOf, placeOf, literalNesting, spelled, spelledRoot}
-use Rattle.laws.proofs.Reading.{Reads, was-read}
+use Rattle.laws.specs.Each.{Reads}
+use Rattle.laws.proofs.Reading.{was-read}
 use Rattle.laws.proofs.SpelledReasons.{literal-reason, root-reason, root-refused}
 use Rattle.accepted.specs.Records.{exprOf, partOf, Sound}
 use Rattle.findings.specs.declared.Fault.{Fault}

@@ -38,8 +38,8 @@ use Rattle.machine.proofs.Answering.{table-answers}
 use Rattle.reasons.specs.Numbers.{errorMeant, limitMeant}
 use Rattle.answers.specs.declared.Answer.{Answer}
 use Rattle.answers.specs.Evaluated.{ifSound, asAnswer, accepted, after, evaluated}
-use Rattle.answers.proofs.Lending.{Lent}
 use Rattle.answers.specs.Meant.{Told, told, toldBy, Says, limits, bound, meant, Evaluates}
+use Rattle.answers.specs.Promised.{Lent}
 
 -- ---- errors and limits, there and back
 

@@ -10,27 +10,17 @@ use denote.Floats.{passes}
 use denote.Array.{each}
 use denote.Enum.Declared as Enum
 use denote.Struct.Declared as Struct
-use Rattle.meaning.specs.Limits.{names}
 use Rattle.meaning.specs.WellFormed.{AllBytes}
 use Rattle.rooms.specs.declared.value.Value.{Value}
 use Rattle.rooms.specs.declared.value.Value.the-variants as Value
 use Rattle.rooms.specs.declared.scope.Slot.{Slot}
 use Rattle.rooms.specs.Cells.{Fits}
 use Rattle.rooms.specs.Rooms.{Rooms}
-use Rattle.rooms.specs.Scope.{absent, slotOf}
+use Rattle.rooms.specs.Scope.{absent}
 use Rattle.rooms.proofs.value.Value as Values
 use Rattle.rooms.proofs.scope.Slot as Slots
 use Rattle.soundness.specs.declared.Bindings.{Bindings}
-
--- of whatever content: bytes, words of 64 bits, and a slot for each name
-pub record Lent (table : List ℕ) (bindings : Bindings) (lent : Rooms) : Type 0 where
-  pub tableBytes : AllBytes table
-  pub words : (i : ℕ) → getD (lent .cells) i 0 < 2 ^ 64
-  pub bindingWords : (i : ℕ) → getD (lent .bindingCells) i 0 < 2 ^ 64
-  pub slots : length (bindings .scope .slots) ≡ names
-  pub values : (n : ℕ) → Fits (slotOf (bindings .scope) n)
-
--- ---- that it is so
+use Rattle.answers.specs.Promised.{Lent}
 
 value-fits : (v : Value) (vs : List Val) → shadow (Enum.field Values.the-type .row .own (Values.the-type .to v) vs) → Fits v
 value-fits Value.Null vs h = tt

@@ -18,7 +18,7 @@ use Rattle.meaning.specs.Limited.{zeroCell, limited, cleared, roomsAfter}
 use Rattle.meaning.specs.Run.{Trace, Eval}
 use Rattle.meaning.specs.Value.{Value}
 use Rattle.meaning.specs.Comprehension.{Scope}
-use Rattle.meaning.specs.Listing.{Listed, recordsOf, namesIn, namesOf}
+use Rattle.meaning.specs.Listing.{recordsOf, namesOf}
 use Rattle.meaning.specs.Meaning.{run}
 use Rattle.meaning.specs.Heads.{Got, got, refused, _>>=_}
 use Rattle.meaning.specs.Table.{readTable}
@@ -28,7 +28,6 @@ use Rattle.meaning.specs.Answer.{Answered, refusal, ran, answerRun, answerRead,
 use Rattle.table.specs.declared.Checked.the-variants.{Accepted}
 use Rattle.table.specs.Check.{verdict, checkOf}
 use Rattle.accepted.specs.Records.{exprOf}
-use Rattle.accepted.specs.Walk.{Walk}
 use Rattle.accepted.proofs.Accepted.{accepted as table-accepted}
 use Rattle.accepted.proofs.Walk.{accepted-walk}
 use Rattle.laws.specs.Names.{Agree, In}
@@ -56,6 +55,7 @@ use Rattle.answers.specs.declared.Answer.the-variants as Answer
 use Rattle.answers.specs.Evaluated.{accepted}
 use Rattle.answers.specs.Meant.{Told, told, toldBy, counted, countsIn, Says, limits, bound, meant, Evaluates}
 use Rattle.answers.specs.Alike.{Alike}
+use Rattle.answers.specs.Promised.{AgreeWhereNamed, AgreeWhereMet, WithoutValue}
 
 -- ---- which answer the definition has
 
@@ -117,13 +117,9 @@ module _ (table literal cells text : List ℕ) (steps : ℕ) where
   abbrev over : (words bytes : List ℕ) → Rooms
   over words bytes = rooms literal words bytes cells text
 
-  -- both hold the same value, or both none, under each name that the rule contains; elsewhere, and in size, they may differ
-  abbrev pub AgreeWhereNamed : BindingRoom → BindingRoom → Type 0
-  AgreeWhereNamed room other = (e : Expr) → readTable table literal ≡ got e → Agree (In (namesOf e)) (scopeOf room) (scopeOf other)
-
   module _ (bindings others : Bindings) (words bytes otherWords otherBytes : List ℕ)
       (sound : soundOf words bytes bindings ≡ Sound) (otherSound : soundOf otherWords otherBytes others ≡ Sound)
-      (agree : AgreeWhereNamed (roomOf words bytes bindings) (roomOf otherWords otherBytes others)) where
+      (agree : AgreeWhereNamed table literal (roomOf words bytes bindings) (roomOf otherWords otherBytes others)) where
     pub same-meant : meant table bindings steps (over words bytes) ≡ meant table others steps (over otherWords otherBytes)
     same-meant =
         meant-sound table bindings steps (over words bytes) sound
@@ -139,12 +135,8 @@ module _ (table literal cells text : List ℕ) (steps : ℕ) where
         says-alike (meant table others steps (over otherWords otherBytes)) (over words bytes) (over otherWords otherBytes) answer other left leftOther refl refl
         (subst (λ m. Says m (over words bytes) answer left) same-meant (h .says)) (k .says)
 
-  -- under each name that is met where one goes through the table from record to record
-  abbrev pub AgreeWhereMet : BindingRoom → BindingRoom → Type 0
-  AgreeWhereMet room other = (rs : List Listed) → Walk table (length table) 0 rs → Agree (In (namesIn rs)) (scopeOf room) (scopeOf other)
-
   -- That is where the rule names something.
-  pub met-named : (room other : BindingRoom) → AgreeWhereMet room other → AgreeWhereNamed room other
+  pub met-named : (room other : BindingRoom) → AgreeWhereMet table literal room other → AgreeWhereNamed table literal room other
   unfolding checkOf
   met-named room other h e g =
       let checked : checkOf table literal ≡ Accepted = ap verdict g in
@@ -232,13 +224,6 @@ unfolding roomsAfter
 cleared-after t (Limited.value v c) h = absurd h
 cleared-after t (Limited.error e c) h = refl
 cleared-after t (Limited.exhausted x c) h = refl
-
--- an answer without a value, of a rule that ran
-abbrev pub WithoutValue : Told → Counts → Type 0
-WithoutValue (Told.refused number place) c = ⊥
-WithoutValue (Told.value v d) c = ⊥
-WithoutValue (Told.error number place d) c = d ≡ c
-WithoutValue (Told.exhausted x d) c = d ≡ c
 
 told-counts : (a : Meaning.Answer) (c : Counts) → WithoutValue (toldBy a) c → (o : Limited.Outcome) × (a ≡ ran o) × NoValue o × (countsOf o ≡ c)
 told-counts (refusal why place) c h = absurd h

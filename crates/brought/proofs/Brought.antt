@@ -21,10 +21,10 @@ use Rattle.meaning.specs.Table.{readTable}
 use Rattle.meaning.specs.Bindings.{cellsOf, bytesOf, BindingRoom, emptyRoom, boundIn, scopeOf, bring}
 use Rattle.meaning.specs.Spelling.{Literal, literalOf, spelledRoot}
 use Rattle.meaning.specs.WellFormed.{AllBytes, WellFormed}
+use Rattle.laws.specs.Brought.{withBinding}
 use Rattle.laws.proofs.Reading.{was-read}
 use Rattle.laws.proofs.TableFormed.{table-formed}
 use Rattle.laws.proofs.Spelled.{literal-sound, spelled-well-formed}
-use Rattle.laws.proofs.BoundValues.{withBinding}
 use Rattle.accepted.specs.Records.{exprOf}
 use Rattle.rooms.specs.declared.value.Value.{Value}
 use Rattle.rooms.specs.declared.value.Value.the-variants as Value
@@ -41,7 +41,8 @@ use Rattle.soundness.specs.declared.Soundness.the-variants.{Sound}
 use Rattle.references.specs.Fits.{valueFits, isAbsent, slotFits}
 use Rattle.soundness.specs.Sound.{soundOf}
 use Rattle.held.specs.Held.{bindingRooms, heldScope, roomOf, aliveBelow}
-use Rattle.held.proofs.Goods.{SoundRoom, sound-room, room-sound}
+use Rattle.held.specs.SoundRoom.{SoundRoom}
+use Rattle.held.proofs.Goods.{sound-room, room-sound}
 use Rattle.held.proofs.SoundScope.{absent-is, beyond, fits-held, held-read, room-scope}
 use Rattle.scalars.specs.Laying.{Room, room, laid}
 use Rattle.admission.specs.Bringing.{literalFor, accepted, bound, after, outcomeOf, emptied}

@@ -21,7 +21,8 @@ use Rattle.meaning.specs.Bindings.{textBytes, scopeOf}
 use Rattle.meaning.specs.Answer as Answers
 use Rattle.meaning.specs.Answer.{refusal, ran, answerRun, answerRead}
 use Rattle.meaning.specs.WellFormed.{AllBytes, SoundScalar, Sound, SoundElements, SoundEntries, WellFormed}
-use Rattle.laws.proofs.Fine.{FineScalar, Fine, FineElements, FineEntries, Perhaps, Each, fine-well-formed}
+use Rattle.laws.specs.Each.{Each}
+use Rattle.laws.proofs.Fine.{FineScalar, Fine, FineElements, FineEntries, Perhaps, fine-well-formed}
 use Rattle.laws.proofs.Kept.{Modest, Any, Gives, KeepsEval}
 use Rattle.laws.proofs.KeptLoop.{FineScope}
 use Rattle.laws.proofs.KeptEvaluation.{run-kept}

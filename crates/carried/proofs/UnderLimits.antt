@@ -4,7 +4,7 @@ use Prim.Native.Nat.{ℕ}
 use mathlib.Core.Path.{_≡_, refl, sym, ap, _∙_, subst}
 use mathlib.Core.List.{List}
 use native.Mathlib.Omega.{arith}
-use Rattle.meaning.specs.Limits.{Counts, cut, nothingYet}
+use Rattle.meaning.specs.Limits.{Counts, cut}
 use Rattle.meaning.specs.Expr.{Expr}
 use Rattle.meaning.specs.Value.{Value}
 use Rattle.meaning.specs.Run.{Eval}
@@ -23,15 +23,9 @@ use Rattle.answers.specs.declared.Answer as Answers
 use Rattle.answers.specs.Evaluated.{accepted}
 use Rattle.answers.specs.Meant.{Told, told, toldBy, bound, meant, Evaluates}
 use Rattle.carried.specs.HoldsScope.{lentBy}
+use Rattle.carried.specs.UnderLimits.{countsTold, NotExhausted}
 
 -- ---- counts
-
--- a refusal counts nothing
-abbrev pub countsTold : Told → Counts
-countsTold (Told.refused number place) = nothingYet
-countsTold (Told.value v c) = c
-countsTold (Told.error number place c) = c
-countsTold (Told.exhausted x c) = c
 
 run-counts : (most : Counts) (o : Limited.Outcome) → AtMost (countsOf o) most → AtMost (countsTold (toldBy (ran o))) most
 run-counts most (Limited.value v c) h = h
@@ -52,12 +46,6 @@ counts-within table bindings steps lent answer left h =
     (read-counts (cut (lentBy steps lent)) (scopeOf (bound table bindings steps lent)) (accepted table bindings steps lent))
 
 -- ---- more room
-
-abbrev pub NotExhausted : Told → Type 0
-NotExhausted (Told.refused number place) = Unit {0}
-NotExhausted (Told.value v c) = Unit {0}
-NotExhausted (Told.error number place c) = Unit {0}
-NotExhausted (Told.exhausted x c) = ⊥
 
 run-stays : (few most : Counts) → AtMost few most → (r : Eval Value) (o : Limited.Outcome) → limited few r ≡ o → NotExhausted (toldBy (ran o)) → limited most r ≡ o
 run-stays few most h r (Limited.value v c) e n = more-room-value few most h r v c e

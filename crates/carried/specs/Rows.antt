@@ -6,12 +6,12 @@ use lib.ListN.{take}
 use Rattle.meaning.specs.Limits.{Counts, nothingYet}
 use Rattle.meaning.specs.Bindings.{boundIn}
 use Rattle.meaning.proofs.Sample.{Row, Shown, gives, fails, exhausts, refuses, expected}
-use Rattle.laws.proofs.Fine.{Each}
 use Rattle.rooms.specs.Rooms.{Rooms}
 use Rattle.soundness.specs.declared.Bindings.{Bindings}
 use Rattle.machine.specs.Answer.{CellsHave}
 use Rattle.answers.specs.declared.Answer.{Answer}
 use Rattle.answers.specs.Meant.{Told, told, Evaluates}
+use Rattle.laws.specs.Each.{Each}
 use Rattle.carried.specs.HoldsScope.{HoldsScope, lentBy}
 
 -- the row's table, text and limits, over a binding room that holds what the row binds

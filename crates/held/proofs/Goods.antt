@@ -25,6 +25,7 @@ use Rattle.soundness.specs.declared.Soundness.the-variants.{Sound, Unsound}
 use Rattle.mapkeys.specs.Keys.{isKey, repeatedIn, keysFit}
 use Rattle.references.specs.Fits.{deepestIn, spanFits, stringFits, rowFits, mapFits, valueFits, isAbsent, slotFits}
 use Rattle.soundness.specs.Sound.{cellFits, firstBad, slotsFit, usedCells, usedBytes, soundOf}
+use Rattle.held.specs.SoundRoom.{SoundRoom}
 
 never : {A : Type 0} {b : Bool} → b ≡ true → b ≡ false → A
 never e f = let z : true ≡ false = sym e ∙ f in let y : _≡_ {A = ℕ} 1 0 = ap (λ b. cond b 1 0) z in absurd (omega arith)
@@ -88,12 +89,6 @@ deepest-part w a (suc n) (suc i) h =
     let e : a + suc i ≡ suc a + i = omega arith in rw e (omega (arith, deepest-part w (suc a) n i (omega arith)))
 
 -- ---- a room
-
-pub record SoundRoom (w t : List ℕ) (b : Bindings) : Type 0 where
-  pub cellsIn : b .cells ≤ cellRoom w
-  pub bytesIn : b .bytes ≤ textRoom t
-  pub cells : (i : ℕ) → i < b .cells → valueFits w t (b .cells) (b .bytes) (suc i) (cellIn w i) ≡ true
-  pub slots : (n : ℕ) → n < 128 → slotFits w t (b .cells) (b .bytes) (slotOf (b .scope) n) ≡ true
 
 module _ (w t : List ℕ) (used bytes : ℕ) where
   good-by : (i j n x : ℕ) (b : Bool) → cellFits w t used bytes i ≡ b → i + suc n ≤ cond b x i → (c : Bool) → eqb i j ≡ c →

@@ -31,7 +31,8 @@ use Rattle.soundness.specs.declared.Soundness.the-variants.{Sound}
 use Rattle.references.specs.Fits.{valueFits, isAbsent, slotFits}
 use Rattle.soundness.specs.Sound.{soundOf}
 use Rattle.held.specs.Held.{bindingRooms, heldScope, alsoBound, boundFrom, roomOf, aliveBelow}
-use Rattle.held.proofs.Goods.{SoundRoom, sound-room, fits-nesting}
+use Rattle.held.specs.SoundRoom.{SoundRoom}
+use Rattle.held.proofs.Goods.{sound-room, fits-nesting}
 use Rattle.held.proofs.HeldLaws.{HeldBy, held}
 
 -- ---- what is read of a name without a value

@@ -1,2 +1,3 @@
--- What a sound room holds (`Held`).
+-- What a sound room is (`SoundRoom`), and what it holds (`Held`).
+pub mod SoundRoom
 pub mod Held

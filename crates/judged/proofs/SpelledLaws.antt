@@ -16,7 +16,8 @@ use Rattle.meaning.specs.Containers.{cellsAnEntry}
 use Rattle.meaning.specs.Bindings as meant
 use Rattle.meaning.specs.Bindings.{textBytes, cellsOf, bytesOf}
 use Rattle.meaning.specs.Spelling.{Literal, scalarAt, listAt, mapAt, Literals, noLiterals, literals, LiteralPairs, noLiteralPairs, literalPairs, literalOf, literalsOf, literalPairsOf, newKey, keyLiteral, spelled, spelledElements, spelledEntries}
-use Rattle.laws.proofs.Reading.{Reads, reads-got, reads-refused, reads-bind, reads-then, reads-demand, reads-weaker, was-read}
+use Rattle.laws.specs.Each.{Reads}
+use Rattle.laws.proofs.Reading.{reads-got, reads-refused, reads-bind, reads-then, reads-demand, reads-weaker, was-read}
 use Rattle.fields.specs.Fits.{isSome}
 use Rattle.findings.specs.declared.Fault.{Fault}
 use Rattle.findings.specs.declared.Fault.the-variants.{At, Nowhere}

@@ -5,56 +5,21 @@ use mathlib.Core.Path.{_≡_, refl, sym, _∙_, ap, subst}
 use mathlib.Core.Logic.{inl, inr}
 use mathlib.Core.List.{List, []}
 use native.Mathlib.Omega.{arith}
-use Rattle.meaning.specs.Limits.{Counts, mostSteps, mostCells, mostBytes, nothingYet, cut}
-use Rattle.meaning.specs.Errors.{Refusal, ErrorAt, Exhausted}
+use Rattle.meaning.specs.Limits.{Counts, mostSteps, mostCells, mostBytes, cut}
+use Rattle.meaning.specs.Errors.{Refusal, ErrorAt}
 use Rattle.meaning.specs.Value.{Value}
 use Rattle.meaning.specs.Expr.{Expr}
 use Rattle.meaning.specs.Run.{Result, Eval}
 use Rattle.meaning.specs.Meaning.{run}
-use Rattle.meaning.specs.Limited.{Outcome, value, error, exhausted, limited, built, cleared, roomsAfter}
+use Rattle.meaning.specs.Limited.{Outcome, value, error, exhausted, limited, roomsAfter}
 use Rattle.meaning.specs.Heads.{Got, got, refused}
 use Rattle.meaning.specs.Table.{readTable}
 use Rattle.meaning.specs.Bindings.{BindingRoom, scopeOf}
 use Rattle.meaning.specs.Answer.{Answer, refusal, ran, Answered, answerRun, answerRead, answerOf}
-use Rattle.laws.specs.Charges.{total, AtMost, Within, Stops, countsOf}
+use Rattle.laws.specs.Charges.{total, AtMost}
+use Rattle.laws.specs.Answers.{Fills, Ending, isRefused, givesValue, givesError, isExhausted, Answers, countsIn}
 use Rattle.laws.proofs.Exhausted.{Fate, fate, exhausted-exactly, value-exactly, error-exactly, counts-at-most}
-use Rattle.laws.proofs.Filled.{Fills, rooms-of-run}
-
--- ---- the four answers
-
-pub data Ending : Type 0 where
-  isRefused givesValue givesError isExhausted : Ending
-
--- what the answer to a table is in each case, with the rooms afterwards, and what it rests on
-abbrev pub Answers : (table text : List ℕ) → BindingRoom → Counts → Ending → Type 0
-Answers table text room lent isRefused =
-    (r : Refusal) × (p : ℕ) ×
-    (readTable table text ≡ refused r p) ×
-    (answerOf table text room lent ≡ record { answer = refusal r p; rooms = record { cells = []; bytes = [] } })
-Answers table text room lent givesValue =
-    (e : Expr) × (v : Value) ×
-    (readTable table text ≡ got e) ×
-    (run e (scopeOf room) .1 ≡ Result.value v) ×
-    Within (cut lent) (run e (scopeOf room) .0) ×
-    (answerOf table text room lent ≡
-    record { answer = ran (value v (total (run e (scopeOf room) .0))); rooms = built (run e (scopeOf room) .0) })
-Answers table text room lent givesError =
-    (e : Expr) × (v : ErrorAt) ×
-    (readTable table text ≡ got e) ×
-    (run e (scopeOf room) .1 ≡ Result.error v) ×
-    Within (cut lent) (run e (scopeOf room) .0) ×
-    (answerOf table text room lent ≡
-    record { answer = ran (error v (total (run e (scopeOf room) .0))); rooms = cleared (total (run e (scopeOf room) .0)) })
-Answers table text room lent isExhausted =
-    (e : Expr) × (x : Exhausted) × (c : Counts) ×
-    (readTable table text ≡ got e) ×
-    Stops (cut lent) (run e (scopeOf room) .0) x c ×
-    (answerOf table text room lent ≡ record { answer = ran (exhausted x c); rooms = cleared c })
-
--- the counts of an answer; a refusal counts nothing
-abbrev pub countsIn : Answer → Counts
-countsIn (refusal r p) = nothingYet
-countsIn (ran o) = countsOf o
+use Rattle.laws.proofs.Filled.{rooms-of-run}
 
 -- ---- exactly one of them
 

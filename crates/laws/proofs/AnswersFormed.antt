@@ -13,15 +13,17 @@ use Rattle.meaning.specs.Expr.{Expr}
 use Rattle.meaning.specs.Run.{step, cells, text, nest, Trace, Result, Eval}
 use Rattle.meaning.specs.Comprehension.{Scope}
 use Rattle.meaning.specs.Meaning.{run}
-use Rattle.meaning.specs.Limited.{Spent, through, stopped, spend, Outcome, value, error, exhausted, ended, outcome, limited, Cell, zeroCell, holding, Rooms, cellsBuilt, textBuilt, built, cleared, roomsAfter}
+use Rattle.meaning.specs.Limited.{Spent, through, stopped, spend, value, error, ended, outcome, limited, zeroCell, holding, cellsBuilt, textBuilt, built, cleared, roomsAfter}
 use Rattle.meaning.specs.Heads.{Got, got, refused}
 use Rattle.meaning.specs.Table.{readTable}
 use Rattle.meaning.specs.Bindings.{BindingRoom, scopeOf}
-use Rattle.meaning.specs.Answer.{Answer, refusal, ran, answerRun, answerRead, answerOf}
+use Rattle.meaning.specs.Answer.{ran, answerRun, answerRead, answerOf}
 use Rattle.meaning.specs.WellFormed.{AllBytes, WellFormed}
 use Rattle.laws.specs.Formed.{Formed}
 use Rattle.laws.specs.Accepted.{Accepted, BoundValue, BoundScope}
-use Rattle.laws.proofs.Fine.{Fine, FineElements, Perhaps, Each, fine-well-formed, join-fine}
+use Rattle.laws.specs.Each.{Each}
+use Rattle.laws.specs.Answers.{FormedOutcome, FormedAnswer, FormedCell, FormedRooms}
+use Rattle.laws.proofs.Fine.{Fine, FineElements, Perhaps, fine-well-formed, join-fine}
 use Rattle.laws.proofs.Kept.{Modest, Holding, Any, Gives, KeepsEval}
 use Rattle.laws.proofs.KeptNumbers.{bytes-joined}
 use Rattle.laws.proofs.KeptLoop.{FineScope}
@@ -29,26 +31,6 @@ use Rattle.laws.proofs.KeptEvaluation.{run-kept}
 use Rattle.laws.proofs.KeptLimits.{small-fine, spent-modest}
 use Rattle.laws.proofs.TableFormed.{accepted-table-formed}
 use Rattle.laws.proofs.BindingsFormed.{accepted-scope}
-
--- a value that comes back is well formed
-abbrev pub FormedOutcome : Outcome → Type 0
-FormedOutcome (value v c) = WellFormed v
-FormedOutcome (error e c) = Unit {0}
-FormedOutcome (exhausted x c) = Unit {0}
-
-abbrev pub FormedAnswer : Answer → Type 0
-FormedAnswer (refusal r p) = Unit {0}
-FormedAnswer (ran o) = FormedOutcome o
-
--- zero, or holding a well-formed value
-abbrev pub FormedCell : Cell → Type 0
-FormedCell zeroCell = Unit {0}
-FormedCell (holding v) = WellFormed v
-
--- each cell is zero or holds a well-formed value, and the bytes are bytes
-pub record FormedRooms (rooms : Rooms) : Type 0 where
-  pub cellsFormed : Each FormedCell (rooms .cells)
-  pub bytesFormed : AllBytes (rooms .bytes)
 
 -- ---- scopes
 

@@ -13,19 +13,12 @@ use Rattle.meaning.specs.Value.{Value}
 use Rattle.meaning.specs.Comprehension.{emptyScope, store}
 use Rattle.meaning.specs.Bindings.{cellsOf, bytesOf, BindingRoom, boundIn, scopeOf, bring}
 use Rattle.meaning.specs.WellFormed.{AllBytes, WellFormed}
-use Rattle.laws.specs.Accepted.{Accepted, fresh, brought, BoundValue, BoundScope, cellsTaken, bytesTaken}
-use Rattle.laws.proofs.Fine.{Perhaps, Each}
-use Rattle.laws.proofs.Reading.{Reads, reads-got, reads-bind, reads-demand, was-read}
+use Rattle.laws.specs.Accepted.{Accepted, fresh, brought, BoundValue, BoundScope, cellsTaken, bytesTaken, FormedRoom}
+use Rattle.laws.specs.Each.{Each, Reads}
+use Rattle.laws.proofs.Fine.{Perhaps}
+use Rattle.laws.proofs.Reading.{reads-got, reads-bind, reads-demand, was-read}
 use Rattle.laws.proofs.TableFormed.{reads-name, table-formed}
 use Rattle.laws.proofs.Spelled.{literal-sound, spelled-well-formed}
-
--- names that there are, under each a well-formed value; the counts are what the values take, and no more than was lent or than the limits
-pub record FormedRoom (lentCells lentBytes : ℕ) (room : BindingRoom) : Type 0 where
-  pub bindings : Each (λ b. (b .0 < names) × WellFormed (b .1)) (room .bound)
-  pub cellsSum : room .usedCells ≡ cellsTaken (room .bound)
-  pub bytesSum : room .usedBytes ≡ bytesTaken (room .bound)
-  pub cellsFit : room .usedCells ≤ min lentCells mostCells
-  pub bytesFit : room .usedBytes ≤ min lentBytes mostBytes
 
 -- of two demands made at once, each holds
 pub both-true : (a b : Bool) → (a && b) ≡ true → (a ≡ true) × (b ≡ true)

@@ -8,7 +8,7 @@ use Rattle.meaning.specs.Value.{double, int, boolKey, uintKey, scalar, map, ent
 use Rattle.meaning.specs.Heads.{got, refused}
 use Rattle.meaning.specs.Bindings.{emptyRoom, bring}
 use Rattle.meaning.proofs.Compute.{compute}
-use Rattle.laws.proofs.BoundValues.{withBinding}
+use Rattle.laws.specs.Brought.{withBinding}
 
 -- {true: a NaN with the bits 0x7FF8000000000001, 2u: 7} under the name 5, on four lent cells: the bits and the order are kept.
 pub bits-and-order-kept : bring 4 0 emptyRoom 5

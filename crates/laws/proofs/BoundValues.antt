@@ -2,7 +2,7 @@
 -- which that is found. And what an emptied room is. Rests on SpelledRuns and SpelledReasons. Assumes nothing.
 use Prim.Native.Nat.{ℕ, _+_, _≤_, _<_, min}
 use mathlib.Core.Path.{_≡_, refl, sym, _∙_, ap, subst}
-use mathlib.Core.List.{List, _∷_}
+use mathlib.Core.List.{List}
 use mathlib.Core.Option.{none, some}
 use mathlib.Core.Bool.{Bool, true, false, _&&_, cond}
 use native.Mathlib.Omega.{arith}
@@ -21,37 +21,13 @@ use Rattle.meaning.specs.Heads.{Got, got, refused, _>>=_, _>>_, demand, orRefus
 use Rattle.meaning.specs.Table.{readTable}
 use Rattle.meaning.specs.Spelling.{Literal, literalOf, literalNesting, placeOf, spelled, spelledRoot}
 use Rattle.meaning.specs.Bindings.{cellsOf, bytesOf, BindingRoom, emptyRoom, boundIn, scopeOf, bring}
-use Rattle.laws.proofs.Reading.{Reads, reads-got, reads-refused, reads-bind, reads-demand, reads-itself, was-read}
+use Rattle.laws.specs.Each.{Reads}
+use Rattle.laws.specs.Brought.{withBinding, Fits, Brought}
+use Rattle.laws.proofs.Reading.{reads-got, reads-refused, reads-bind, reads-demand, reads-itself, was-read}
 use Rattle.laws.proofs.Spelled.{was-not-found}
 use Rattle.laws.proofs.BindingsFormed.{both-true}
 use Rattle.laws.proofs.SpelledReasons.{literal-reason, root-reason, root-refused, root-spells, root-spelled, root-fails}
 use Rattle.laws.proofs.SpelledRuns.{spelling-runs}
-
--- the room with one binding more, and what it takes
-abbrev pub withBinding : BindingRoom → ℕ → Value → BindingRoom
-withBinding room number v =
-    record { bound = (number, v) ∷ room .bound; usedCells = room .usedCells + cellsOf v; usedBytes = room .usedBytes + bytesOf v }
-
--- what it takes is left of the room, and of what every room is held to
-abbrev pub Fits : (lentCells lentBytes : ℕ) → BindingRoom → Value → Type 0
-Fits lentCells lentBytes room v = (room .usedCells + cellsOf v ≤ min lentCells mostCells) × (room .usedBytes + bytesOf v ≤ min lentBytes mostBytes)
-
--- what an accepted binding is: a table that reads as `rule`, made of literals alone, and the value `held` that it spells and that evaluating
--- it gives; bound afterwards under a name that was free
-pub record Brought (lentCells lentBytes : ℕ) (room : BindingRoom) (number : ℕ) (table text : List ℕ) (more : BindingRoom) : Type 0 where
-  pub rule : Expr
-  pub made : Literal
-  pub held : Value
-  pub named : number < names
-  pub free : scopeOf room number ≡ none
-  pub reads : readTable table text ≡ got rule
-  pub literals : literalOf rule ≡ got made
-  pub spells : spelledRoot made ≡ got held
-  pub gives : (s : Scope) → run rule s .1 ≡ value held
-  pub nests : nesting held ≤ deepestValue
-  pub fits : Fits lentCells lentBytes room held
-  pub becomes : more ≡ withBinding room number held
-  pub holds : scopeOf more number ≡ some held
 
 store-same : (s : Scope) (n : ℕ) (v : Value) → store s n v n ≡ some v
 unfolding store

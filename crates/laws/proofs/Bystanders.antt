@@ -17,17 +17,9 @@ use Rattle.meaning.specs.Table.{readTable}
 use Rattle.meaning.specs.Bindings.{BindingRoom, emptyRoom, boundIn, scopeOf, bring}
 use Rattle.meaning.specs.Answer.{answerRead, answerOf}
 use Rattle.laws.specs.Names.{Names, Agree, Absent}
+use Rattle.laws.specs.Agreement.{SameAnswers, NoneNamed}
 use Rattle.laws.proofs.Agreement.{same-answer}
 use Rattle.laws.proofs.BoundValues.{brought-value}
-
--- over both rooms the table has one answer, with the same counts and the same evaluation rooms afterwards, for everything that can be lent
-abbrev pub SameAnswers : (table text : List ℕ) → BindingRoom → BindingRoom → Type 0
-SameAnswers table text room other = (lent : Counts) → answerOf table text room lent ≡ answerOf table text other lent
-
--- none of these bindings is under a name of the rule
-unfoldable pub NoneNamed : Expr → List (ℕ × Value) → Type 0
-NoneNamed e [] = Unit {0}
-NoneNamed e (b ∷ bs) = (Names e (b .0) → ⊥) × NoneNamed e bs
 
 -- ---- bringing in a binding
 

@@ -12,6 +12,7 @@ use Rattle.meaning.specs.Value.{Value}
 use Rattle.meaning.specs.Run.{Charge, step, cells, text, nest, Trace, Result, value, error, Run, Eval, Rule, pure, charged, after, onValue, _>>=_, fail, orFail, fromOperand, operand, tryBool, choose}
 use Rattle.meaning.specs.Comparison.{Tally, compared}
 use Rattle.laws.specs.Begins.{GaveBool}
+use Rattle.laws.specs.Steps.{StepIn}
 use Rattle.laws.proofs.Opening.{tryBool-charges}
 use Rattle.laws.proofs.BegunOperands.{gave-tryBool}
 
@@ -22,11 +23,6 @@ EachStep P (step ∷ t) = P [] × EachStep (λ f. P (step ∷ f)) t
 EachStep P (cells vs ∷ t) = EachStep (λ f. P (cells vs ∷ f)) t
 EachStep P (text s ∷ t) = EachStep (λ f. P (text s ∷ f)) t
 EachStep P (nest d ∷ t) = EachStep (λ f. P (nest d ∷ f)) t
-
--- a step stands in a trace behind these charges
-pub record StepIn (front t : Trace) : Type 0 where
-  pub back : Trace
-  pub whole : t ≡ front ++ step ∷ back
 
 pub record Covered (P : Trace → Type 0) (t : Trace) : Type 0 where
   pub each : EachStep P t

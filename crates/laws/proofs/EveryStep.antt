@@ -16,9 +16,10 @@ use Rattle.meaning.specs.Calls.{callRule, orValueCall}
 use Rattle.meaning.specs.Comprehension.{Scope}
 use Rattle.meaning.specs.Meaning.{run}
 use Rattle.laws.specs.Begins.{ofUnary, leftOf, rightOf, conditionOf, ifTrue, ifFalse, selectedFrom, elementOf, entryOf, argumentOf, defaultOf, targetOf, itself}
-use Rattle.laws.proofs.CoveredSteps.{StepIn, nothing, silent-any, covered-operand, covered-choice, covered-at}
+use Rattle.laws.specs.Steps.{StepIn, ofTwo, ofField, ofKeys, StepOf, compares}
+use Rattle.laws.proofs.CoveredSteps.{nothing, silent-any, covered-operand, covered-choice, covered-at}
 use Rattle.laws.proofs.OwnSteps.{orFail-silent, call-silent, default-silent, select-pairs}
-use Rattle.laws.proofs.StepOrigins.{ofTwo, ofField, ofKeys, StepOf, Accounted, compares, Behind, of-operand, begun-accounted, operand-steps}
+use Rattle.laws.proofs.StepOrigins.{Accounted, Behind, of-operand, begun-accounted, operand-steps}
 use Rattle.laws.proofs.StepOperands.{pairs-any, one-accounted, unary-accounted, binary-accounted}
 use Rattle.laws.proofs.StepParts.{ElementsAccounted, elements-accounted, PairsAccounted, pairs-accounted, list-accounted, map-accounted}
 use Rattle.laws.proofs.StepComprehension.{InsideAccounted, comprehension-steps}

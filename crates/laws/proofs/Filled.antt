@@ -8,14 +8,10 @@ use lib.ListN.{length, length-append, length-map, length-replicate}
 use Rattle.meaning.specs.Limits.{Counts}
 use Rattle.meaning.specs.Value.{Value, Values, nil, cons, count, join, valueList}
 use Rattle.meaning.specs.Run.{step, cells, text, nest, Trace, Eval}
-use Rattle.meaning.specs.Limited.{Outcome, value, error, exhausted, limited, holding, Rooms, cellsBuilt, textBuilt, built, cleared, roomsAfter}
+use Rattle.meaning.specs.Limited.{Outcome, value, error, exhausted, limited, holding, cellsBuilt, textBuilt, built, cleared, roomsAfter}
 use Rattle.laws.specs.Charges.{cellsIn, bytesIn, total, countsOf}
+use Rattle.laws.specs.Answers.{Fills}
 use Rattle.laws.proofs.Exhausted.{value-exactly}
-
--- as many cells and bytes as the counts say
-pub record Fills (rooms : Rooms) (c : Counts) : Type 0 where
-  pub cells : length (rooms .cells) ≡ c .cells
-  pub bytes : length (rooms .bytes) ≡ c .bytes
 
 count-join : (vs ws : Values) → count (join vs ws) ≡ count vs + count ws
 unfolding count join

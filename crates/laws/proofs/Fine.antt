@@ -2,7 +2,6 @@
 -- is one. What evaluation keeps is said of these. Rests on MatchingKeys. Assumes nothing.
 use Prim.Native.Nat.{ℕ, zero, suc, _+_, _^_, _≤_, _<_}
 use mathlib.Core.Path.{_≡_, refl}
-use mathlib.Core.List.{List, [], _∷_}
 use mathlib.Core.Option.{Option, none, some}
 use mathlib.Core.Bool.{Bool, true, false, cond}
 use native.Mathlib.Omega.{arith}
@@ -15,6 +14,7 @@ use Rattle.meaning.specs.Containers.{pad, entryCells}
 use Rattle.meaning.specs.Comprehension.{keyList, itemsOf}
 use Rattle.meaning.specs.Bindings.{textBytes}
 use Rattle.meaning.specs.WellFormed.{SoundScalar, Sound, SoundElements, SoundEntries, WellFormed}
+use Rattle.laws.specs.Each.{Each}
 use Rattle.laws.proofs.MatchingKeys.{not-found, added-not-found}
 
 -- so many can be counted by an Int
@@ -45,11 +45,6 @@ abbrev mutual
 abbrev pub Perhaps : {A : Type 0} → (A → Type 0) → Option A → Type 0
 Perhaps P none = Unit {0}
 Perhaps P (some a) = P a
-
--- of each of a list
-abbrev pub Each : {A : Type 0} → (A → Type 0) → List A → Type 0
-Each P [] = Unit {0}
-Each P (a ∷ rest) = P a × Each P rest
 
 -- ---- fine values are well formed
 

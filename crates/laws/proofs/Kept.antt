@@ -11,7 +11,8 @@ use Rattle.meaning.specs.Value.{bool, Value, scalar, Values, nesting, count, bo
 use Rattle.meaning.specs.Run.{Charge, step, cells, text, nest, Trace, Result, value, error, Run, Eval, Raised, byRule, byOperand, Rule, pure, charged, after, onValue, _>>=_, fail, orFail, fromOperand, operand, placed, here, begin, truth, tryBool, choose, built}
 use Rattle.meaning.specs.Comparison.{Tally, compared}
 use Rattle.meaning.specs.WellFormed.{AllBytes}
-use Rattle.laws.proofs.Fine.{Fine, FineElements, Perhaps, Each, fine-bool}
+use Rattle.laws.specs.Each.{Each}
+use Rattle.laws.proofs.Fine.{Fine, FineElements, Perhaps, fine-bool}
 
 -- ---- charges
 

@@ -12,7 +12,8 @@ use Rattle.meaning.specs.Run.{cells, nest, Result, value, error, Raised, Eval, 
 use Rattle.meaning.specs.Comparison.{find}
 use Rattle.meaning.specs.Optionals.{Unwrapped, NotOptional, Some, None, unwrapOptional}
 use Rattle.meaning.specs.Containers.{Making, keeping, having, readyIn, unmarked, kept, append, elementRule, addNew, insert, entryRule, pairRule, pad, cellsAnEntry, entryCells, finished, listRule, mapRule, into}
-use Rattle.laws.proofs.Fine.{FineScalar, Fine, FineElements, FineEntries, Perhaps, Each, key-fine, join-fine, join-count, pad-fine, pad-count, cells-fine, add-fine, add-count}
+use Rattle.laws.specs.Each.{Each}
+use Rattle.laws.proofs.Fine.{FineScalar, Fine, FineElements, FineEntries, Perhaps, key-fine, join-fine, join-count, pad-fine, pad-count, cells-fine, add-fine, add-count}
 use Rattle.laws.proofs.Kept.{Modest, modest-first, Any, Gives, Keeps, KeepsRule, KeepsEval, keeps-pure, keeps-error, keeps-charged, keeps-after, keeps-bind, keeps-fail, keeps-orFail, keeps-operand, keeps-compared}
 use Rattle.laws.proofs.KeptRules.{FineUnwrapped, unwrapped-fine}
 

@@ -13,7 +13,8 @@ use Rattle.meaning.specs.Run.{Charge, step, cells, text, nest, Trace}
 use Rattle.meaning.specs.Limited.{charge, fits, limitOf, through, stopped, onward, make, spend}
 use Rattle.meaning.specs.Bindings.{cellsOf, cellsIn, cellsOver, bytesOf, bytesIn, bytesOver}
 use Rattle.meaning.specs.WellFormed.{Sound, SoundElements, SoundEntries}
-use Rattle.laws.proofs.Fine.{Fine, FineElements, FineEntries, Each}
+use Rattle.laws.specs.Each.{Each}
+use Rattle.laws.proofs.Fine.{Fine, FineElements, FineEntries}
 use Rattle.laws.proofs.Kept.{Modest}
 
 -- ---- values in a binding room

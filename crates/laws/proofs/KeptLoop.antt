@@ -13,7 +13,8 @@ use Rattle.meaning.specs.Run.{cells, Result, value, error, Eval, built}
 use Rattle.meaning.specs.Logic.{absorbs}
 use Rattle.meaning.specs.Comprehension.{Scope, store, Meaning, AppendStep, Comprehension, Pending, Onward, finish, foldStep, afterStep, turn, loop, Gathering, appendItems, appendTurn, appendLoop, isEmptyList, loopFrom, comprehensionRule}
 use Rattle.meaning.specs.Look.{Look, aFold, aSum, ofName, guardedBy, aConditional, arithLook, binaryLook, named, appendStep}
-use Rattle.laws.proofs.Fine.{Fine, FineElements, Perhaps, Each, join-fine}
+use Rattle.laws.specs.Each.{Each}
+use Rattle.laws.proofs.Fine.{Fine, FineElements, Perhaps, join-fine}
 use Rattle.laws.proofs.Kept.{Any, Gives, KeepsRule, KeepsEval, keeps-error, keeps-charged, keeps-after, keeps-bind, keeps-orFail, keeps-operand, keeps-tryBool, keeps-choose, keeps-built}
 
 -- ---- scopes, and what parts mean in them

@@ -6,16 +6,8 @@ use mathlib.Core.Option.{Option, none, some}
 use mathlib.Core.Bool.{Bool, true, false}
 use Rattle.meaning.specs.Errors.{Refusal}
 use Rattle.meaning.specs.Heads.{Got, got, refused, _>>=_, _>>_, demand, orRefuse}
+use Rattle.laws.specs.Each.{Only, Reads}
 use Rattle.laws.proofs.Fine.{Perhaps}
-
--- of what was read, if it was not refused
-abbrev pub Only : {A : Type 0} → (A → Type 0) → Got A → Type 0
-Only P (got a) = P a
-Only P (refused r p) = Unit {0}
-
--- as a record, so that P can be inferred
-pub record Reads {A : Type 0} (P : A → Type 0) (g : Got A) : Type 0 where
-  pub only : Only P g
 
 pub reads-got : {A : Type 0} {P : A → Type 0} (a : A) → P a → Reads P (got a)
 reads-got a h = record { only = h }

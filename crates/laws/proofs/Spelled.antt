@@ -14,9 +14,10 @@ use Rattle.meaning.specs.Maps.{isFound}
 use Rattle.meaning.specs.Spelling.{Literal, scalarAt, listAt, mapAt, Literals, noLiterals, literals, LiteralPairs, noLiteralPairs, literalPairs, literalOf, literalsOf, literalPairsOf, literalNesting, literalsNesting, literalPairsNesting, newKey, keyLiteral, spelled, spelledElements, spelledEntries, spelledRoot}
 use Rattle.meaning.specs.WellFormed.{SoundScalar, Sound, SoundElements, SoundEntries, WellFormed}
 use Rattle.laws.specs.Formed.{Formed, FormedElements, FormedPairs}
+use Rattle.laws.specs.Each.{Reads}
 use Rattle.laws.proofs.MatchingKeys.{not-found, added-not-found}
 use Rattle.laws.proofs.Fine.{Perhaps}
-use Rattle.laws.proofs.Reading.{Reads, reads-got, reads-refused, reads-bind, reads-then, reads-demand, reads-weaker}
+use Rattle.laws.proofs.Reading.{reads-got, reads-refused, reads-bind, reads-then, reads-demand, reads-weaker}
 
 -- ---- literals
 

@@ -16,7 +16,8 @@ use Rattle.meaning.specs.Comprehension.{Scope}
 use Rattle.meaning.specs.Meaning.{run}
 use Rattle.meaning.specs.Heads.{Got, got, refused, _>>=_, _>>_, demand}
 use Rattle.meaning.specs.Spelling.{Literal, scalarAt, listAt, mapAt, Literals, noLiterals, literals, LiteralPairs, noLiteralPairs, literalPairs, literalOf, literalsOf, literalPairsOf, literalNesting, newKey, keyLiteral, spelled, spelledElements, spelledEntries, spelledRoot}
-use Rattle.laws.proofs.Reading.{Reads, reads-got, reads-refused, reads-demand, was-read}
+use Rattle.laws.specs.Each.{Reads}
+use Rattle.laws.proofs.Reading.{reads-got, reads-refused, reads-demand, was-read}
 use Rattle.laws.proofs.SpelledRuns.{spelling-runs, running-spells, spelled-nesting}
 
 -- ---- reasons

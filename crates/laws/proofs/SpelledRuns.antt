@@ -17,8 +17,9 @@ use Rattle.meaning.specs.Comprehension.{Scope}
 use Rattle.meaning.specs.Meaning.{run, runElements, runPairs}
 use Rattle.meaning.specs.Heads.{Got, got, refused, _>>=_, _>>_, demand}
 use Rattle.meaning.specs.Spelling.{Literal, scalarAt, listAt, mapAt, Literals, noLiterals, literals, LiteralPairs, noLiteralPairs, literalPairs, literalOf, literalsOf, literalPairsOf, literalNesting, literalsNesting, literalPairsNesting, newKey, keyLiteral, spelled, spelledElements, spelledEntries}
+use Rattle.laws.specs.Each.{Only, Reads}
 use Rattle.laws.proofs.Spelled.{add-nesting}
-use Rattle.laws.proofs.Reading.{Only, Reads, reads-got, reads-refused, reads-bind, reads-then, reads-weaker, was-read}
+use Rattle.laws.proofs.Reading.{reads-got, reads-refused, reads-bind, reads-then, reads-weaker, was-read}
 
 -- ---- spelling beside evaluation
 

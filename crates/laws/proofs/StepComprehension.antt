@@ -16,12 +16,13 @@ use Rattle.meaning.specs.Comprehension.{Scope, store, itemsOf, AppendStep, Comp
 use Rattle.meaning.specs.Look.{aSum, arithLook, binaryLook, ofName, guardedBy, aConditional, named, appendStep}
 use Rattle.meaning.specs.Meaning.{run, runElements, look}
 use Rattle.laws.specs.Begins.{TakesLoop, Appends, always, guarded, InAppend, Begins, initOf, rangeOf, loopOf, appendOf}
+use Rattle.laws.specs.Steps.{StepOf}
 use Rattle.laws.proofs.BegunParts.{into-charges}
 use Rattle.laws.proofs.BegunItems.{partsOf, takes-loop}
 use Rattle.laws.proofs.LookWritten.{WrittenAppend}
 use Rattle.laws.proofs.BegunCovers.{takes-either}
 use Rattle.laws.proofs.CoveredSteps.{Covered}
-use Rattle.laws.proofs.StepOrigins.{StepOf, Accounted, of-operand, Behind, begun-accounted, operand-steps}
+use Rattle.laws.proofs.StepOrigins.{Accounted, of-operand, Behind, begun-accounted, operand-steps}
 use Rattle.laws.proofs.StepItems.{ListsItems, asked, loop-accounted, append-accounted, rule-accounted}
 
 -- ---- a step that appends

@@ -13,10 +13,11 @@ use Rattle.meaning.specs.Logic.{absorbs}
 use Rattle.meaning.specs.Comprehension.{Scope, store, Meaning, AppendStep, Comprehension, Pending, Onward, finish, foldStep, afterStep, turn, loop, Gathering, appendItems, appendTurn, appendLoop, loopFrom, comprehensionRule}
 use Rattle.meaning.specs.Meaning.{run}
 use Rattle.laws.specs.Begins.{GaveValue, GaveBool, GoesOn, plain, folded, cleared, stillHeld, held, InLoop, resultAtEnd, resultAtFalse, stepOfItem, laterItem, LetsIn, unguarded, guardHolds, InAppend, guardOfItem, itemsOfItem, afterItems, afterNoItems}
+use Rattle.laws.specs.Steps.{StepOf}
 use Rattle.laws.proofs.BegunItems.{partsOf}
 use Rattle.laws.proofs.CoveredSteps.{Covered, nothing, silent-any, covered-map, covered-after, covered-operand, covered-choice, covered-orFail}
 use Rattle.laws.proofs.OwnSteps.{built-silent}
-use Rattle.laws.proofs.StepOrigins.{StepOf, Accounted}
+use Rattle.laws.proofs.StepOrigins.{Accounted}
 
 -- ---- the loop
 

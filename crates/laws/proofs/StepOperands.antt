@@ -16,10 +16,10 @@ use Rattle.meaning.specs.Selection.{indexRule}
 use Rattle.meaning.specs.Logic.{absorbing, absorbs, afterLeft, rightBool, logicRule, boolOrTrue, notStrictlyFalseRule}
 use Rattle.meaning.specs.Meaning.{ofOne, ofTwo, unaryRule, binaryRule}
 use Rattle.laws.specs.Begins.{GaveValue, GaveBool, LeavesOpen}
+use Rattle.laws.specs.Steps.{Comparing}
 use Rattle.laws.proofs.Opening.{tryBool-gave}
 use Rattle.laws.proofs.CoveredSteps.{Covered, Silent, OnlyPairs, nothing, silent-any, covered-map, covered-operand, covered-tried, covered-orFail}
 use Rattle.laws.proofs.OwnSteps.{truth-silent, negate-silent, not-silent, arith-silent, compare-silent, left-error-silent, equal-pairs, in-pairs, indexed-pairs, present-index-pairs, optional-select-pairs}
-use Rattle.laws.proofs.StepOrigins.{Comparing}
 
 -- steps of pairs are accounted for if each number of them is
 pub pairs-any : {P : Trace → Type 0} (t : Trace) → Covered OnlyPairs t → ((n : ℕ) → P (replicate n step)) → Covered P t

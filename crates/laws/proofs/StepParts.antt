@@ -14,10 +14,11 @@ use Rattle.meaning.specs.Containers.{Making, keeping, having, kept, append, ele
 use Rattle.meaning.specs.Comprehension.{Scope}
 use Rattle.meaning.specs.Meaning.{run, runElements, runPairs}
 use Rattle.laws.specs.Begins.{GaveValue, listCells, mapCells, BeginsElement, firstElement, firstMarked, afterElement, afterMarked, GaveKey, BeginsEntry, firstKey, firstMarkedKey, itsValue, itsMarkedValue, afterEntry, afterMarkedEntry}
+use Rattle.laws.specs.Steps.{StepIn, ComparesKey, itsKey, itsMarkedKey, laterKey, laterMarkedKey, StepOf}
 use Rattle.laws.proofs.BegunParts.{into-charges}
-use Rattle.laws.proofs.CoveredSteps.{StepIn, Covered, Silent, nothing, silent-any, covered-map, covered-given, covered-after, covered-bind, covered-operand, covered-orFail}
+use Rattle.laws.proofs.CoveredSteps.{Covered, Silent, nothing, silent-any, covered-map, covered-given, covered-after, covered-bind, covered-operand, covered-orFail}
 use Rattle.laws.proofs.OwnSteps.{insert-pairs}
-use Rattle.laws.proofs.StepOrigins.{ComparesKey, itsKey, itsMarkedKey, laterKey, laterMarkedKey, StepOf, Accounted}
+use Rattle.laws.proofs.StepOrigins.{Accounted}
 use Rattle.laws.proofs.StepOperands.{pairs-any}
 
 -- ---- elements

@@ -11,11 +11,10 @@ use Rattle.meaning.specs.Containers.{Making, keeping, having, entryRule, pairRu
 use Rattle.meaning.specs.Comprehension.{Scope}
 use Rattle.meaning.specs.Meaning.{run, runPairs}
 use Rattle.laws.specs.Begins.{mapCells}
+use Rattle.laws.specs.Steps.{StepIn, ComparesKey, itsKey, itsMarkedKey, laterKey, laterMarkedKey, Compares, ofTwo, ofField, ofKeys, StepOf, begins, compares}
 use Rattle.laws.proofs.Opening.{Opens, opens-more, first-of, then-of}
 use Rattle.laws.proofs.BegunParts.{into-charges}
 use Rattle.laws.proofs.Begun.{reached}
-use Rattle.laws.proofs.CoveredSteps.{StepIn}
-use Rattle.laws.proofs.StepOrigins.{ComparesKey, itsKey, itsMarkedKey, laterKey, laterMarkedKey, Compares, ofTwo, ofField, ofKeys, StepOf, begins, compares}
 use Rattle.laws.proofs.EveryStep.{every-step}
 
 -- ---- steps of a part are steps of the whole

@@ -24,9 +24,10 @@ use Rattle.meaning.specs.Table.{Part, bare, marked, addElement, addPair, Reader
 use Rattle.meaning.specs.Bindings.{textBytes}
 use Rattle.meaning.specs.WellFormed.{AllBytes}
 use Rattle.laws.specs.Formed.{spans, Formed, FormedElements, FormedPairs}
+use Rattle.laws.specs.Each.{Reads}
 use Rattle.laws.proofs.Fine.{Perhaps}
 use Rattle.laws.proofs.TableNumbers.{NumbersFit, head-fits}
-use Rattle.laws.proofs.Reading.{Reads, reads-got, reads-refused, reads-bind, reads-bind-any, reads-then, reads-demand, reads-orRefuse, was-read}
+use Rattle.laws.proofs.Reading.{reads-got, reads-refused, reads-bind, reads-bind-any, reads-then, reads-demand, reads-orRefuse, was-read}
 
 -- ---- numbers, names and text
 

@@ -12,8 +12,9 @@ use Rattle.meaning.specs.Heads.{orRefuse, first, second, third, fieldBytes, lit
 use Rattle.meaning.specs.Table.{wordBytes}
 use Rattle.meaning.specs.WellFormed.{AllBytes}
 use Rattle.laws.specs.Formed.{spans}
-use Rattle.laws.proofs.Fine.{Perhaps, Each}
-use Rattle.laws.proofs.Reading.{Reads, reads-got, reads-bind, reads-bind-any, reads-demand, reads-orRefuse}
+use Rattle.laws.specs.Each.{Each, Reads}
+use Rattle.laws.proofs.Fine.{Perhaps}
+use Rattle.laws.proofs.Reading.{reads-got, reads-bind, reads-bind-any, reads-demand, reads-orRefuse}
 
 byte-at : (bs : List ℕ) (i : ℕ) → AllBytes bs → getD bs i 0 < byteNumbers
 byte-at [] i h = omega arith

@@ -19,8 +19,9 @@ use Rattle.meaning.specs.Kinds.{ExprKind, nullKind, boolKind, intKind, uintKind
 use Rattle.meaning.specs.Heads.{Got, got, refused, orRefuse, Head, first, second, third, fieldBytes, bytesOf, littleEndian, numbersAt, rowAt, headAt}
 use Rattle.meaning.specs.Table.{Part, bare, marked, addElement, addPair, Reader, elementsFrom, pairsFrom, span, utf8, filled, calledAt, bodyAt, asExpr, asPart, exprAt, partAt, rootAt, wordBytes, readTable}
 use Rattle.meaning.specs.WellFormed.{AllBytes}
-use Rattle.laws.proofs.Fine.{Perhaps, Each}
-use Rattle.laws.proofs.Reading.{Only, Reads, reads-got, reads-refused, reads-bind, reads-bind-any, reads-then, reads-demand, reads-orRefuse, was-read}
+use Rattle.laws.specs.Each.{Each, Only, Reads}
+use Rattle.laws.proofs.Fine.{Perhaps}
+use Rattle.laws.proofs.Reading.{reads-got, reads-refused, reads-bind, reads-bind-any, reads-then, reads-demand, reads-orRefuse, was-read}
 use Rattle.laws.proofs.TableNumbers.{NumbersFit, head-fits}
 use Rattle.laws.proofs.TableFormed.{reads-name}
 use Rattle.machine.specs.Literals.{wordIn}

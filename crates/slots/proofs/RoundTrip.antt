@@ -20,18 +20,8 @@ use Rattle.rooms.proofs.CellLaws.{read-back}
 use Rattle.soundness.specs.declared.Bindings.{Bindings}
 use Rattle.references.specs.Fits.{isAbsent}
 use Rattle.slots.specs.State.{saysAbsent, slotIn, slotsIn, scopeIn, bindingsIn, slotWords, stateOf}
+use Rattle.slots.specs.Settled.{settledSlot, settledBindings, AllFit}
 use Rattle.slots.proofs.Filling.{slot-words-length, slot-value, slot-absent, is-state}
-
-abbrev pub settledSlot : Slot → Slot
-settledSlot s = record { value = settled (s .value) }
-
-abbrev pub settledBindings : Bindings → Bindings
-settledBindings b = record { scope = record { slots = map settledSlot (b .scope .slots) }; cells = b .cells; bytes = b .bytes }
-
--- every value of the code fits
-abbrev pub AllFit : List Slot → Type 0
-AllFit [] = Unit {0}
-AllFit (s ∷ l) = Fits (s .value) × AllFit l
 
 -- ---- one slot
 

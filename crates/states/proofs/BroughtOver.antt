@@ -22,7 +22,8 @@ use Rattle.brought.proofs.Brought.{brings-in}
 use Rattle.overlay.specs.Over.{over, noRoom}
 use Rattle.reports.specs.Report.{whichDone, whichRefused, done, refusal}
 use Rattle.slots.specs.State.{isState, bindingsIn, stateOf, statePut}
-use Rattle.slots.proofs.RoundTrip.{AllFit, round-trip}
+use Rattle.slots.specs.Settled.{AllFit}
+use Rattle.slots.proofs.RoundTrip.{round-trip}
 use Rattle.stowing.specs.Stowing.{BindingRoom, bindingRoom, stateAfter, stowed, stows}
 use Rattle.intake.specs.Intake.{handsBrought, broughtInto, brings}
 use Rattle.states.specs.InOrder.{Words}

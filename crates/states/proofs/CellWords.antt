@@ -19,11 +19,7 @@ use Rattle.rooms.specs.declared.places.TextPlace.the-variants as TextPlace
 use Rattle.rooms.specs.declared.places.CellPlace.the-variants as CellPlace
 use Rattle.rooms.specs.Value.{doubleValue}
 use Rattle.rooms.specs.Cells.{wordOf, signedOf, textNumber, cellNumber, packed, headOf, payloadOf, textPlace, cellPlace, bareOf, textOf, containerOf, valueOf, cellOf}
-use Rattle.references.specs.Fits.{isAbsent}
-
--- where they are a value, h and x are its words
-pub record Written (h x : ℕ) (v : Value) : Type 0 where
-  pub words : isAbsent v ≡ false → (headOf v ≡ h) × (payloadOf v ≡ x)
+use Rattle.states.specs.ValueWords.{Written}
 
 -- either way
 either : {A : Type 0} (P : A → Type 0) (b : Bool) {x y : A} → (b ≡ true → P x) → (b ≡ false → P y) → P (cond b x y)

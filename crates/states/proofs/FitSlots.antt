@@ -33,8 +33,8 @@ use Rattle.admission.proofs.AcceptedLaws.{Fits, accepted-fits}
 use Rattle.machine.proofs.Words.{bits-fit}
 use Rattle.machine.proofs.AnyCells.{cell-fits}
 use Rattle.slots.specs.State.{saysAbsent, slotIn, slotsIn, scopeIn, noBindings, isState, bindingsIn}
+use Rattle.slots.specs.Settled.{AllFit}
 use Rattle.slots.proofs.Filling.{slots-length}
-use Rattle.slots.proofs.RoundTrip.{AllFit}
 use Rattle.states.specs.InOrder.{Words}
 
 -- ---- rows of slots

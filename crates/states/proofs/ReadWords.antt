@@ -25,11 +25,8 @@ use Rattle.entries.specs.Entries.{keyIn, valueIn}
 use Rattle.readable.specs.Shown.{Shows}
 use Rattle.readable.proofs.Showing.{shows}
 use Rattle.states.specs.InOrder.{Words}
+use Rattle.states.specs.ValueWords.{ReadAgain}
 use Rattle.states.proofs.CellWords.{cell-written}
-
--- v is read back from its words
-abbrev pub ReadAgain : Value → Type 0
-ReadAgain v = cellOf (headOf v) (payloadOf v) ≡ v
 
 absent-again : ReadAgain Value.Absent
 unfolding cellOf valueOf bareOf

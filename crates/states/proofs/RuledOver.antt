@@ -41,7 +41,8 @@ use Rattle.carried.proofs.FittingAnswers.{value-fits}
 use Rattle.carried.proofs.FormedAnswers.{says-formed}
 use Rattle.overlay.specs.Over.{over, handed}
 use Rattle.slots.specs.State.{bindingsIn, stateOf}
-use Rattle.slots.proofs.RoundTrip.{AllFit, round-trip}
+use Rattle.slots.specs.Settled.{AllFit}
+use Rattle.slots.proofs.RoundTrip.{round-trip}
 use Rattle.stowing.specs.Stowing.{bindingRoom}
 use Rattle.reports.specs.Report as Report
 use Rattle.reports.specs.Report.{report, whichDone, whichValue, whichError, whichExhausted, whichAnswer, reportAnswer}

@@ -23,7 +23,7 @@ use Rattle.soundness.specs.declared.Bindings.{Bindings}
 use Rattle.references.specs.Fits.{isAbsent}
 use Rattle.scalars.specs.Laying.{Room, room, laidScalar, laid}
 use Rattle.admission.specs.Bringing as Bringing
-use Rattle.admission.specs.Bringing.{literalFor, Outcome, after, outcomeOf}
+use Rattle.admission.specs.Bringing.{literalFor, after, outcomeOf}
 use Rattle.brought.specs.Brings.{StandsFor}
 use Rattle.answers.specs.Evaluated as Evaluated
 use Rattle.answers.specs.declared.Answer.{Answer}
@@ -31,7 +31,9 @@ use Rattle.answers.specs.Meant.{Says, limits, meant, Evaluates}
 use Rattle.answers.specs.Alike.{Alike}
 use Rattle.answers.proofs.Promises.{says-alike}
 use Rattle.slots.specs.State.{bindingsIn, stateOf}
-use Rattle.slots.proofs.RoundTrip.{settledSlot, settledBindings, AllFit, round-trip}
+use Rattle.slots.specs.Settled.{settledSlot, settledBindings, AllFit}
+use Rattle.slots.proofs.RoundTrip.{round-trip}
+use Rattle.states.specs.ValueWords.{settledOutcome}
 use Rattle.states.proofs.SettledValues.{read-settled, settled-absent, settled-slot, settled-written, settled-sound, settled-held, settled-room}
 
 -- ---- what is laid down is settled
@@ -58,10 +60,6 @@ set-settled (x ∷ l) zero s = refl
 set-settled (x ∷ l) (suc n) s = ap (λ (r : List Slot). settledSlot x ∷ r) (set-settled l n s)
 
 -- ---- bringing in
-
--- the same, with settled bindings
-abbrev pub settledOutcome : Outcome → Outcome
-settledOutcome o = record { brought = record { answer = o .brought .answer; bindings = settledBindings (o .brought .bindings) }; words = o .words; text = o .text }
 
 module _ (w t : List ℕ) (b : Bindings) (name : ℕ) (table literal : List ℕ) where
   accepted-alike : Bringing.accepted w t (settledBindings b) name table literal ≡ Bringing.accepted w t b name table literal

@@ -26,7 +26,7 @@ use Rattle.references.specs.Fits.{valueFits, isAbsent, slotFits}
 use Rattle.soundness.specs.Sound.{slotsFit, soundOf}
 use Rattle.held.specs.Held.{bindingRooms, heldScope, boundFrom, roomOf}
 use Rattle.slots.specs.State.{slotWords, stateOf}
-use Rattle.slots.proofs.RoundTrip.{settledSlot, settledBindings, AllFit}
+use Rattle.slots.specs.Settled.{settledSlot, settledBindings, AllFit}
 
 -- ---- a Double
 

@@ -21,7 +21,8 @@ use Rattle.soundness.specs.declared.Soundness.the-variants.{Sound, Unsound}
 use Rattle.references.specs.Fits.{valueFits, isAbsent, slotFits}
 use Rattle.soundness.specs.Sound.{cellFits, firstBad, slotsFit, usedCells, usedBytes, soundOf}
 use Rattle.held.specs.Held.{bindingRooms, heldScope, aliveBelow}
-use Rattle.held.proofs.Goods.{SoundRoom, sound-room, room-sound, fits-nesting}
+use Rattle.held.specs.SoundRoom.{SoundRoom}
+use Rattle.held.proofs.Goods.{sound-room, room-sound, fits-nesting}
 use Rattle.held.proofs.SoundScope.{absent-is, beyond, fits-held, held-read}
 use Rattle.verdicts.specs.Verdicts.{Lent, HoldsFormed, FirstBadCell, BadElsewhere, Says}
 use Rattle.verdicts.proofs.Formed.{formed}

@@ -5,7 +5,8 @@ use native.Mathlib.Omega.{arith}
 use Rattle.rooms.specs.Rooms.{rooms}
 use Rattle.rooms.proofs.Scopes.{mapped-length}
 use Rattle.answers.specs.declared.Answer.the-variants as Answer
-use Rattle.answers.proofs.Lending.{Lent, slots-fit, is-lent}
+use Rattle.answers.specs.Promised.{Lent}
+use Rattle.answers.proofs.Lending.{slots-fit, is-lent}
 use Rattle.answers.proofs.Deciding.{table-refuses, root-sound, room-refuses, runs}
 use Rattle.answers.proofs.Answering.{evaluates}
 use borrow.Author.Needs.{needs}
