@@ -4,7 +4,7 @@
     python3 rows.py ../../target/cases.jsonl [--family NAME]... [--most N] [--per-file N]
 
 Copies the crates numbers, text and meaning to target/rows, writes the crate `rows` beside them and has `rt` check it.
-Says how many rows there were and which did not hold. The notation is that of crates/meaning/proofs/Sample.antt.
+Says how many rows there were and which did not hold. The notation is that of crates/meaning/specs/Rows.antt and proofs/Sample.antt.
 """
 
 from __future__ import annotations
@@ -68,7 +68,8 @@ use Rattle.meaning.specs.Errors.{Steps, Cells, Text, Nesting}
 use Rattle.meaning.specs.Value.{null, bool, int, uint, double, string, bytes, intKey, uintKey, boolKey, stringKey, scalar, map, optionalNone, optionalOf, empty, entry}
 use Rattle.meaning.specs.Bindings.{emptyRoom}
 use Rattle.meaning.specs.Answer.{answerOf}
-use Rattle.meaning.proofs.Sample.{elements, gives, fails, exhausts, refuses, counts, seen, expected}
+use Rattle.meaning.specs.Rows.{gives, fails, exhausts, refuses, seen, expected}
+use Rattle.meaning.proofs.Sample.{elements, counts}
 use Rattle.meaning.proofs.Compute.{compute}
 use Rattle.rows.specs.Kit.{empties, bringing, emptied, brought, declined, play, room}
 

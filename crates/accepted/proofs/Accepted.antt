@@ -15,13 +15,9 @@ use Rattle.table.specs.declared.Checked.the-variants.{Accepted}
 use Rattle.table.specs.Reading.{ends, readOf}
 use Rattle.layout.specs.Layout.{after}
 use Rattle.accepted.specs.Records.{exprOf, Sound}
+use Rattle.accepted.specs.Opened.{AcceptedTable}
 use Rattle.table.specs.Check.{verdict, checkOf}
 use Rattle.accepted.proofs.SoundLaws.{expr-is, ended}
-
-pub record AcceptedTable (t x : List ℕ) : Type 0 where
-  pub root : Sound t x 0
-  pub whole : after t 0 ≡ length t
-  pub is : readTable t x ≡ got (exprOf t x 0)
 
 met : (b : Bool) (r : Refusal) (p : ℕ) (g : Got Expr) → verdict (_>>_ (demand b r p) g) ≡ Accepted → (b ≡ true) × (verdict g ≡ Accepted)
 unfolding _>>_ _>>=_ demand

@@ -22,7 +22,8 @@ use Rattle.heads.specs.Shapes.{numbersOf, calledCount, exprCount, countOf}
 use Rattle.faults.specs.Faults.{exprMarks}
 use Rattle.fields.specs.Fits.{isSome, exprFits}
 use Rattle.table.specs.Reading.{ends, readOf, operandsOf}
-use Rattle.accepted.specs.Records.{exprIn, exprOf, Sound, Row, elementsOf, pairsOf, kindByte, headOfKind, spanOf, orElse, numbersIn, callOf, node}
+use Rattle.accepted.specs.Records.{exprIn, exprOf, Sound, elementsOf, pairsOf, kindByte, headOfKind, spanOf, orElse, numbersIn, callOf, node}
+use Rattle.accepted.specs.Opened.{Opened}
 use Rattle.layout.proofs.WordLaws.{byte-is}
 use Rattle.heads.proofs.HeadLaws.{Here}
 use Rattle.table.proofs.OperandLaws.{body-ends, two-more, key-next, value-next}
@@ -216,20 +217,6 @@ module _ (t x : List ℕ) (p : ℕ) where
       partAt wordBytes t x (suc left) p parent ≡ asPart x (λ q e. exprAt wordBytes t x left q e) (λ q e. partAt wordBytes t x left q e) p g (g .kind)
   unfolding partAt _>>=_
   part-read left parent e = rw e
-
--- the record at p, of a kind
-pub record Opened (t x : List ℕ) (p : ℕ) (k : ExprKind) : Type 0 where
-  -- its fields and its extent lie in the table
-  pub body : p + headOfKind k ≤ length t
-  pub room : after t p ≤ length t
-  pub least : p + headOfKind k ≤ after t p
-  -- its operands, or what follows it, begin where `first_operand` says
-  pub first : p + headBytes (getD t p 0) ≡ p + headOfKind k
-  -- its fields are right
-  pub fits : exprFits x k (numbersIn t x p k) ≡ true
-  -- its operands are accepted, and end where it does
-  pub row : Row t x (exprMarks k) (after t p) (exprCount k (numbersIn t x p k)) (p + headOfKind k)
-  pub is : exprOf t x p ≡ node t x p k
 
 pub head-of-kind : (t x : List ℕ) (p : ℕ) (k : ExprKind) → getD t p 0 ≡ kindByte k → Here t p (length t) →
     headAt wordBytes t p (length t) ≡ got (headIn t x p k)

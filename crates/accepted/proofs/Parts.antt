@@ -17,6 +17,7 @@ use Rattle.faults.specs.Faults.{marksOf}
 use Rattle.fields.specs.Fits.{fieldsFit}
 use Rattle.table.specs.Reading.{ends, readOf}
 use Rattle.accepted.specs.Records.{exprIn, partIn, exprOf, partOf, Sound, SoundPart, Row, kindByte, numbersIn}
+use Rattle.accepted.specs.Opened.{Marked}
 use Rattle.layout.proofs.KindLaws.{every-kind, head-table}
 use Rattle.heads.proofs.HeadLaws.{Here, headHere}
 use Rattle.table.proofs.OperandLaws.{part-ends, two-more, key-next, value-next}
@@ -54,15 +55,6 @@ mark-row = refl
 mark-refused : (x : List ℕ) (e : Reader Expr) (a : Reader Part) (p : ℕ) (h : Head) (k : Kind) → k ≡ mark → {b : Expr × ℕ} → asExpr x e a p h k ≡ got b → ⊥
 unfolding asExpr
 mark-refused x e a p h k f i = let j = rw f at i in let z : _≡_ {A = ℕ} 0 1 = cc in omega arith
-
--- a marked one
-pub record Marked (t x : List ℕ) (p : ℕ) : Type 0 where
-  pub body : p + fieldsAt ≤ length t
-  pub room : after t p ≤ length t
-  pub first : p + headBytes (getD t p 0) ≡ p + fieldsAt
-  pub operand : Sound t x (p + fieldsAt)
-  pub ends : after t (p + fieldsAt) ≡ after t p
-  pub is : partOf t x p ≡ marked p (exprOf t x (p + fieldsAt))
 
 module _ (t x : List ℕ) (p : ℕ) (s : SoundPart t x p) where
   g : Here t p (length t)

@@ -21,7 +21,7 @@ use Rattle.faults.specs.Faults.{exprMarks, mayMark}
 use Rattle.fields.specs.Fits.{isSome, exprFits}
 use Rattle.accepted.specs.Records.{exprOf, partOf, Sound, SoundPart, Operand, Row, elementsOf, pairsOf, kindByte, headOfKind, numbersIn, callOf, node}
 use Rattle.table.specs.Check.{checkOf}
-use Rattle.accepted.specs.Walk.{next, nameThere, Walk}
+use Rattle.accepted.specs.Walk.{next, Walk, Step}
 use Rattle.layout.proofs.KindLaws.{head-table}
 use Rattle.heads.proofs.HeadLaws.{by-test}
 use Rattle.table.proofs.OperandLaws.{two-more, key-next, value-next}
@@ -46,14 +46,7 @@ module _ (t : List ℕ) where
   walk-join mid end q (r ∷ rs) ss w le v = (w .0, w .1, omega (arith, w .2, le), w .3, walk-join mid end (next t q) rs ss (w .4) le v)
 
   -- Before the end a walk stands at the next record of the list, and goes on behind its head.
-  pub record Step (end q : ℕ) (rs : List Listed) : Type 0 where
-    pub rest : List Listed
-    pub is : rs ≡ (q, nameThere t q) ∷ rest
-    pub known : getD t q 0 < 17
-    pub room : next t q ≤ end
-    pub on : Walk t end (next t q) rest
-
-  pub walk-step : (end q : ℕ) (rs : List Listed) → q < end → Walk t end q rs → Step end q rs
+  pub walk-step : (end q : ℕ) (rs : List Listed) → q < end → Walk t end q rs → Step t end q rs
   walk-step end q [] h w = absurd (omega (arith, h, w))
   walk-step end q (r ∷ rs) h w =
       record { rest = rs; is = ap (λ (l : Listed). l ∷ rs) (same-pair r (w .0) (w .1)); known = w .3; room = walk-within end (next t q) rs (w .4); on = w .4 }

@@ -1,5 +1,5 @@
 -- Going through a table from record to record, by where the next one begins. It does not look at extents, and keeps no stack.
-use Prim.Native.Nat.{ℕ, _+_, _<_}
+use Prim.Native.Nat.{ℕ, _+_, _≤_, _<_}
 use mathlib.Core.Path.{_≡_}
 use mathlib.Core.Bool.{cond}
 use mathlib.Core.List.{List, [], _∷_}
@@ -23,3 +23,11 @@ nameThere t q = cond (eqb (getD t q 0) (kindByte nameKind)) (some (getD t (q + f
 abbrev pub Walk : (table : List ℕ) (end place : ℕ) → List Listed → Type 0
 Walk t end q [] = q ≡ end
 Walk t end q (r ∷ rs) = (q ≡ r .0) × (nameThere t q ≡ r .1) × (q < end) × (getD t q 0 < kindNumbers) × Walk t end (next t q) rs
+
+-- before the end: the record that a walk stands at is the next of the list, and the walk goes on behind its head
+pub record Step (t : List ℕ) (end q : ℕ) (rs : List Listed) : Type 0 where
+  pub rest : List Listed
+  pub is : rs ≡ (q, nameThere t q) ∷ rest
+  pub known : getD t q 0 < 17
+  pub room : next t q ≤ end
+  pub on : Walk t end (next t q) rest

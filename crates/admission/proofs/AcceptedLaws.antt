@@ -24,7 +24,7 @@ use Rattle.table.specs.declared.Checked.{Checked}
 use Rattle.table.specs.declared.Checked.the-variants as Checked
 use Rattle.table.specs.Check.{verdict, checkOf}
 use Rattle.accepted.specs.Records.{exprOf, partOf, Sound, SoundPart}
-use Rattle.accepted.proofs.Accepted.{AcceptedTable}
+use Rattle.accepted.specs.Opened.{AcceptedTable}
 use Rattle.accepted.proofs.Accepted as table
 use Rattle.rooms.specs.declared.value.Value.{Value}
 use Rattle.building.specs.Building.{cellRoom, textRoom}

@@ -9,7 +9,7 @@ use Rattle.meaning.specs.Value.{Value}
 use Rattle.meaning.specs.Limited as Limited
 use Rattle.meaning.specs.Bindings.{scopeOf}
 use Rattle.meaning.specs.Answer.{Answer, refusal, ran, Answered, answerOf}
-use Rattle.meaning.proofs.Sample.{Row, Shown, gives, fails, exhausts, refuses, Seen, expected, answerShown, cellsIn, textIn, seen, roomOf, answered, Hold}
+use Rattle.meaning.specs.Rows.{Row, Shown, gives, fails, exhausts, refuses, Seen, expected, answerShown, cellsIn, textIn, seen, roomOf, answered, Hold}
 use Rattle.meaning.proofs.Examples.{examples, examples-hold}
 use Rattle.meaning.proofs.Refusals.{refusals, refusals-hold}
 use Rattle.meaning.proofs.Corners.{corners, corners-hold}

@@ -5,7 +5,7 @@ use mathlib.Core.Option.{some}
 use lib.ListN.{take}
 use Rattle.meaning.specs.Limits.{Counts, nothingYet}
 use Rattle.meaning.specs.Bindings.{boundIn}
-use Rattle.meaning.proofs.Sample.{Row, Shown, gives, fails, exhausts, refuses, expected}
+use Rattle.meaning.specs.Rows.{Row, Shown, gives, fails, exhausts, refuses, expected}
 use Rattle.rooms.specs.Rooms.{Rooms}
 use Rattle.soundness.specs.declared.Bindings.{Bindings}
 use Rattle.machine.specs.Answer.{CellsHave}

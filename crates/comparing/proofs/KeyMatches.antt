@@ -3,7 +3,7 @@ use Prim.Native.Nat.{ℕ}
 use mathlib.Core.Path.{_≡_, refl, sym, ap, _∙_}
 use mathlib.Core.Bool.{Bool, true, false, not, cond, true≢false}
 use lib.Dec.{eqb}
-use lib.IntN.{ℤ, pos, natAbs}
+use lib.IntN.{ℤ, natAbs}
 use Rattle.numbers.specs.declared.order.Order.{Order}
 use Rattle.numbers.specs.declared.order.Order.the-variants as Order
 use Rattle.numbers.specs.declared.order.Number.the-variants as Number
@@ -17,25 +17,8 @@ use Rattle.text.specs.Bytes as Bytes
 use Rattle.text.proofs.BytesLaws.{order-equal}
 use Rattle.meaning.specs.Value.{Scalar, int, uint, bool, string, Key, intKey, uintKey, boolKey, stringKey, keyScalar}
 use Rattle.meaning.specs.Comparison.{rank, textOrder, scalarEqual}
+use Rattle.comparing.specs.Matches.{Matches}
 use Rattle.comparing.proofs.ScalarLaws.{apart, number-same, bool-same, string-same}
-
-abbrev pub Matches : Key → Key → Type 0
-Matches (intKey y) (intKey z) = y ≡ z
-Matches (intKey z) (uintKey n) = z ≡ pos n
-Matches (intKey z) (boolKey b) = ⊥
-Matches (intKey z) (stringKey s) = ⊥
-Matches (uintKey n) (intKey z) = z ≡ pos n
-Matches (uintKey m) (uintKey n) = m ≡ n
-Matches (uintKey n) (boolKey b) = ⊥
-Matches (uintKey n) (stringKey s) = ⊥
-Matches (boolKey b) (intKey z) = ⊥
-Matches (boolKey b) (uintKey n) = ⊥
-Matches (boolKey a) (boolKey b) = a ≡ b
-Matches (boolKey b) (stringKey s) = ⊥
-Matches (stringKey s) (intKey z) = ⊥
-Matches (stringKey s) (uintKey n) = ⊥
-Matches (stringKey s) (boolKey b) = ⊥
-Matches (stringKey s) (stringKey t) = s ≡ t
 
 never : (x y : Scalar) → eqb (rank x .class) (rank y .class) ≡ false → scalarEqual x y ≡ true → ⊥
 never x y e h = true≢false (sym h ∙ sym (apart x y e))

@@ -26,19 +26,12 @@ use Rattle.comparing.specs.declared.lookup.Found.the-variants as Found
 use Rattle.equality.specs.Equality as Machine
 use Rattle.comparing.specs.Seen.{sameSeen, seenIn}
 use Rattle.comparing.specs.LookUp.{pairFound, findIn}
-use Rattle.equality.specs.Equality.{pair, decided, andThen, whereFound, Compare, elementsEqual, entriesEqual, partsEqual, equalIn, equalPairs, orElse, amongIn, pays, paid, paysFound}
+use Rattle.equality.specs.Equality.{pair, decided, andThen, whereFound, Compare, elementsEqual, entriesEqual, partsEqual, equalIn, equalPairs, orElse, amongIn, pays, paid}
+use Rattle.equality.specs.Finds.{FoundIs, Finds}
 use Rattle.equality.proofs.Charges.{pays-add, pays-found, both-paid, either-paid, tick-paid}
 use Rattle.comparing.proofs.SeenMeaning.{scalar-tally, none-tally, scalar-seen, scalar-parts, seen-stands}
 
 -- ---- the look-up
-
--- what a look-up that ends answers: no entry, or the cell where the value of the entry found lies
-abbrev pub FoundIs : Alive → Rooms → CellSpace → Option Meaning.Value → (ℕ → Found) → Type 0
-FoundIs L r space none f = f ≡ (λ j. Found.Missing j)
-FoundIs L r space (some v) f = (c : ℕ) × (f ≡ (λ j. Found.At c j)) × L .cells space c × Stands v L r (cellAt r space c)
-
-abbrev pub Finds : Alive → Rooms → CellSpace → (limit k : ℕ) → Tally (Option Meaning.Value) → Found → Type 0
-Finds L r space limit k t p = (f : ℕ → Found) × FoundIs L r space (t .1) f × (p ≡ paysFound limit k (t .0) f)
 
 module _ (L : Alive) (r : Rooms) (limit : ℕ) where
   -- Looking a key up finds what the definition's look-up finds, after the same count.

@@ -1,2 +1,3 @@
--- What the contracts cite: equality and `in`, with their counts of pairs.
+-- What the contracts cite: equality and `in`, with their counts of pairs (`Equality`). What a look-up must come to (`Finds`).
 pub mod Equality
+pub mod Finds

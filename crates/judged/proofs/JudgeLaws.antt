@@ -18,7 +18,8 @@ use Rattle.meaning.specs.Spelling.{Literal, scalarAt, listAt, mapAt, Literals, 
 use Rattle.layout.specs.Layout.{wordAt}
 use Rattle.layout.specs.Layout.{after}
 use Rattle.accepted.specs.Records.{exprOf, partOf, Sound, SoundPart, elementsOf, pairsOf}
-use Rattle.accepted.proofs.Parts.{Marked, part-marked, part-bare}
+use Rattle.accepted.specs.Opened.{Marked}
+use Rattle.accepted.proofs.Parts.{part-marked, part-bare}
 use Rattle.rooms.specs.declared.value.Value.{Value}
 use Rattle.rooms.specs.declared.value.Value.the-variants as Value
 use Rattle.references.specs.Fits.{isAbsent}

@@ -31,7 +31,8 @@ use Rattle.rooms.specs.Stands.{Alive, Stands, StandsCells, StandsEntries, Holds
 use Rattle.comparing.specs.LookUp.{findIn}
 use Rattle.rooms.proofs.Frame.{frame-entries, scalar-frame, holds-frame}
 use Rattle.rooms.proofs.CellLaws.{written-length}
-use Rattle.equality.proofs.EqualMeaning.{FoundIs, Finds, find-ok}
+use Rattle.equality.specs.Finds.{FoundIs, Finds}
+use Rattle.equality.proofs.EqualMeaning.{find-ok}
 use Rattle.machine.specs.declared.outcome.Used.{Used}
 use Rattle.machine.specs.declared.outcome.Error.the-variants as Error
 use Rattle.machine.specs.declared.outcome.Outcome.{Outcome}

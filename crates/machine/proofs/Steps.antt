@@ -24,7 +24,7 @@ use Rattle.rooms.specs.Rooms.{Rooms, cellAt}
 use Rattle.rooms.specs.Stands.{Alive, Stands}
 use Rattle.comparing.specs.LookUp.{pairFound}
 use Rattle.equality.specs.Equality.{pays, paysFound, pair, decided, paid}
-use Rattle.equality.proofs.EqualMeaning.{FoundIs, Finds}
+use Rattle.equality.specs.Finds.{FoundIs, Finds}
 use Rattle.machine.specs.declared.outcome.Used.{Used}
 use Rattle.machine.specs.declared.outcome.Limit.the-variants as Limit
 use Rattle.machine.specs.declared.outcome.Outcome.{Outcome}

@@ -5,7 +5,8 @@ use mathlib.Core.List.{List, [], _∷_}
 use mathlib.Core.Bool.{true, false}
 use lib.IntN.{pos}
 use Rattle.meaning.specs.Value.{null, string, intKey, scalar, map, optionalNone, optionalOf, empty, entry}
-use Rattle.meaning.proofs.Sample.{Row, row, Hold, counts, ample, gives, fails, number, truth, elements, Null, True, False, Int, Below, Uint, Double, String, Name, NotStrictlyFalse, Or, Equals, Index, OptIndex, Less, In, If, Select, Has, ListOf, MapOf, Mark, Size, Some, None, ValueOf, OrValue}
+use Rattle.meaning.specs.Rows.{Row, Hold, gives, fails}
+use Rattle.meaning.proofs.Sample.{row, counts, ample, number, truth, elements, Null, True, False, Int, Below, Uint, Double, String, Name, NotStrictlyFalse, Or, Equals, Index, OptIndex, Less, In, If, Select, Has, ListOf, MapOf, Mark, Size, Some, None, ValueOf, OrValue}
 use Rattle.meaning.proofs.Compute.{compute}
 
 -- what is easily got wrong

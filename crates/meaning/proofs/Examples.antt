@@ -4,7 +4,8 @@ use mathlib.Core.List.{List, [], _∷_}
 use mathlib.Core.Bool.{true, false}
 use lib.IntN.{pos}
 use Rattle.meaning.specs.Errors.{Steps}
-use Rattle.meaning.proofs.Sample.{Row, row, Hold, counts, ample, gives, fails, exhausts, number, truth, elements, True, Int, Below, Name, Not, NotStrictlyFalse, Or, And, Equals, Plus, Over, Rem, ListOf, Fold}
+use Rattle.meaning.specs.Rows.{Row, Hold, gives, fails, exhausts}
+use Rattle.meaning.proofs.Sample.{row, counts, ample, number, truth, elements, True, Int, Below, Name, Not, NotStrictlyFalse, Or, And, Equals, Plus, Over, Rem, ListOf, Fold}
 use Rattle.meaning.proofs.Compute.{compute}
 
 -- the examples, and the one that a program prints

@@ -5,7 +5,8 @@ use mathlib.Core.Bool.{true, false}
 use lib.IntN.{pos}
 use Rattle.meaning.specs.Errors.{Steps, Cells, Text, Nesting}
 use Rattle.meaning.specs.Value.{empty}
-use Rattle.meaning.proofs.Sample.{Row, row, Hold, nested, counts, ample, gives, fails, exhausts, number, truth, elements, True, False, Int, String, Name, Not, NotStrictlyFalse, Or, And, Equals, Differs, OptIndex, Plus, Minus, Over, More, If, ListOf, MapOf, Fold, Size, Some}
+use Rattle.meaning.specs.Rows.{Row, Hold, gives, fails, exhausts}
+use Rattle.meaning.proofs.Sample.{row, nested, counts, ample, number, truth, elements, True, False, Int, String, Name, Not, NotStrictlyFalse, Or, And, Equals, Differs, OptIndex, Plus, Minus, Over, More, If, ListOf, MapOf, Fold, Size, Some}
 use Rattle.meaning.proofs.Compute.{compute}
 
 -- comprehensions, then exhaustion

@@ -4,7 +4,8 @@ use mathlib.Core.List.{List, [], _∷_}
 use mathlib.Core.Bool.{true, false}
 use lib.IntN.{pos, negsuc}
 use Rattle.meaning.specs.Value.{null, uint, double, string, bytes, scalar}
-use Rattle.meaning.proofs.Sample.{Row, row, Hold, counts, ample, gives, fails, number, truth, elements, Null, True, False, Int, Below, Uint, Double, String, Bytes, Not, Negate, Equals, Differs, Index, Plus, Minus, Over, Times, Rem, Less, AtMost, More, AtLeast, In, ListOf, MapOf, Some, None}
+use Rattle.meaning.specs.Rows.{Row, Hold, gives, fails}
+use Rattle.meaning.proofs.Sample.{row, counts, ample, number, truth, elements, Null, True, False, Int, Below, Uint, Double, String, Bytes, Not, Negate, Equals, Differs, Index, Plus, Minus, Over, Times, Rem, Less, AtMost, More, AtLeast, In, ListOf, MapOf, Some, None}
 use Rattle.meaning.proofs.Compute.{compute}
 
 -- operators

@@ -4,7 +4,8 @@ use mathlib.Core.List.{List, [], _∷_}
 use mathlib.Core.Bool.{false}
 use lib.ListN.{replicate}
 use Rattle.meaning.specs.Value.{string, bytes, scalar, map, empty}
-use Rattle.meaning.proofs.Sample.{Row, row, Hold, wrapped, MarkedList, counts, ample, gives, refuses, truth, Null, True, String, Bytes, Not}
+use Rattle.meaning.specs.Rows.{Row, Hold, gives, refuses}
+use Rattle.meaning.proofs.Sample.{row, wrapped, MarkedList, counts, ample, truth, Null, True, String, Bytes, Not}
 use Rattle.meaning.proofs.Compute.{compute}
 
 -- tables by their bytes

@@ -4,14 +4,13 @@ use mathlib.Core.Path.{_≡_}
 use mathlib.Core.List.{List, [], _∷_, _++_, map}
 use mathlib.Core.Bool.{Bool}
 use lib.IntN.{ℤ}
-use lib.ListN.{length, replicate}
+use lib.ListN.{length}
 use Rattle.meaning.specs.Limits.{Counts, mostSteps, mostCells, mostBytes}
-use Rattle.meaning.specs.Errors.{Exhausted, errorNumber, refusalNumber}
+use Rattle.meaning.specs.Errors.{refusalNumber}
 use Rattle.meaning.specs.Value.{bool, int, Value, scalar, list, Values, nil, cons}
-use Rattle.meaning.specs.Limited.{Outcome, value, error, exhausted, Rooms, zeroCell, holding}
 use Rattle.meaning.specs.Heads.{Got, got, refused}
 use Rattle.meaning.specs.Bindings.{BindingRoom, emptyRoom, bring}
-use Rattle.meaning.specs.Answer.{Answer, refusal, ran, Answered, answerOf}
+use Rattle.meaning.specs.Rows.{Shown, Row}
 
 -- ---- records
 
@@ -190,54 +189,6 @@ unfoldable pub nested : ℕ → Value → Value
 nested zero v = v
 nested (suc n) v = elements (nested n v ∷ [])
 
--- ---- answers
-
--- a value with its counts, the cells' values and the text; an error's number and place; what ran out; a refusal's number and place
-pub data Shown : Type 0 where
-  gives : Value → Counts → List Value → List ℕ → Shown
-  fails : ℕ → ℕ → Counts → Shown
-  exhausts : Exhausted → Counts → Shown
-  refuses : ℕ → ℕ → Shown
-
--- the whole answer that this says, rooms included: zeros below the counts where it is no value, and nothing after a refusal
-pub record Seen : Type 0 where
-  pub shown : Shown
-  pub rooms : Rooms
-
-abbrev pub zeros : Counts → Rooms
-zeros c = record { cells = replicate (c .cells) zeroCell; bytes = replicate (c .bytes) 0 }
-
-abbrev pub expected : Shown → Seen
-expected (gives v c cells text) = record { shown = gives v c cells text; rooms = record { cells = map holding cells; bytes = text } }
-expected (fails n p c) = record { shown = fails n p c; rooms = zeros c }
-expected (exhausts x c) = record { shown = exhausts x c; rooms = zeros c }
-expected (refuses n p) = record { shown = refuses n p; rooms = record { cells = []; bytes = [] } }
-
--- what an answer shows; cells and text of a value are those that are expected, the rooms are its own
-abbrev pub outcomeShown : List Value → List ℕ → Outcome → Shown
-outcomeShown cells text (value v c) = gives v c cells text
-outcomeShown cells text (error e c) = fails (errorNumber (e .error)) (e .place) c
-outcomeShown cells text (exhausted x c) = exhausts x c
-
-abbrev pub answerShown : List Value → List ℕ → Answer → Shown
-answerShown cells text (refusal r p) = refuses (refusalNumber r) p
-answerShown cells text (ran o) = outcomeShown cells text o
-
-abbrev pub cellsIn : Shown → List Value
-cellsIn (gives v c cells text) = cells
-cellsIn (fails n p c) = []
-cellsIn (exhausts x c) = []
-cellsIn (refuses n p) = []
-
-abbrev pub textIn : Shown → List ℕ
-textIn (gives v c cells text) = text
-textIn (fails n p c) = []
-textIn (exhausts x c) = []
-textIn (refuses n p) = []
-
-abbrev pub seen : Shown → Answered → Seen
-seen s a = record { shown = answerShown (cellsIn s) (textIn s) (a .answer); rooms = a .rooms }
-
 -- ---- rows
 
 abbrev pub counts : ℕ → ℕ → ℕ → Counts
@@ -247,26 +198,8 @@ counts s c b = record { steps = s; cells = c; bytes = b }
 abbrev pub ample : Counts
 ample = counts mostSteps mostCells mostBytes
 
--- a table, its text, what is bound, what is lent, and the answer that must come
-pub record Row : Type 0 where
-  pub table : List ℕ
-  pub text : List ℕ
-  pub bound : List (ℕ × Value)
-  pub lent : Counts
-  pub answer : Shown
-
 abbrev pub row : List ℕ → List ℕ → List (ℕ × Value) → Counts → Shown → Row
 row table text bound lent answer = record { table = table; text = text; bound = bound; lent = lent; answer = answer }
-
-abbrev pub roomOf : List (ℕ × Value) → BindingRoom
-roomOf bound = record { bound = bound; usedCells = 0; usedBytes = 0 }
-
-abbrev pub answered : Row → Seen
-answered r = seen (r .answer) (answerOf (r .table) (r .text) (roomOf (r .bound)) (r .lent))
-
--- every row's answer is the one that must come
-abbrev pub Hold : List Row → Type 0
-Hold rows = map answered rows ≡ map (λ r. expected (r .answer)) rows
 
 -- ---- bindings
 

@@ -4,7 +4,8 @@ use mathlib.Core.List.{List, [], _∷_}
 use mathlib.Core.Bool.{true, false}
 use lib.IntN.{pos}
 use Rattle.meaning.specs.Value.{string, intKey, scalar, map, optionalNone, optionalOf, empty, entry, stringKey}
-use Rattle.meaning.proofs.Sample.{Row, row, Hold, counts, ample, gives, fails, number, truth, elements, True, False, Int, String, Bytes, Name, NotStrictlyFalse, Or, And, Index, OptIndex, OptSelect, If, Select, Has, ListOf, MapOf, Mark, Size, Some, None, HasValue, ValueOf, OrValue}
+use Rattle.meaning.specs.Rows.{Row, Hold, gives, fails}
+use Rattle.meaning.proofs.Sample.{row, counts, ample, number, truth, elements, True, False, Int, String, Bytes, Name, NotStrictlyFalse, Or, And, Index, OptIndex, OptSelect, If, Select, Has, ListOf, MapOf, Mark, Size, Some, None, HasValue, ValueOf, OrValue}
 use Rattle.meaning.proofs.Compute.{compute}
 
 -- selections and calls

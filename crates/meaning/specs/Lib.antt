@@ -37,3 +37,5 @@ pub mod Bindings
 -- the whole answer, and the values that can occur in it
 pub mod Answer
 pub mod WellFormed
+-- worked examples, as rows
+pub mod Rows

@@ -10,7 +10,7 @@ use lib.Ieee.Compare.{differs-from-itself, nan-differs}
 use borrow.Author.Tests.{lt-ltb, le-ltb}
 use Rattle.numbers.specs.declared.double.Double.{Double}
 use Rattle.numbers.specs.declared.double.Double.the-variants.{Plain, Nan}
-use Rattle.numbers.specs.Double.{arithmeticNan, bitsOf, isNan, doubleOf}
+use Rattle.numbers.specs.Double.{arithmeticNan, bitsOf, isNan, doubleOf, Proper}
 
 -- ---- the tests of the code
 
@@ -80,11 +80,6 @@ bits-back b h = go (isNan b) (λ (n : isNan b ≡ false). toBits-ofBits binary64
     go : (t : Bool) → (t ≡ false → toBits binary64 (ofBits binary64 b) ≡ b) → bitsOf (cond t (Nan b) (Plain (ofBits binary64 b))) ≡ b
     go true k = refl
     go false k = k refl
-
--- A Double spelled in the one way: a float that is no NaN, or the bits of a NaN.
-abbrev pub Proper : Double → Type 0
-Proper (Plain x) = T (fits binary64 x) × (ne x x ≡ false)
-Proper (Nan b) = isNan b ≡ true
 
 -- `doubleOf` gives no other, so no function does.
 pub proper : (b : ℕ) → Proper (doubleOf b)

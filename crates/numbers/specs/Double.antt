@@ -1,11 +1,12 @@
 -- A Double is its 64 bits: the sign, 11 bits of exponent and 52 digits of IEEE 754 binary64.
 -- In order: what the bits stand for, in whole numbers; arithmetic on bits; the code's `Double`, a spelling of the bits.
 -- lib.Ieee is the kit's definition of the machine's floats. That it rounds once and to nearest is proved in the crate rounding.
-use mathlib.Core.Bool.{Bool, cond}
+use mathlib.Core.Path.{_≡_}
+use mathlib.Core.Bool.{Bool, true, false, cond}
 use Prim.Native.Nat.{ℕ, zero, suc, _+_, _*_, _/_, _%_, _^_}
-use lib.Dec.{leb, ltb, eqb}
+use lib.Dec.{T, leb, ltb, eqb}
 use lib.Ieee as Ieee
-use lib.Ieee.{binary64, toBits, ofBits}
+use lib.Ieee.{binary64, toBits, ofBits, fits, ne}
 use Rattle.numbers.specs.declared.double.Double.{Double}
 use Rattle.numbers.specs.declared.double.Double.the-variants.{Plain, Nan}
 
@@ -91,3 +92,8 @@ divOf x y = doubleOf (divBits (bitsOf x) (bitsOf y))
 
 unfoldable pub negOf : Double → Double
 negOf x = doubleOf (negBits (bitsOf x))
+
+-- A Double spelled in the one way: a float that is no NaN, or the bits of a NaN.
+abbrev pub Proper : Double → Type 0
+Proper (Plain x) = T (fits binary64 x) × (ne x x ≡ false)
+Proper (Nan b) = isNan b ≡ true

@@ -5,12 +5,8 @@ use mathlib.Core.List.{List, [], _∷_, _++_, append-nil, append-assoc}
 use native.Mathlib.Omega.{arith}
 use lib.ListN.{length, set, take, drop, length-append}
 use lib.Seq.{set-append-seam}
-use Rattle.pieces.specs.Page.{Page, put, puts}
+use Rattle.pieces.specs.Page.{put, puts, between}
 use Rattle.pieces.proofs.Putting.{put-in, puts-full}
-
--- the next byte goes between the two
-abbrev pub between : List ℕ → List ℕ → Page
-between w b = (length w, w ++ b)
 
 -- what stood there does not matter
 pub put-between : (c d : ℕ) (w b : List ℕ) → put c (between w (d ∷ b)) ≡ between (w ++ c ∷ []) b

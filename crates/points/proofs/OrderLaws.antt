@@ -9,6 +9,7 @@ use Rattle.numbers.specs.declared.order.Order.{Order}
 use Rattle.numbers.specs.declared.order.Order.the-variants.{Less, Equal, Greater, Unordered}
 use Rattle.numbers.specs.Double.{Point, nan, infinite, finite}
 use Rattle.numbers.specs.Order.{signedOrder, orderOf, flipped}
+use Rattle.points.specs.Sizes.{size}
 use Rattle.points.proofs.SignedOrder.{SaysSigned, signed-says, signed-is}
 
 -- ---- signed sizes
@@ -122,11 +123,6 @@ nan-right (infinite s) = refl
 nan-right (finite s a) = refl
 
 -- ---- a point is no number, or sized beside any M above its size
-
-abbrev pub size : Point → ℕ
-size nan = 0
-size (infinite s) = 0
-size (finite s a) = a
 
 abbrev View : ℕ → Point → Type 0
 View M x = (x ≡ nan) ⊎ ((s : Bool) × (n : ℕ) × Sized M x s n)

@@ -10,8 +10,8 @@ use lib.Dec.{ltb, eqb}
 use borrow.Author.Tests.{ltb-true, ltb-false, eqb-true}
 use Rattle.numbers.specs.declared.double.Double.{Double}
 use Rattle.numbers.specs.declared.double.Double.the-variants as Bits
-use Rattle.numbers.specs.Double.{bitsOf, doubleOf}
-use Rattle.numbers.proofs.DoubleLaws.{Proper, proper, double-back}
+use Rattle.numbers.specs.Double.{bitsOf, doubleOf, Proper}
+use Rattle.numbers.proofs.DoubleLaws.{proper, double-back}
 use Rattle.rooms.specs.declared.value.Value.{Value}
 use Rattle.rooms.specs.declared.value.Value.the-variants as Value
 use Rattle.rooms.specs.declared.value.TextSpace.the-variants as Text

@@ -27,9 +27,10 @@ use Rattle.layout.specs.Layout.{wordAt}
 use Rattle.fields.specs.Fits.{isSome}
 use Rattle.layout.specs.Layout.{longAt}
 use Rattle.accepted.specs.Records.{exprOf, callOf, Sound, kindByte}
+use Rattle.accepted.specs.Opened.{Opened}
 use Rattle.longs.proofs.LongLaws.{four-is, long-is}
 use Rattle.fields.proofs.FieldLaws.{span-is}
-use Rattle.accepted.proofs.Opened.{Opened, opened}
+use Rattle.accepted.proofs.Opened.{opened}
 use Rattle.accepted.proofs.Parts.{sound-kind}
 use Rattle.rooms.specs.declared.value.Value.{Value}
 use Rattle.rooms.specs.declared.value.Value.the-variants as Value

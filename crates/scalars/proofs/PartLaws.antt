@@ -13,9 +13,10 @@ use Rattle.meaning.specs.Table.{Part, bare, marked, bodyAt, asExpr, asPart, exp
 use Rattle.layout.specs.Layout.{wordAt}
 use Rattle.layout.specs.Layout.{after}
 use Rattle.accepted.specs.Records.{exprIn, partIn, exprOf, partOf, Sound, SoundPart, Row, elementsOf, pairsOf, kindByte, numbersIn}
+use Rattle.accepted.specs.Opened.{Opened, Marked}
 use Rattle.accepted.proofs.SoundLaws.{sound-here}
-use Rattle.accepted.proofs.Opened.{Opened, opened, headIn, head-of-kind, record-read, part-read}
-use Rattle.accepted.proofs.Parts.{sound-kind, Marked, part-marked, part-bare}
+use Rattle.accepted.proofs.Opened.{opened, headIn, head-of-kind, record-read, part-read}
+use Rattle.accepted.proofs.Parts.{sound-kind, part-marked, part-bare}
 use Rattle.scalars.specs.Literals.{rowBytes, entryBytes, Operands, Entries}
 use Rattle.scalars.proofs.Rows.{row-operands, row-entries}
 

@@ -11,10 +11,10 @@ use lib.Dec.{leb}
 use lib.ListN.{length, take, drop, getD, length-append, take-append-drop, drop-of-length-le}
 use lib.Seq.{take-all, take-take, take-suc, take-append-le, drop-cons, drop-append-le}
 use borrow.Author.Tests.{leb-true, leb-false}
-use Rattle.pieces.specs.Page.{Page, puts}
+use Rattle.pieces.specs.Page.{Page, puts, between}
 use Rattle.pieces.specs.Spelled.{ascii}
 use Rattle.pieces.proofs.Putting.{puts-joined}
-use Rattle.pieces.proofs.Split.{between, put-between, puts-start}
+use Rattle.pieces.proofs.Split.{put-between, puts-start}
 use Rattle.phrases.specs.Written.{shortened}
 
 taken : (n : ℕ) (l : List ℕ) → n ≤ length l → length (take n l) ≡ n

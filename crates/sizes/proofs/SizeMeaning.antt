@@ -12,7 +12,7 @@ use Rattle.numbers.specs.declared.double.Double.{Double}
 use Rattle.numbers.specs.declared.double.Double.the-variants as Bits
 use Rattle.text.specs.Utf8.{codePoints}
 use Rattle.meaning.specs.Errors.{NoOverload, IndexOutOfBounds}
-use Rattle.meaning.specs.Run.{Rule, pure, charged, after, onValue, _>>=_, fail, orFail}
+use Rattle.meaning.specs.Run.{pure, charged, after, onValue, _>>=_, fail, orFail}
 use Rattle.meaning.specs.Value as Meaning
 use Rattle.meaning.specs.Value.{null, bool, int, uint, double, string, bytes, scalar, list, map, optionalNone, optionalOf, nil, cons, nth, count, scalarOf}
 use Rattle.meaning.specs.Calls.{scalarSize, sizeRule}
@@ -28,12 +28,10 @@ use Rattle.sizes.specs.declared.Position.{Position}
 use Rattle.sizes.specs.declared.Position.the-variants as Position
 use Rattle.sizes.specs.declared.Size.{Size}
 use Rattle.sizes.specs.declared.Size.the-variants as Size
-use Rattle.sizes.specs.Sizes.{sizeOf, sizedRule, inside, insideInt, positionOf}
+use Rattle.sizes.specs.Sizes.{sizedRule, inside, insideInt, positionOf}
+use Rattle.sizes.specs.Indexed.{sized, IndexIs}
 
 -- ---- size
-
-abbrev sized : Rooms → Value → Rule Meaning.Value
-sized r m = sizedRule (sizeOf (r .literal) (r .bindingText) (r .text) m)
 
 double-unsized : (r : Rooms) (x : Double) → sized r (doubleValue x) ≡ fail NoOverload
 double-unsized r (Bits.Plain x) = refl
@@ -86,12 +84,6 @@ nth-stands L r (cons w vs) space a (suc i) v h e = subst (λ j. L .cells space j
   where
     shift : (a i : ℕ) → suc a + i ≡ a + suc i
     shift a i = omega arith
-
--- what an index into a list that lies from cell a on must come to: the look-up's error, or the cell where its value lies
-abbrev pub IndexIs : Alive → Rooms → CellSpace → (a : ℕ) → (whole index : Meaning.Value) → Position → Type 0
-IndexIs L r s a c i (Position.At k) = (v : Meaning.Value) × (lookUp c i ≡ pure v) × L .cells s (a + k) × Stands v L r (cellAt r s (a + k))
-IndexIs L r s a c i Position.Outside = lookUp c i ≡ fail IndexOutOfBounds
-IndexIs L r s a c i Position.Unsuited = lookUp c i ≡ fail NoOverload
 
 module _ (L : Alive) (r : Rooms) (vs : Meaning.Values) (s : CellSpace) (a : ℕ) (h : StandsCells vs L r s a) where
   -- an index that is a number from 0 on
