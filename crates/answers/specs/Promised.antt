@@ -32,7 +32,7 @@ module _ (table literal : List ℕ) where
   abbrev pub AgreeWhereNamed : BindingRoom → BindingRoom → Type 0
   AgreeWhereNamed room other = (e : Expr) → readTable table literal ≡ got e → Agree (In (namesOf e)) (scopeOf room) (scopeOf other)
 
-  -- under each name that is met where one goes through the table from record to record
+  -- the same under each name that is met where one goes through the table from record to record
   abbrev pub AgreeWhereMet : BindingRoom → BindingRoom → Type 0
   AgreeWhereMet room other = (rs : List Listed) → Walk table (length table) 0 rs → Agree (In (namesIn rs)) (scopeOf room) (scopeOf other)
 

@@ -1,4 +1,4 @@
--- Where the steps of a run come from: a part that is begun, or a pair that a record compares when its operands are there.
+-- How the steps of a record are accounted for: its own first one, and those of its operands. Where a step comes from is said in specs/Steps.
 -- Rests on the relation `Begins` and on CoveredSteps. Assumes nothing.
 use Prim.Native.Nat.{ℕ}
 use mathlib.Core.Path.{_≡_, sym, subst}

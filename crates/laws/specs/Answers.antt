@@ -71,7 +71,7 @@ FormedOutcome (value v c) = WellFormed v
 FormedOutcome (error e c) = Unit {0}
 FormedOutcome (exhausted x c) = Unit {0}
 
--- so is what a rule that ran gave
+-- of a rule that ran; a refusal gives none
 abbrev pub FormedAnswer : Answer → Type 0
 FormedAnswer (refusal r p) = Unit {0}
 FormedAnswer (ran o) = FormedOutcome o

@@ -12,6 +12,6 @@ abbrev pub Only : {A : Type 0} → (A → Type 0) → Got A → Type 0
 Only P (got a) = P a
 Only P (refused r p) = Unit {0}
 
--- as a record, so that P can be inferred
+-- the same as a record, so that P can be inferred
 pub record Reads {A : Type 0} (P : A → Type 0) (g : Got A) : Type 0 where
   pub only : Only P g

@@ -1,4 +1,4 @@
--- Notation for worked examples: tables spelled record by record, their extents worked out, and answers as a reader would say them.
+-- Notation for worked examples: tables spelled record by record, their extents worked out; values; rows; what is done to a binding room.
 use Prim.Native.Nat.{ℕ, zero, suc, _+_, _-_, _/_, _%_, _^_}
 use mathlib.Core.Path.{_≡_}
 use mathlib.Core.List.{List, [], _∷_, _++_, map}

@@ -41,11 +41,12 @@ outcomeShown cells text (value v c) = gives v c cells text
 outcomeShown cells text (error e c) = fails (errorNumber (e .error)) (e .place) c
 outcomeShown cells text (exhausted x c) = exhausts x c
 
+-- a refusal by its number
 abbrev pub answerShown : List Value → List ℕ → Answer → Shown
 answerShown cells text (refusal r p) = refuses (refusalNumber r) p
 answerShown cells text (ran o) = outcomeShown cells text o
 
--- the cells and the text that are expected
+-- the values that cells are expected to hold, and the text
 abbrev pub cellsIn : Shown → List Value
 cellsIn (gives v c cells text) = cells
 cellsIn (fails n p c) = []
@@ -58,7 +59,7 @@ textIn (fails n p c) = []
 textIn (exhausts x c) = []
 textIn (refuses n p) = []
 
--- of the whole answer
+-- what the whole answer shows, where this is expected
 abbrev pub seen : Shown → Answered → Seen
 seen s a = record { shown = answerShown (cellsIn s) (textIn s) (a .answer); rooms = a .rooms }
 
