@@ -53,7 +53,7 @@ use Rattle.readable.proofs.Showing.{shows}
 use Rattle.answers.specs.declared.Answer.{Answer}
 use Rattle.answers.specs.declared.Answer.the-variants as Answer
 use Rattle.answers.specs.Evaluated.{accepted}
-use Rattle.answers.specs.Meant.{Told, told, toldBy, counted, countsIn, Says, limits, bound, meant, Evaluates}
+use Rattle.answers.specs.Meant.{Told, told, toldBy, counted, countsIn, countsTold, Says, limits, bound, meant, Evaluates}
 use Rattle.answers.specs.Alike.{Alike}
 use Rattle.answers.specs.Promised.{AgreeWhereNamed, AgreeWhereMet, WithoutValue}
 
@@ -93,6 +93,12 @@ one-answer table bindings steps lent answer other left leftOther h k = h .exactl
 same-text : (n : ℕ) (s t : List ℕ) → take n s ≡ take n t → drop n s ≡ drop n t → s ≡ t
 same-text n s t e f = sym (take-append-drop n s) ∙ (rw (e, f) (take-append-drop n t))
 
+counted-told : (a : Meaning.Answer) → countsTold (toldBy a) ≡ counted a
+counted-told (refusal why place) = refl
+counted-told (ran (Limited.value v c)) = refl
+counted-told (ran (Limited.error e c)) = refl
+counted-told (ran (Limited.exhausted x c)) = refl
+
 -- Even what it says in the definition's terms alone leaves one answer: what it tells, what each cell below the counts holds, and every
 -- other word and byte. (Only where the cells of a value lie is left open by this part.)
 pub says-alike : (m : Answered) (lent lentOther : Rooms) (answer other : Answer) (left leftOther : Rooms)
@@ -102,6 +108,7 @@ says-alike m lent lentOther answer other left leftOther e f h k =
     record {
       tells = h .tells ∙ sym (k .tells);
       holds = m .rooms .cells;
+      counted = h .cellsCounted ∙ sym (ap (λ (n : Counts). n .cells) (counted-told (m .answer))) ∙ ap (λ (t : Told). countsTold t .cells) (sym (h .tells));
       cells = h .cells;
       cellsOther = k .cells;
       cellsAbove = rw (h .cellsCounted) (h .cellsAbove ∙ (rw e (sym (k .cellsAbove))));

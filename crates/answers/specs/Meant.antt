@@ -41,6 +41,13 @@ told left (Answer.Value v u) = value (reading left v) (countsIn u)
 told left (Answer.Error e place u) = error (errorNumber (errorMeant e)) place (countsIn u)
 told left (Answer.Exhausted x u) = exhausted (limitMeant x) (countsIn u)
 
+-- the counts that are told; a refusal counts nothing
+abbrev pub countsTold : Told → Counts
+countsTold (refused number place) = nothingYet
+countsTold (value v c) = c
+countsTold (error number place c) = c
+countsTold (exhausted x c) = c
+
 -- the definition's answer
 abbrev pub toldBy : Meaning.Answer → Told
 toldBy (refusal why place) = refused (refusalNumber why) place

@@ -1,13 +1,5 @@
--- The counts that an answer tells, and that it is not exhaustion.
-use Rattle.meaning.specs.Limits.{Counts, nothingYet}
+-- That an answer is not exhaustion.
 use Rattle.answers.specs.Meant.{Told}
-
--- a refusal counts nothing
-abbrev pub countsTold : Told → Counts
-countsTold (Told.refused number place) = nothingYet
-countsTold (Told.value v c) = c
-countsTold (Told.error number place c) = c
-countsTold (Told.exhausted x c) = c
 
 -- a value, an error or a refusal
 abbrev pub NotExhausted : Told → Type 0
