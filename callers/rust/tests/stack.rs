@@ -46,24 +46,75 @@ fn the_deepest_rules_have_room() {
     }
 }
 
-/// Not run by itself: it ends the process. The test below runs it.
-#[test]
-#[ignore = "ends the process"]
-fn too_little_stack() {
-    on_a_thread_of(STACK_BYTES / 2, || {
-        let bindings = Bindings::<0, 0>::new();
-        evaluate(table(&null()).rule(), &bindings, &mut Room::<0, 0>::new(), 1);
-    });
+/// A thread that has too little for any call, and enough for a small one that does not see to its stack.
+fn on_too_little(work: impl FnOnce() + Send + 'static) {
+    on_a_thread_of(STACK_BYTES / 2, work);
     println!("it went on");
 }
 
+fn smallest() -> Table {
+    table(&null())
+}
+
+// Not run by themselves: each ends the process. The tests below run them. On the small thread there is one call, the one that is tested; what else
+// sees to its stack is made before, on a thread that has it.
+
 #[test]
-fn a_thread_with_too_little_stack_ends_at_its_guard_page() {
+#[ignore = "ends the process"]
+fn empty_on_too_little() {
+    on_too_little(|| assert_eq!(Bindings::<0, 0>::new().used_cells(), 0));
+}
+
+#[test]
+#[ignore = "ends the process"]
+fn check_on_too_little() {
+    on_too_little(|| assert_eq!(smallest().rule().check(), Ok(())));
+}
+
+#[test]
+#[ignore = "ends the process"]
+fn bring_in_on_too_little() {
+    let mut bindings = Bindings::<0, 0>::new();
+    on_too_little(move || assert_eq!(bindings.bring_in(0, smallest().rule()), Ok(())));
+}
+
+#[test]
+#[ignore = "ends the process"]
+fn evaluate_on_too_little() {
+    let bindings = Bindings::<0, 0>::new();
+    on_too_little(move || {
+        let counts = evaluate(smallest().rule(), &bindings, &mut Room::<0, 0>::new(), 1).counts();
+        assert_eq!(counts.steps, 1);
+    });
+}
+
+/// Runs one of the tests above as a process of its own.
+fn ends_at_its_guard_page(test: &str) {
     let program = std::env::current_exe().unwrap();
-    let words = ["--ignored", "--exact", "too_little_stack", "--nocapture"];
+    let words = ["--ignored", "--exact", test, "--nocapture"];
     let output = std::process::Command::new(program).args(words).output().unwrap();
     let said = String::from_utf8_lossy(&output.stderr);
-    assert!(!output.status.success());
-    assert!(said.contains("overflowed its stack"), "{said}");
     assert!(!String::from_utf8_lossy(&output.stdout).contains("it went on"));
+    assert!(said.contains("overflowed its stack"), "{said}");
+    assert!(!output.status.success());
+}
+
+#[test]
+fn without_its_stack_empty_ends_at_the_guard_page() {
+    ends_at_its_guard_page("empty_on_too_little");
+}
+
+#[test]
+fn without_its_stack_check_ends_at_the_guard_page() {
+    ends_at_its_guard_page("check_on_too_little");
+}
+
+#[test]
+fn without_its_stack_bring_in_ends_at_the_guard_page() {
+    ends_at_its_guard_page("bring_in_on_too_little");
+}
+
+#[test]
+fn without_its_stack_evaluate_ends_at_the_guard_page() {
+    ends_at_its_guard_page("evaluate_on_too_little");
 }
