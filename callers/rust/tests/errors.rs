@@ -47,7 +47,7 @@ fn errors_have_numbers_and_words() {
     assert_eq!(Error::of_number(257), None);
 }
 
-/// `("a" + "b") in [[1, 2], x]`: three bytes and four cells are charged, then x is missing.
+/// `("ab" + "c") in [[1, 2], x]`: three bytes and four cells are charged, then x is missing.
 #[test]
 fn an_error_clears_what_it_charged_and_nothing_else() {
     let rule = table(&binary("in", binary("+", string("ab"), string("c")), list(&[list(&[int(1), int(2)]), name(9)])));
