@@ -1,5 +1,5 @@
 #!/usr/bin/env python3
-"""How much stack the deepest rules take, held to what the header promises and to what the Rust crate sees to before a call.
+"""How much stack the calls take on the deepest tables, held to what the header promises and to what the Rust crate sees to before a call.
 
     callers/stack.py PROGRAM        PROGRAM is callers/c/stack.c, built
 """
@@ -10,23 +10,52 @@ import re
 import subprocess
 import sys
 from pathlib import Path
+from typing import Iterator, NamedTuple
 
 HERE = Path(__file__).resolve().parent
 sys.path[:0] = [str(HERE.parent / "tools"), str(HERE.parent / "tools" / "rules")]
 
-from assemble import assemble, comprehension, listing, name, null, plus, true
-from stack import SHAPES, nested
+from assemble import assemble, comprehension, listing, name, plus, true
+from constants import header_numbers, source
+from stack import RECORDS, SHAPES, VALUES, nested
 
-# more than any rule takes
+# more than any call takes
 AMPLE = 8 << 20
 # an element of the list that the append path adds: three records a level
 APPENDED = lambda inner: comprehension(1, 2, listing(true), listing(), true, plus(name(1), listing(inner)), name(1))
+# an evaluation goes down to the last record also where the value would nest deeper than values may
+RULES = {**{words: (RECORDS, around) for words, (_, around) in SHAPES.items()}, "append path": (22, APPENDED)}
+# the same number of KiB in all of them
+PROMISES = {
+    "include/ombravelik.h": r"A call takes up to ([0-9,]+) KiB of the calling thread's stack",
+    "callers/README.md": r"A call takes up to ([0-9,]+) KiB of stack",
+    "callers/rust/src/stack.rs": r"takes less than ([0-9,]+) KiB",
+    "docs/FORMAT.md": r"With ([0-9,]+) KiB of stack every call has room",
+}
+
+
+class Ran(NamedTuple):
+    """The bytes that a call touched of its stack, and of its answer which it is, its number and its steps."""
+
+    taken: int
+    which: int
+    number: int
+    steps: int
+
+
+class Case(NamedTuple):
+    """A call on a table, the number that it is refused with or otherwise 0, and the steps that it makes at least."""
+
+    words: str
+    call: str
+    table: bytes
+    refused: int
+    steps: int
 
 
 def reserved() -> int:
     """The bytes that the crate sees to."""
-    source = (HERE / "rust" / "src" / "stack.rs").read_text()
-    factors = re.search(r"pub const STACK_BYTES: usize = ([0-9_* ]+);", source)[1].split("*")
+    factors = re.search(r"pub const STACK_BYTES: usize = ([0-9_* ]+);", source("callers/rust/src/stack.rs"))[1].split("*")
     product = 1
     for factor in factors:
         product *= int(factor)
@@ -34,35 +63,62 @@ def reserved() -> int:
 
 
 def promised() -> int:
-    """The bytes that the header says a call takes at most."""
-    header = (HERE.parent / "include" / "ombravelik.h").read_text()
-    return int(re.search(r"A call takes up to ([0-9,]+) KiB of the calling thread's stack", header)[1].replace(",", "")) * 1024
+    """The bytes that a call takes at most, by the header and by everything else that says so."""
+    said = {path: re.findall(pattern, source(path)) for path, pattern in PROMISES.items()}
+    (kib, *others), *rest = said.values()
+    if others or any(numbers != [kib] for numbers in rest):
+        sys.exit(f"the stack that a call takes is said to be {said}")
+    return int(kib.replace(",", "")) * 1024
 
 
-def run(table: bytes, stack: int) -> tuple[int, int]:
-    """The bytes of a stack of that size that an evaluation touches, and its steps."""
-    ran = subprocess.run([sys.argv[1], str(stack)], input=table, capture_output=True)
+def rules() -> "Iterator[Case]":
+    """The deepest rules, checked and evaluated."""
+    for shape, (levels, around) in RULES.items():
+        words, table = f"{shape}, {levels} deep", assemble(nested(around, levels)).table
+        yield Case(words, "check", table, 0, 0)
+        yield Case(words, "evaluate", table, 0, levels)
+
+
+def literals(header: "dict[str, int]") -> "Iterator[Case]":
+    """Literals that nest as deep as a binding may, as a table may, and one record deeper, checked and brought in."""
+    unsound, too_deep = header["REFUSAL_UNSOUND_BINDING"], header["REFUSAL_RECORD_NESTING"]
+    for shape in ("list", "map"):
+        for levels, check, bring_in in ((VALUES + 1, 0, 0), (RECORDS, 0, unsound), (RECORDS + 1, too_deep, too_deep)):
+            words, table = f"{shape}, {levels} deep", assemble(nested(SHAPES[shape][1], levels)).table
+            yield Case(words, "check", table, check, 0)
+            yield Case(words, "bring_in", table, bring_in, 0)
+
+
+def run(program: str, case: Case, stack: int) -> Ran:
+    """A case on a stack of that size."""
+    ran = subprocess.run([program, case.call, str(stack)], input=case.table, capture_output=True)
     if ran.returncode != 0:
-        sys.exit(f"an evaluation on a stack of {stack} bytes ended with status {ran.returncode}")
-    taken, steps = map(int, ran.stdout.split())
-    return taken, steps
+        sys.exit(f"{case.call} of {case.words} on a stack of {stack} bytes ended with status {ran.returncode}")
+    return Ran(*map(int, ran.stdout.split()))
+
+
+def taken(program: str, case: Case, refused: int, most: int) -> int:
+    """The bytes that a case takes: the same with more stack than it needs and with the most that it may need."""
+    ran = run(program, case, AMPLE)
+    if (ran.number if ran.which == refused else 0) != case.refused or ran.steps < case.steps:
+        sys.exit(f"{case.call} of {case.words} did not go as deep as it is there to go: {ran}")
+    if ran.taken > most:
+        sys.exit(f"{case.call} of {case.words}: {ran.taken} bytes of stack, and the header says {most}")
+    if run(program, case, most) != ran:
+        sys.exit(f"{case.call} of {case.words}: something else on a stack of {most} bytes")
+    return ran.taken
 
 
 def main() -> None:
-    most, bytes_kept, bytes_promised = 0, reserved(), promised()
-    if bytes_promised > bytes_kept:
-        sys.exit(f"the header says {bytes_promised} bytes of stack, and the Rust crate sees to {bytes_kept}")
-    for words, (levels, shape) in {**SHAPES, "append path": (22, APPENDED)}.items():
-        table = assemble(nested(shape, levels)).table
-        taken, steps = run(table, AMPLE)
-        if steps < levels // 2:
-            sys.exit(f"{words}: only {steps} steps were made, so it did not nest")
-        if taken > bytes_promised:
-            sys.exit(f"{words}, {levels} deep: {taken} bytes of stack, and the header says {bytes_promised}")
-        if run(table, bytes_promised) != (taken, steps):
-            sys.exit(f"{words}, {levels} deep: something else on a stack of {bytes_promised} bytes")
-        most = max(most, taken)
-    print(f"stack: the deepest rules take {most} bytes, and run on a stack of the {bytes_promised} that the header says; the Rust crate sees to {bytes_kept}")
+    kept, most = reserved(), promised()
+    if most > kept:
+        sys.exit(f"the header says {most} bytes of stack, and the Rust crate sees to {kept}")
+    header = header_numbers(source("include/ombravelik.h"))
+    calls = {"check": 0, "bring_in": 0, "evaluate": 0}
+    for case in (*rules(), *literals(header)):
+        calls[case.call] = max(calls[case.call], taken(sys.argv[1], case, header["REFUSED"], most))
+    measured = ", ".join(f"{call} {many}" for call, many in calls.items())
+    print(f"stack: the deepest tables take {measured} bytes, and run on a stack of the {most} that the header says; the Rust crate sees to {kept}")
 
 
 if __name__ == "__main__":
