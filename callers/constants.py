@@ -15,6 +15,7 @@ from pathlib import Path
 
 ROOT = Path(__file__).resolve().parent.parent
 PREFIX = "OMBRAVELIK_"
+GUARD = "OMBRAVELIK_H"
 Numbers = dict  # names with their numbers
 
 
@@ -212,8 +213,11 @@ GROUPS = (answers, refusals, errors, limits_exhausted, kinds, spaces, most, stat
 
 
 def header_numbers(text: str) -> Numbers:
-    rows = re.findall(rf"^#define {PREFIX}(\w+)(.*)$", text, re.M)
-    return {name: int(value) for name, value in rows if name != "H"}
+    rows = re.findall(r"^[ \t]*#[ \t]*define[ \t]+(\w+)(.*)$", text, re.M)
+    other = [name for name, value in rows if name != GUARD and not (name.startswith(PREFIX) and value.strip().isdigit())]
+    if other:
+        sys.exit(f"the header defines {other}, which are no numbers of its own")
+    return {name.removeprefix(PREFIX): int(value) for name, value in rows if name != GUARD}
 
 
 def crate_numbers() -> Numbers:
@@ -252,39 +256,62 @@ def differences(header: Numbers, groups: "dict[str, list[Numbers]]", crate: Numb
 
 # ---------------------------------------------------------------- functions
 
-Functions = dict  # names with the names and types of their arguments
+Functions = dict  # names with what they return and the names and types of their arguments
 C_TYPES = {
     "const uint8_t *": "*const u8", "uint8_t *": "*mut u8", "const uint64_t *": "*const u64", "uint64_t *": "*mut u64",
-    "size_t ": "usize", "uint64_t ": "u64",
+    "size_t ": "usize", "uint64_t ": "u64", "uint8_t ": "u8",
 }
 SLICES = {"&[u8]": "*const u8", "&mut [u8]": "*mut u8", "&[u64]": "*const u64", "&mut [u64]": "*mut u64"}
 
 
+def declarations(text: str) -> "list[str]":
+    """What the header declares, each on one line: what is left without comments, lines for the preprocessor and `extern "C"`."""
+    text = re.sub(r"/\*.*?\*/", " ", text, flags=re.S)
+    text = re.sub(r"^[ \t]*#.*$", " ", text, flags=re.M)
+    inside = re.fullmatch(r'\s*extern "C" \{(.*)\}\s*', text, re.S)
+    if not inside:
+        sys.exit('the header has something before or behind what is in extern "C"')
+    *ended, rest = [re.sub(r"\s+", " ", declaration).strip() for declaration in inside[1].split(";")]
+    return ended + ([rest] if rest else [])
+
+
+def c_argument(text: str) -> "tuple[str, str]":
+    """Its name, and its type as Rust has it; a type that is not known as it stands there."""
+    parts = re.fullmatch(r"((?:const )?\w+ \*?)(\w+)", text)
+    return (parts[2], C_TYPES.get(parts[1], parts[1])) if parts else ("", text)
+
+
+def rust_arguments(given: str) -> "list[tuple[str, str]]":
+    return [tuple(argument.split(": ")) for argument in given.split(", ") if argument]
+
+
 def header_functions(text: str) -> Functions:
+    """Of whatever name and return type; anything else that is declared is a failure."""
     functions = {}
-    for name, given in re.findall(r"^uint8_t (ombravelik_\w+)\(([^)]*)\);$", text, re.M):
-        given = re.sub(r"\s+", " ", given).strip()
-        arguments = [re.fullmatch(r"((?:const )?\w+ \*?)(\w+)", argument) for argument in given.split(", ")]
-        functions[name] = [(argument[2], C_TYPES[argument[1]]) for argument in arguments]
+    for declaration in declarations(text):
+        parts = re.fullmatch(r"(\w[\w ]*? \*?)(\w+)\(([^()]*)\)", declaration)
+        if not parts:
+            sys.exit(f"the header declares something else than a function: {declaration}")
+        arguments = [c_argument(argument) for argument in parts[3].strip().split(", ")]
+        functions[parts[2]] = (C_TYPES.get(parts[1], parts[1]), arguments)
     return functions
 
 
 def crate_functions() -> Functions:
     text = re.sub(r"\s+", " ", source("callers/rust/src/raw.rs"))
-    declared_there = re.findall(r"pub fn (ombravelik_\w+)\( ?(.*?),? ?\) -> u8;", text)
-    return {name: [tuple(argument.split(": ")) for argument in given.split(", ")] for name, given in declared_there}
+    rows = re.findall(r"pub fn (\w+)\( ?([^()]*?),? ?\)(?: -> ([^;{]+))?;", text)
+    return {name: (returned, rust_arguments(given)) for name, given, returned in rows}
 
 
 def library_functions() -> Functions:
     """The exported functions with their slices as a pointer and a length; lengths have no name there."""
     text = re.sub(r"\s+", " ", source("crates/board/src/lib.rt"))
     functions = {}
-    for name, given in re.findall(r'#\[no_mangle\] pub extern "C" fn (\w+)\( ?(.*?),? ?\) -> u8', text):
+    for name, given, returned in re.findall(r'pub extern "C" fn (\w+)\( ?([^()]*?),? ?\)(?: -> (\w+))?', text):
         arguments = []
-        for argument in given.split(", "):
-            called, kind = argument.split(": ")
+        for called, kind in rust_arguments(given):
             arguments += [(called, SLICES[kind]), ("", "usize")] if kind in SLICES else [(called, kind)]
-        functions[name] = arguments
+        functions[name] = (returned, arguments)
     return functions
 
 
@@ -292,6 +319,17 @@ def without_lengths(arguments: "list[tuple[str, str]]") -> "list[tuple[str, str]
     """The arguments, those behind a pointer without a name."""
     behind = [False] + [kind.startswith("*") for _, kind in arguments]
     return [("" if length else called, kind) for length, (called, kind) in zip(behind, arguments)]
+
+
+def differing(text: str, crate: Functions, library: Functions) -> "list[str]":
+    """What the Rust crate or the library has otherwise than the header."""
+    header = header_functions(text)
+    lengthless = {name: (returned, without_lengths(arguments)) for name, (returned, arguments) in header.items()}
+    said = []
+    for who, there, here in (("the Rust crate", crate, header), ("the library", library, lengthless)):
+        other = sorted(name for name in set(there) | set(here) if there.get(name) != here.get(name))
+        said += [f"{name} is {there.get(name, 'missing')} in {who}, and {here.get(name, 'missing')} in the header" for name in other]
+    return said
 
 
 # ---------------------------------------------------------------- the test
@@ -307,21 +345,27 @@ def tried(header: Numbers, differ) -> None:
             sys.exit(f"a wrong header was not found: {set(numbers.items()) ^ set(header.items())}")
 
 
+def tried_functions(text: str, differ) -> None:
+    """A function of another return type added, one that returns something else, one with another argument: found each time."""
+    first = "uint8_t ombravelik_check("
+    added = f"int ombravelik_extra(const uint8_t *x);\n{first}"
+    for other in (added, "int ombravelik_check(", "uint8_t *ombravelik_check(", f"{first}int flags, "):
+        if not differ(text.replace(first, other)):
+            sys.exit(f"a wrong header was not found: {other}")
+
+
 def main() -> None:
     text = source("include/ombravelik.h")
     header = header_numbers(text)
     groups = {group.__name__: group() for group in GROUPS}
     crate, cases = crate_numbers(), crate_cases()
-    said = differences(header, groups, crate, cases)
-    functions = header_functions(text)
-    if functions != crate_functions():
-        said.append("the Rust crate declares other functions than the header")
-    if {name: without_lengths(arguments) for name, arguments in functions.items()} != library_functions():
-        said.append("the library exports other functions than the header declares")
+    in_crate, exported = crate_functions(), library_functions()
+    said = differences(header, groups, crate, cases) + differing(text, in_crate, exported)
     if said:
         sys.exit("\n".join(said))
     tried(header, lambda numbers: differences(numbers, groups, crate, cases))
-    print(f"header: {len(header)} constants and {len(functions)} functions are those of the library's sources and of the Rust crate")
+    tried_functions(text, lambda other: differing(other, in_crate, exported))
+    print(f"header: {len(header)} constants and {len(exported)} functions are those of the library's sources and of the Rust crate")
 
 
 if __name__ == "__main__":

@@ -6,8 +6,8 @@
  * reads and writes only what is lent to that call and the stack. Any number of threads may call, each with memory of its own for what is written.
  *
  * Slices. A slice is a pointer and then a length, in elements and not in bytes. What a C caller must see to, as of every pointer: so many
- * elements are there, aligned for their type, and what is lent for writing overlaps with nothing else that is lent to the same call. Of a
- * slice of length 0 the pointer is not used, and may be null. What is not `const` below is lent for writing.
+ * elements are there, aligned for their type, and what is lent for writing overlaps with nothing else that is lent to the same call. Of an
+ * empty slice the pointer is not used, and may be null. What is not `const` below is lent for writing.
  *
  * Cells and values. A value is two words of 64 bits, a head and a payload; a cell is those two words in a slice, so that a room for n cells
  * has 2n words. What they say is read out by `ombravelik_read` and the functions behind it, never by the caller.
@@ -43,8 +43,9 @@ extern "C" {
 /* The slice for an answer, a shape or a part is too short, or a state that is to be emptied has not its number of words. Nothing was changed. */
 #define OMBRAVELIK_NO_ROOM 255
 
-/* ---- An answer: 8 words, written by `check`, `bring_in` and `evaluate` unless they return OMBRAVELIK_NO_ROOM. What does not apply is 0. ---- */
+/* ---- An answer: OMBRAVELIK_ANSWER_WORDS words, written by `check`, `bring_in` and `evaluate` unless they return OMBRAVELIK_NO_ROOM. ---- */
 
+/* What does not apply is 0. */
 #define OMBRAVELIK_ANSWER_WORDS 8
 /* Which answer it is, as it is returned. */
 #define OMBRAVELIK_ANSWER_WHICH 0
@@ -56,7 +57,7 @@ extern "C" {
 #define OMBRAVELIK_ANSWER_STEPS 3
 #define OMBRAVELIK_ANSWER_CELLS 4
 #define OMBRAVELIK_ANSWER_BYTES 5
-/* The two words of a value. Where there is none, those of kind OMBRAVELIK_NOTHING. */
+/* The words of a value. Where there is none, those of kind OMBRAVELIK_NOTHING. */
 #define OMBRAVELIK_ANSWER_HEAD 6
 #define OMBRAVELIK_ANSWER_PAYLOAD 7
 
@@ -113,7 +114,7 @@ extern "C" {
 #define OMBRAVELIK_MAP 13
 #define OMBRAVELIK_OPTIONAL_NONE 14
 #define OMBRAVELIK_OPTIONAL_OF 15
-/* No value: there is no such part, the name is not bound, or the two words are no value. */
+/* No value: there is no such part, the name is not bound, or the words are no value. */
 #define OMBRAVELIK_NOTHING 16
 
 /* ---- Where a text lies. ---- */
@@ -127,25 +128,32 @@ extern "C" {
 
 /* ---- Limits. ---- */
 
-/* A longer table is refused (1). The literal text beside it may have any length; a String or Bytes of it has at most 65,535 bytes. */
+/*
+ * A longer table is refused (OMBRAVELIK_REFUSAL_TABLE_LENGTH). The literal text beside it may have any length; a String or Bytes of it has at most
+ * 65,535 bytes.
+ */
 #define OMBRAVELIK_MOST_TABLE_BYTES 16384
 /* A higher step limit counts as this one. */
 #define OMBRAVELIK_MOST_STEPS 1000000
 /* Of each room, the bindings' and the evaluation's: what is lent beyond is not used. */
 #define OMBRAVELIK_MOST_CELLS 4096
 #define OMBRAVELIK_MOST_TEXT_BYTES 16384
-/* Names are the numbers below this one; another one is refused (5). */
+/* Names are the numbers below this one; another one is refused (OMBRAVELIK_REFUSAL_WRONG_FIELD). */
 #define OMBRAVELIK_NAMES 128
-/* A table that nests deeper is refused (4). */
+/* A table that nests deeper is refused (OMBRAVELIK_REFUSAL_RECORD_NESTING). */
 #define OMBRAVELIK_MOST_RECORD_NESTING 64
-/* A binding that nests deeper is refused (8); an evaluation that would build such a value is exhausted (OMBRAVELIK_LIMIT_NESTING). */
+/*
+ * A binding that nests deeper is refused (OMBRAVELIK_REFUSAL_UNSOUND_BINDING); an evaluation that would build such a value is exhausted
+ * (OMBRAVELIK_LIMIT_NESTING).
+ */
 #define OMBRAVELIK_MOST_VALUE_NESTING 32
 
-/* ---- A state: 259 words that say what a binding room holds. ---- */
+/* ---- A state: OMBRAVELIK_STATE_WORDS words that say what a binding room holds. ---- */
 
 /*
- * Words 2n and 2n + 1 are the value of name n, for the names 0 to 127: a caller reads a binding out by these two words. Then come the used cells,
- * the used bytes, and the number of names, by which a state is known. A state belongs to the cells and the text that its bindings were brought into.
+ * Words 2n and 2n + 1 are the value of name n, for the names below OMBRAVELIK_NAMES: a caller reads a binding out by these words. Then come the used
+ * cells, the used bytes, and the number of names, by which a state is known. A state belongs to the cells and the text that its bindings were brought
+ * into.
  * It is made by `ombravelik_empty` and changed by `ombravelik_bring_in`. It may be copied, stored and lent again with its cells and text:
  * every call of `ombravelik_bring_in` that has room for its answer, and every such call of `ombravelik_evaluate` with an accepted table, judges what
  * is used of it, and refuses a room that is not sound (docs/FORMAT.md, "Binding rooms").
@@ -155,7 +163,7 @@ extern "C" {
 #define OMBRAVELIK_STATE_BYTES 257
 #define OMBRAVELIK_STATE_MARK 258
 
-/* ---- A shape: 6 words that say what a value is by itself, written by `ombravelik_read`. ---- */
+/* ---- A shape: OMBRAVELIK_SHAPE_WORDS words that say what a value is by itself, written by `ombravelik_read`. ---- */
 
 #define OMBRAVELIK_SHAPE_WORDS 6
 /* The kind, as it is returned. */
@@ -169,7 +177,7 @@ extern "C" {
 /* The elements of a List, the entries of a Map; 1 of a present Optional; of anything else 0. */
 #define OMBRAVELIK_SHAPE_COUNT 5
 
-/* ---- A part: the 2 words of a value, written by `element`, `key`, `value` and `present`. ---- */
+/* ---- A part: the OMBRAVELIK_PART_WORDS words of a value, written by `element`, `key`, `value` and `present`. ---- */
 
 #define OMBRAVELIK_PART_WORDS 2
 #define OMBRAVELIK_PART_HEAD 0
@@ -177,8 +185,9 @@ extern "C" {
 
 /*
  * Whether a table is accepted, with the literal text beside it.
- * Returns OMBRAVELIK_DONE or OMBRAVELIK_REFUSED (1 to 7, with a place), as it stands in the answer, or OMBRAVELIK_NO_ROOM.
- * Writes the answer's 8 words. Words behind them are left as they are.
+ * Returns OMBRAVELIK_DONE or OMBRAVELIK_REFUSED, as it stands in the answer, or OMBRAVELIK_NO_ROOM.
+ * The refusals are those from OMBRAVELIK_REFUSAL_TABLE_LENGTH to OMBRAVELIK_REFUSAL_BYTES_AFTER_ROOT, each with a place.
+ * Writes OMBRAVELIK_ANSWER_WORDS words of the answer. Words behind them are left as they are.
  */
 uint8_t ombravelik_check(
     const uint8_t *table, size_t table_bytes,
@@ -194,12 +203,14 @@ uint8_t ombravelik_empty(
     uint64_t *state, size_t state_words);
 
 /*
- * Brings the value that a table of literals spells into a binding room, under a name from 0 to 127 that has none.
- * Returns OMBRAVELIK_DONE or OMBRAVELIK_REFUSED (1 to 11, with a place), as it stands in the answer, or OMBRAVELIK_NO_ROOM.
- * The refusals in their order: the room and its state (8), the name (5), whether it is bound (11), the table (1 to 7), its kinds (9), its keys and
- * nesting (8), the space (10).
- * Writes, when done, the state, and the value's cells and text behind those that were used; a refusal leaves all three as they are.
- * Writes the answer's 8 words. Words behind them are left as they are.
+ * Brings the value that a table of literals spells into a binding room, under a name below OMBRAVELIK_NAMES that has none.
+ * Returns OMBRAVELIK_DONE or OMBRAVELIK_REFUSED, as it stands in the answer, or OMBRAVELIK_NO_ROOM.
+ * The refusals, each with a place, in their order: the room and its state (OMBRAVELIK_REFUSAL_UNSOUND_BINDING), the name
+ * (OMBRAVELIK_REFUSAL_WRONG_FIELD), whether it is bound (OMBRAVELIK_REFUSAL_NAME_BOUND), the table (what `check` refuses it for), its kinds
+ * (OMBRAVELIK_REFUSAL_NOT_A_LITERAL), its keys and nesting (OMBRAVELIK_REFUSAL_UNSOUND_BINDING), the space
+ * (OMBRAVELIK_REFUSAL_BINDING_ROOM_FULL).
+ * Writes, when done, the state, and the value's cells and text behind those that were used; a refusal leaves them as they are.
+ * Writes OMBRAVELIK_ANSWER_WORDS words of the answer. Words behind them are left as they are.
  */
 uint8_t ombravelik_bring_in(
     uint64_t *state, size_t state_words,
@@ -213,11 +224,11 @@ uint8_t ombravelik_bring_in(
 /*
  * Evaluates a rule over a binding room, in an evaluation room of cells and text, with so many steps at most.
  * Returns OMBRAVELIK_VALUE, OMBRAVELIK_ERROR, OMBRAVELIK_EXHAUSTED or OMBRAVELIK_REFUSED, as it stands in the answer, or OMBRAVELIK_NO_ROOM.
- * Refused is what the table is refused for (1 to 7, with a place), and then an unsound binding room or words that are no state (8, with the first bad
- * cell, 0 if none is bad by itself).
+ * Refused is what `check` refuses the table for, and then an unsound binding room or words that are no state
+ * (OMBRAVELIK_REFUSAL_UNSOUND_BINDING, with the first bad cell, 0 if none is bad by itself).
  * Leaves in the cells and text of the evaluation: after a value what was built, below the counts; after an error or exhaustion zeros below the counts;
  * above the counts, and after a refusal everywhere, what was there.
- * Writes the answer's 8 words. Words behind them are left as they are. The state and the binding room are only read.
+ * Writes OMBRAVELIK_ANSWER_WORDS words of the answer. Words behind them are left as they are. The state and the binding room are only read.
  */
 uint8_t ombravelik_evaluate(
     const uint8_t *table, size_t table_bytes,
@@ -231,9 +242,9 @@ uint8_t ombravelik_evaluate(
     uint64_t *answer, size_t answer_words);
 
 /*
- * What a value is by itself, from its two words: those of an answer, of a part, or of a name in a state.
+ * What a value is by itself, from its words: those of an answer, of a part, or of a name in a state.
  * Returns its kind, or OMBRAVELIK_NO_ROOM.
- * Writes the shape's 6 words. Words behind them are left as they are.
+ * Writes OMBRAVELIK_SHAPE_WORDS words of the shape. Words behind them are left as they are.
  */
 uint8_t ombravelik_read(
     uint64_t head,
@@ -241,10 +252,10 @@ uint8_t ombravelik_read(
     uint64_t *shape, size_t shape_words);
 
 /*
- * Element `index` of a List; the key, and the value, of entry `index` of a Map; what a present Optional holds. The value's two words go with the cells
+ * Element `index` of a List; the key, and the value, of entry `index` of a Map; what a present Optional holds. The value's words go with the cells
  * that it was made over: those of the bindings and of the evaluation (for a value of a state the latter may be empty).
  * Each returns the kind of the part, OMBRAVELIK_NOTHING where there is none (behind the last, or of a value of another kind), or OMBRAVELIK_NO_ROOM.
- * Each writes the part's two words. Words behind them are left as they are.
+ * Each writes OMBRAVELIK_PART_WORDS words of the part. Words behind them are left as they are.
  * A part nests less deep than what it is a part of, in the rooms that an evaluation left: so reading ends.
  */
 uint8_t ombravelik_element(
