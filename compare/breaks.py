@@ -1,8 +1,8 @@
 #!/usr/bin/env python3
-"""Wrong evaluators on purpose, the twenty-two edits of breaks.txt: the comparison with the crate must find each.
+"""Wrong evaluators on purpose, the twenty-three edits of breaks.txt: the comparison with the crate must find each.
 
     breaks.py ORACLE                    the edits of the evaluator's code, each in a copy of this repository, compiled with no proof (unproved)
-    breaks.py ORACLE --model            the same edits of the model in tools/rules
+    breaks.py ORACLE --model            the same edits of the model in tools/rules, but for one: the model is lent no memory
     breaks.py list                      what there is
     breaks.py apply NUMBER FOLDER       makes one edit of the code in the repository at FOLDER
 
@@ -29,16 +29,15 @@ RULES = HERE.parent / "tools" / "rules"
 class Break(NamedTuple):
     says: str
     code: "tuple[str, str]"  # in crates/*/src
-    model: "tuple[str, str]"  # in tools/rules/model
+    model: "tuple[str, str] | None"  # in tools/rules/model
 
 
 def breaks() -> "list[Break]":
     """What breaks.txt has."""
     found = []
     for block in re.split(r"^== ", (HERE / "breaks.txt").read_text(), flags=re.MULTILINE)[1:]:
-        says, *texts = re.split(r"\n-- (?:code|becomes|model)\n", block)
-        code, new_code, model, new_model = texts
-        found.append(Break(says, (code, new_code), (model, new_model.rstrip("\n"))))
+        says, *texts = re.split(r"\n-- (?:code|becomes|model)\n", block.rstrip("\n"))
+        found.append(Break(says, (texts[0], texts[1]), (texts[2], texts[3]) if texts[2:] else None))
     return found
 
 
@@ -104,7 +103,8 @@ def main() -> None:
     parser.add_argument("--from", dest="source", default=str(HERE.parent))
     parser.add_argument("--through", default="{}")
     arguments = parser.parse_args()
-    numbers = range(len(BREAKS)) if arguments.only is None else [arguments.only - 1]
+    wanted = range(len(BREAKS)) if arguments.only is None else [arguments.only - 1]
+    numbers = [number for number in wanted if BREAKS[number].model or not arguments.model]
     missed = [number for number in numbers if not tried(number, arguments)]
     print(f"{len(numbers)} tried, {len(missed)} not found")
     sys.exit(bool(missed))
