@@ -83,13 +83,14 @@ class Parser:
     # ------------------------------------------------------------ members and calls
 
     def member(self, node: Node) -> Node:
-        while mark := self.take(".", ".?", "[", "[?"):
-            if mark in ("[", "[?"):
-                node = (make.index if mark == "[" else make.optional_index)(node, self.expression())
+        while mark := self.take(".", "["):
+            optional = self.take("?")
+            if mark == "[":
+                node = (make.optional_index if optional else make.index)(node, self.expression())
                 self.want("]")
                 continue
             at, field = self.token.at, self.selector()
-            if mark == ".?":
+            if optional:
                 node = make.optional_select(node, make.string(field))
             elif self.take("("):
                 node = self.member_call(node, field, at)
@@ -103,19 +104,13 @@ class Parser:
             return token.value
         raise CelError("a field's name is wanted here", token.at)
 
-    def arguments(self, closing: str = ")") -> "list[Node]":
-        """Expressions up to the closing mark; a comma may stand before it in a list."""
+    def arguments(self) -> "list[Node]":
         given: list[Node] = []
-        while not self.take(closing):
+        while not self.take(")"):
             if given:
                 self.want(",")
-                if closing == "]" and self.take(closing):
-                    break
-            given.append(self.element() if closing == "]" else self.expression())
+            given.append(self.expression())
         return given
-
-    def element(self) -> Node:
-        return make.mark(self.expression()) if self.take("?") else self.expression()
 
     def member_call(self, target: Node, called: str, at: int) -> Node:
         if called in MACROS:
@@ -185,29 +180,33 @@ class Parser:
             node = self.expression()
             self.want(")")
             return node
-        if token.kind == "mark" and token.value in ("[", "[?"):
-            if token.value == "[?":
-                self.left.append(Token("mark", "?", token.at + 1))
-            return make.listing(*self.arguments("]"))
+        if token.kind == "mark" and token.value == "[":
+            return make.listing(*self.parts("]", self.element))
         if token.kind == "mark" and token.value == "{":
-            return self.map_literal()
+            return make.mapping(*self.parts("}", self.entry))
         if token.kind == "mark" and token.value == ".":
             raise CelError("names with a leading dot are not in the domain", token.at)
         raise CelError("an expression is wanted here", token.at)
 
-    def map_literal(self) -> Node:
-        entries: list[tuple[Node, Node]] = []
-        while not self.take("}"):
-            if entries:
-                self.want(",")
-                if self.take("}"):
-                    break
-            marked = self.take("?")
-            key = self.expression()
-            self.want(":")
-            value = self.expression()
-            entries.append((key, make.mark(value) if marked else value))
-        return make.mapping(*entries)
+    def parts(self, closing: str, part) -> list:
+        """The parts of a list or a map up to the closing mark; a comma may stand before that, also where there is no part."""
+        given = []
+        if not self.at_mark(",", closing):
+            given.append(part())
+        while self.take(",") and given and not self.at_mark(closing):
+            given.append(part())
+        self.want(closing)
+        return given
+
+    def element(self) -> Node:
+        return make.mark(self.expression()) if self.take("?") else self.expression()
+
+    def entry(self) -> "tuple[Node, Node]":
+        marked = self.take("?")
+        key = self.expression()
+        self.want(":")
+        value = self.expression()
+        return key, make.mark(value) if marked else value
 
     def word(self, token: Token) -> Node:
         constants = {"true": make.true, "false": make.false, "null": make.null}
