@@ -10,6 +10,8 @@ import platform
 import sys
 from pathlib import Path
 
+INSTRUCTIONS, NANOSECONDS = "instructions", "nanoseconds"
+LOST = 1 / 20  # the part of the two checks below which an evaluation is lost in the difference of times
 GROUPS = {"items": "Items", "entries": "Entries and elements", "text": "Bytes of text", "nesting": "Levels"}
 
 
@@ -46,9 +48,11 @@ def counts(folder):
     return gathered((case, what, (total - before) / (runs - few)) for (_, _, few, before), (case, what, runs, total) in pairs)
 
 
-def parts(run):
-    """`evaluate` checks the table and the binding room, then evaluates: what is left of it is the evaluation."""
-    return run["check"], run["room"], run["evaluate"] - run["check"] - run["room"], run["evaluate"], run["crate"]
+def evaluation_of(run, unit):
+    """`evaluate` checks the table and the binding room, then evaluates: what is left of it is the evaluation. None where that is lost; counts are exact."""
+    checks = run["check"] + run["room"]
+    left = run["evaluate"] - checks
+    return None if unit == NANOSECONDS and left < LOST * checks else left
 
 
 def table(heads, rows):
@@ -59,7 +63,11 @@ def table(heads, rows):
 
 
 def figure(number):
-    return f"{number:,.0f}"
+    return "" if number is None else f"{number:,.0f}"
+
+
+def ratio(crate, ours):
+    return "" if ours is None else f"{crate / ours:.2f}"
 
 
 def flown(measured, steps, unit):
@@ -67,8 +75,9 @@ def flown(measured, steps, unit):
     rows = []
     for case, run in measured.items():
         if case[0] == "flown":
-            check, room, evaluation, whole, crate = parts(run)
-            rows.append((case[1], steps[case], *map(figure, (check, room, evaluation, crate)), f"{crate / evaluation:.2f}", f"{crate / whole:.2f}"))
+            evaluation, crate = evaluation_of(run, unit), run["crate"]
+            row = map(figure, (run["check"], run["room"], evaluation, crate))
+            rows.append((case[1], steps[case], *row, ratio(crate, evaluation), ratio(crate, run["evaluate"])))
     table(("Rule", "Steps", "Table check", "Binding check", "Evaluation", "Crate", "Crate / evaluation", "Crate / whole call"), rows)
 
 
@@ -82,11 +91,12 @@ def growth(group, every):
     for case in [case for case in every[0][1] if case[0] == group]:
         row = [case[1], f"{int(case[2]):,}"]
         for unit, measured in every:
-            _, room, evaluation, _, crate = parts(measured[case])
+            run = measured[case]
+            evaluation, crate = evaluation_of(run, unit), run["crate"]
             size, last = before.get((unit, case[1]), (0, None))
-            more = "" if last is None else f"{(evaluation - last) / (int(case[2]) - size):,.1f}"
+            more = "" if None in (last, evaluation) else f"{(evaluation - last) / (int(case[2]) - size):,.1f}"
             before[unit, case[1]] = int(case[2]), evaluation
-            row += [figure(room), figure(evaluation), more, figure(crate), f"{crate / evaluation:.2f}"]
+            row += [figure(run["room"]), figure(evaluation), more, figure(crate), ratio(crate, evaluation)]
         rows.append((case[1], row))
     order = list(dict.fromkeys(label for label, _ in rows))
     table(heads, [row for _, row in sorted(rows, key=lambda each: order.index(each[0]))])
@@ -105,7 +115,7 @@ def main(folder):
     folder = Path(folder)
     time, count = times(folder), counts(folder)
     steps = {case: figure(run["steps"]) for case, run in time.items()}
-    every = [(unit, measured) for unit, measured in (("instructions", count), ("nanoseconds", time)) if measured]
+    every = [(unit, measured) for unit, measured in ((INSTRUCTIONS, count), (NANOSECONDS, time)) if measured]
     machine()
     for unit, measured in every:
         flown(measured, steps, unit)
