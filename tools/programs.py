@@ -19,7 +19,7 @@ from typing import Iterator, NamedTuple
 ROOT = Path(__file__).resolve().parent.parent
 sys.path.insert(0, str(ROOT / "tools" / "rules"))
 
-from assemble import Node, assemble, comprehension, equals, integer, listing, name, null, plus, size, string
+from assemble import Node, assemble, comprehension, equals, integer, listing, name, negation, null, plus, size, string
 from assemble import true as yes
 from model import CELLS_MAX, TABLE_MAX, TEXT_MAX, evaluate
 from replay import LINE, outcome_line
@@ -87,6 +87,12 @@ def about_a_million(more: int) -> Node:
     return size(listing(*pairs, *([null] * more)))
 
 
+def within(around, root: Node, levels: int) -> Node:
+    for _ in range(levels - 1):
+        root = around(root)
+    return root
+
+
 def limits() -> Iterator[Case]:
     nulls = ", ".join(["Null"] * CELLS_MAX)
     half = "a" * (TEXT_MAX // 2)
@@ -97,6 +103,10 @@ def limits() -> Iterator[Case]:
     yield rule("a byte too many", plus(string(half), string(half + "a")), "Exhausted Text steps 3 cells 0 bytes 0")
     for more in (285, 286, 287):
         yield rule(f"{999_714 + more} steps", about_a_million(more))
+    for levels in (32, 33):
+        yield rule(f"a list {levels} deep", within(listing, listing(), levels))
+    for levels in (64, 65):
+        yield rule(f"records {levels} deep", within(negation, yes, levels))
     yield rule("a value that is cut", doubled(20))
 
 
