@@ -1,20 +1,22 @@
--- The operands of the record at a place, by its form; a literal or a name by its kind byte. Assumes nothing.
-use Prim.Native.Nat.{ℕ, _+_, _<_}
+-- The operands of the record at a place, by its form and by its kind; a literal or a name by its kind byte. Assumes nothing.
+use Prim.Native.Nat.{ℕ, _+_, _≤_, _<_}
 use mathlib.Core.Path.{_≡_, refl, sym, _∙_, ap}
 use mathlib.Core.Bool.{Bool, true, false, cond}
 use mathlib.Core.List.{List, [], _∷_}
 use mathlib.Core.Option.{Option, none, some}
 use native.Mathlib.Omega.{arith}
 use lib.Dec.{ltb}
-use lib.ListN.{getD}
+use lib.ListN.{length, getD}
 use types.Run.{OneOf, miss}
 use denote.Enum.Declared.{tagOf}
 use borrow.Author.Tests.{ltb-true, ltb-false}
 use Rattle.meaning.specs.Expr.{Expr, literal, name, unary, binary, conditional, select, listOf, mapOf, comprehension, call, noneCall, orValue}
 use Rattle.meaning.specs.Kinds.{unaryKind, conditionalKind, selectKind, functionKind, Called, toOne, toNone, toTwo, numbered, functions}
 use Rattle.layout.specs.Layout.{headBytes, after}
-use Rattle.accepted.specs.Records.{exprOf, Sound, callOf}
-use Rattle.outcomes.specs.declared.operators.Binary.{Binary}
+use Rattle.heads.specs.Shapes.{calledCount}
+use Rattle.faults.specs.declared.Marks.the-variants.{Nowhere}
+use Rattle.accepted.specs.Records.{exprOf, Sound, Row, callOf}
+use Rattle.accepted.proofs.Opened.{opened}
 use Rattle.outcomes.specs.declared.operators.Function.{Function}
 use Rattle.following.specs.declared.Fixed.{Fixed}
 use Rattle.following.specs.declared.Fixed.the-variants as Fixed
@@ -23,10 +25,9 @@ use Rattle.forms.specs.declared.Shape.the-variants as Shape
 use Rattle.forms.specs.Records.{shapeOf}
 use Rattle.forms.proofs.Shape.{the-type}
 use Rattle.leaves.specs.Leaf.{leafKinds, slotIn}
-use Rattle.leaves.proofs.KindLaws.{here-is}
+use Rattle.leaves.proofs.Numbered.{by-number}
+use Rattle.leaves.proofs.KindLaws.{sound-stands, kindIn, kind-here, here-is}
 use Rattle.forms.proofs.ShapeLaws.{shape-byte, leaf-shape-here, leaf-byte}
-use Rattle.forms.proofs.Operands.{headOf, fixed-at}
-use Rattle.forms.proofs.NextLaws.{operand-is}
 use Rattle.paths.proofs.Sights.{binary-at}
 use Rattle.sides.specs.declared.Sides.{Sides}
 use Rattle.sides.specs.declared.Sides.the-variants as Sides
@@ -34,7 +35,7 @@ use Rattle.sides.specs.declared.Pair.{Pair}
 use Rattle.sides.specs.declared.Pair.the-variants as Pair
 use Rattle.sides.specs.declared.Quad.{Quad}
 use Rattle.sides.specs.declared.Quad.the-variants as Quad
-use Rattle.sides.specs.Sides.{Operands, neither, one, two, operandsOf, sidesSeen, SoundSides, leafShape, isLeaf, flatSlots, flatOf, smallOf, beside, nearSlots, PairBelow, QuadBelow}
+use Rattle.sides.specs.Sides.{Operands, neither, one, two, operandsOf, sidesSeen, SoundSides, calledSides, callSides, leafShape, isLeaf, flatSlots, flatOf, smallOf, beside, nearSlots, PairBelow, QuadBelow}
 
 -- ---- by the form
 
@@ -93,34 +94,71 @@ module _ (t x : List ℕ) (p : ℕ) where
         let i = called-is (shape-byte t x p s (Shape.Operands Fixed.OrValue) e (omega arith)) in
         ap operandsOf i ∙ call-two (numbered functions (getD t (p + 3) 0)) (rw i at e)
 
-    -- ---- as the code finds them
+-- ---- by the kind, as the code finds them
 
-    module _ (f : Fixed) (e : shapeOf (exprOf t x p) ≡ Shape.Operands f) (g : Fixed) (h : f ≡ g) where
-      abbrev pub SidesHere : Sides → Type 0
-      SidesHere r = (sidesSeen t x r ≡ operandsOf (exprOf t x p)) × SoundSides t x r
+abbrev NoCall : ℕ → Option Called → Type 0
+NoCall n c = (q : ℕ) → (n ≡ 1 → ⊥) → (n ≡ 2 → ⊥) → (n ≡ 4 → ⊥) → (n ≡ 5 → ⊥) → Sides.Neither ≡ calledSides c q
 
-      as-form : shapeOf (exprOf t x p) ≡ Shape.Operands g
-      as-form = e ∙ ap (λ (k : Fixed). Shape.Operands k) h
+-- a number that is no function's of one argument
+pub no-call : (n : ℕ) → NoCall n (numbered functions n)
+unfolding functions
+no-call =
+    by-number NoCall functions (λ n q a b c d. refl) (
+      λ q a b c d. absurd (a refl),
+      (λ q a b c d. absurd (b refl), (λ q a b c d. refl, (λ q a b c d. absurd (c refl), (λ q a b c d. absurd (d refl), (λ q a b c d. refl, tt))))),
+    )
 
-      pub neither-here : sidesWith t x p g ≡ neither → SidesHere Sides.Neither
-      neither-here k = (sym (operands-at g as-form ∙ k), tt)
+no-sides : (e : Expr) → (kindIn e ≡ 8 → ⊥) → (kindIn e ≡ 9 → ⊥) → (kindIn e ≡ 11 → ⊥) → (kindIn e ≡ 16 → ⊥) → neither ≡ operandsOf e
+no-sides (literal p x) a b c d = refl
+no-sides (name p n) a b c d = refl
+no-sides (unary p o e) a b c d = absurd (a refl)
+no-sides (binary p o e f) a b c d = absurd (b refl)
+no-sides (conditional p g e f) a b c d = refl
+no-sides (select p y f e) a b c d = absurd (c refl)
+no-sides (listOf p es) a b c d = refl
+no-sides (mapOf p es) a b c d = refl
+no-sides (comprehension p m i r s g y e) a b c d = refl
+no-sides (call p f e) a b c d = absurd (d refl)
+no-sides (noneCall p) a b c d = absurd (d refl)
+no-sides (orValue p e f) a b c d = absurd (d refl)
 
-      module _ (q : ℕ) (i : q ≡ p + headBytes (getD t p 0)) where
-        place : q ≡ p + headOf g
-        place = operand-is t x p s f e q i g h
+module _ (t x : List ℕ) (p : ℕ) where
+  abbrev pub SidesIn : Expr → Sides → Type 0
+  SidesIn e r = (sidesSeen t x r ≡ operandsOf e) × SoundSides t x r
 
-        pub one-here : sidesWith t x p g ≡ one (exprOf t x (p + headOf g)) → SidesHere (Sides.One q)
-        one-here k =
-            (ap (λ (n : ℕ). one (exprOf t x n)) place ∙ sym (operands-at g as-form ∙ k), rw place (fixed-at t x p s g as-form .operand))
+  called-sides : (c : Option Called) → Row t x Nowhere (after t p) (calledCount c) (p + 4) → SidesIn (callOf t x p c) (calledSides c (p + 4))
+  called-sides none r = (refl, tt)
+  called-sides (some (toOne f)) r = (refl, r .0)
+  called-sides (some toNone) r = (refl, tt)
+  called-sides (some toTwo) r = (refl, tt)
 
-    pub two-here : (f : Fixed) → shapeOf (exprOf t x p) ≡ Shape.Operands f → (o : Binary) → f ≡ Fixed.Binary o → (q : ℕ) → q ≡ p + headBytes (getD t p 0) → (n : ℕ) → n ≡ after t q →
-        (sidesSeen t x (Sides.Two q n) ≡ operandsOf (exprOf t x p)) × SoundSides t x (Sides.Two q n)
-    two-here f e o h q i n j =
-        let g = e ∙ ap (λ (k : Fixed). Shape.Operands k) h in
-        let k = binary-at t x p s (shape-byte t x p s (Shape.Operands (Fixed.Binary o)) g (omega arith)) in
-        let a = operand-is t x p s f e q i (Fixed.Binary o) h in
-        let b : n ≡ after t (p + 4) = j ∙ ap (λ (m : ℕ). after t m) a in
-        rw (a, b) (sym (operands-at (Fixed.Binary o) g), (k .one, k .two))
+  module _ (s : Sound t x p) where
+    pub neither-here : (getD t p 0 ≡ 8 → ⊥) → (getD t p 0 ≡ 9 → ⊥) → (getD t p 0 ≡ 11 → ⊥) → (getD t p 0 ≡ 16 → ⊥) → SidesIn (exprOf t x p) Sides.Neither
+    neither-here a b c d =
+        let k = kind-here t x p s in (
+          no-sides (exprOf t x p) (k .other 8 (omega arith) a) (k .other 9 (omega arith) b) (k .other 11 (omega arith) c) (k .other 16 (omega arith) d),
+          tt,
+        )
+
+    -- with what `first_operand` says
+    module _ {q : ℕ} (i : q ≡ p + headBytes (getD t p 0)) where
+      pub unary-side : getD t p 0 ≡ 8 → SidesIn (exprOf t x p) (Sides.One q)
+      unary-side b = let o = opened t x p unaryKind b s in rw (i ∙ o .first, o .is) (refl, o .row .0)
+
+      pub select-side : getD t p 0 ≡ 11 → SidesIn (exprOf t x p) (Sides.One q)
+      select-side b = let o = opened t x p selectKind b s in rw (i ∙ o .first, o .is) (refl, o .row .0)
+
+      pub call-side : getD t p 0 ≡ 16 → {n : ℕ} → n ≡ getD t (p + 3) 0 → {r : Sides} → r ≡ callSides n q → SidesIn (exprOf t x p) r
+      call-side b j k =
+          let o = opened t x p functionKind b s in
+          rw (k, j, i ∙ o .first, o .is) (called-sides (numbered functions (getD t (p + 3) 0)) (o .row))
+
+      module _ (b : getD t p 0 ≡ 9) where
+        pub first-start : q + 3 ≤ length t
+        first-start = let o = binary-at t x p s b in rw (i ∙ o .first) (sound-stands t x (p + 4) (o .one) .start)
+
+        pub binary-sides : {n : ℕ} → n ≡ after t q → SidesIn (exprOf t x p) (Sides.Two q n)
+        binary-sides j = let o = binary-at t x p s b in rw (j, i ∙ o .first, o .is) (refl, (o .one, o .two))
 
 -- ---- literals and names
 

@@ -3,7 +3,9 @@ use Prim.Native.Nat.{ℕ, _<_}
 use mathlib.Core.Path.{_≡_}
 use mathlib.Core.Bool.{Bool, true, false, cond}
 use mathlib.Core.List.{List}
+use mathlib.Core.Option.{Option, none, some}
 use Rattle.meaning.specs.Expr.{Expr, literal, name, unary, binary, conditional, select, listOf, mapOf, comprehension, call, noneCall, orValue}
+use Rattle.meaning.specs.Kinds.{Called, toOne, toNone, toTwo, numbered, functions}
 use Rattle.rooms.specs.declared.value.Value.{Value}
 use Rattle.rooms.specs.declared.scope.Scope.{Scope}
 use Rattle.rooms.specs.Scope.{slotOf}
@@ -51,6 +53,16 @@ abbrev pub SoundSides : (t x : List ℕ) → Sides → Type 0
 SoundSides t x Sides.Neither = Unit {0}
 SoundSides t x (Sides.One p) = Sound t x p
 SoundSides t x (Sides.Two p q) = Sound t x p × Sound t x q
+
+-- of a function by its number, with the place where its first operand would stand
+abbrev pub calledSides : Option Called → ℕ → Sides
+calledSides none q = Sides.Neither
+calledSides (some (toOne f)) q = Sides.One q
+calledSides (some toNone) q = Sides.Neither
+calledSides (some toTwo) q = Sides.Neither
+
+abbrev pub callSides : (number place : ℕ) → Sides
+callSides n q = calledSides (numbered functions n) q
 
 -- ---- literals and names
 

@@ -2,15 +2,17 @@
 // a record can be evaluated with those slots alone.
 ghost use mathlib.Core.Path.{_≡_};
 ghost use Rattle.accepted.specs.Records.{Sound, exprOf};
-ghost use Rattle.forms.specs.Records.{shapeOf};
-ghost use Rattle.sides.specs.Sides.{operandsOf, sidesSeen, SoundSides, flatOf, smallOf, nearOf, beside, PairBelow, QuadBelow};
-use following::Fixed;
-use forms::Shape;
-use forms::shape_at;
+ghost use Rattle.sides.specs.Sides.{operandsOf, callSides, sidesSeen, SoundSides, flatOf, smallOf, nearOf, beside, PairBelow, QuadBelow};
+use bodies::number_at;
+use layout::kinds::BINARY;
+use layout::kinds::FUNCTION;
+use layout::kinds::SELECT;
+use layout::kinds::UNARY;
 use leaves::is_leaf;
 use leaves::slot_at;
 use outline::end_at;
 use outline::first_operand;
+use outline::kind_at;
 
 // The places of the operands of an operator, a select or a function of one argument.
 pub enum Sides {
@@ -30,29 +32,32 @@ pub enum Quad {
     Slots(usize, usize, usize, usize),
 }
 
-fn sides_of(table: &[u8], literal: &[u8], at: usize, fixed: Fixed) -> Sides
-    requires { ⌜ Sound (now table) (now literal) at × (shapeOf (exprOf (now table) (now literal) at) ≡ Shape.Operands fixed) ⌝ }
-    ensures { λ r. ⌜ (sidesSeen (now (table .entry)) (now (literal .entry)) r ≡ operandsOf (exprOf (now (table .entry)) (now (literal .entry)) at)) × SoundSides (now (table .entry)) (now (literal .entry)) r ⌝ }
+// Of a function, by its number: 3 is optional.none and 6 is orValue, which have none and two; no accepted table has a number above.
+fn call_sides(number: u8, one: usize) -> Sides
+    ensures { λ r. ⌜ r ≡ callSides number one ⌝ }
 {
-    match fixed {
-        Fixed::Unary(_) => Sides::One(first_operand(table, at)),
-        Fixed::Binary(_) => {
-            let one = first_operand(table, at);
-            Sides::Two(one, end_at(table, one))
-        }
-        Fixed::Conditional => Sides::Neither,
-        Fixed::Select(_) => Sides::One(first_operand(table, at)),
-        Fixed::Call(_) => Sides::One(first_operand(table, at)),
-        Fixed::OrValue => Sides::Neither,
+    match number {
+        1 => Sides::One(one),
+        2 => Sides::One(one),
+        4 => Sides::One(one),
+        5 => Sides::One(one),
+        _ => Sides::Neither,
     }
 }
 
+// By the kind byte: the form that `shape_at` makes has the operator in it, which nobody looks at here.
 pub fn sides_at(table: &[u8], literal: &[u8], at: usize) -> Sides
     requires { ⌜ Sound (now table) (now literal) at ⌝ }
     ensures { λ r. ⌜ (sidesSeen (now (table .entry)) (now (literal .entry)) r ≡ operandsOf (exprOf (now (table .entry)) (now (literal .entry)) at)) × SoundSides (now (table .entry)) (now (literal .entry)) r ⌝ }
 {
-    match shape_at(table, literal, at) {
-        Shape::Operands(fixed) => sides_of(table, literal, at, fixed),
+    match kind_at(table, at) {
+        UNARY => Sides::One(first_operand(table, at)),
+        BINARY => {
+            let one = first_operand(table, at);
+            Sides::Two(one, end_at(table, one))
+        }
+        SELECT => Sides::One(first_operand(table, at)),
+        FUNCTION => call_sides(number_at(table, at), first_operand(table, at)),
         _ => Sides::Neither,
     }
 }
