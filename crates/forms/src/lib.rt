@@ -86,13 +86,17 @@ fn call_shape(number: u8) -> Shape
     }
 }
 
+// A binary operator is asked for before the match: of the records with operands it is the commonest.
 pub fn shape_at(table: &[u8], literal: &[u8], at: usize) -> Shape
     requires { ⌜ Sound (now table) (now literal) at ⌝ }
     ensures { λ r. ⌜ r ≡ shapeOf (exprOf (now (table .entry)) (now (literal .entry)) at) ⌝ }
 {
-    match kind_at(table, at) {
+    let kind = kind_at(table, at);
+    if kind == BINARY {
+        return Shape::Operands(Fixed::Binary(binary_of(number_at(table, at))));
+    }
+    match kind {
         UNARY => Shape::Operands(Fixed::Unary(unary_of(number_at(table, at)))),
-        BINARY => Shape::Operands(Fixed::Binary(binary_of(number_at(table, at)))),
         CONDITIONAL => Shape::Operands(Fixed::Conditional),
         SELECT => Shape::Operands(Fixed::Select(number_at(table, at) == 1)),
         LIST => Shape::List,
