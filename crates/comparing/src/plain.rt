@@ -117,8 +117,8 @@ fn same_bytes(
     ))
 }
 
-// Whether two values without parts are equal.
-pub fn plain_equal(
+// Whether two values without parts are equal, by the kind of the first.
+fn equal_by_kind(
     literal: &[u8],
     binding_text: &[u8],
     text: &[u8],
@@ -142,4 +142,22 @@ pub fn plain_equal(
         Plain::OptionalNone => same_none(right),
         Plain::Other => false,
     }
+}
+
+// Whether two values without parts are equal. Two Ints are asked for first: they need no number line.
+pub fn plain_equal(
+    literal: &[u8],
+    binding_text: &[u8],
+    text: &[u8],
+    first: Value,
+    second: Value,
+) -> bool
+    ensures { λ r. ⌜ r ≡ sameSeen (seenOf (now (literal .entry)) (now («binding_text» .entry)) (now (text .entry)) (plainOf first)) (seenOf (now (literal .entry)) (now («binding_text» .entry)) (now (text .entry)) (plainOf second)) ⌝ }
+{
+    if let Value::Int(one) = first {
+        if let Value::Int(other) = second {
+            return one == other;
+        }
+    }
+    equal_by_kind(literal, binding_text, text, first, second)
 }

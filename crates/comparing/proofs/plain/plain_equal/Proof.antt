@@ -1,98 +1,30 @@
 -- `plain::plain_equal` meets its contract. Assumes nothing.
-
-use borrow.Author.Needs.{needs}
+use mathlib.Core.Path.{sym, _∙_}
+use mathlib.Core.Logic.{⊎-elim}
+use borrow.Author.Needs.{needs, sfits-of}
+use Rattle.comparing.proofs.AskedFirst.{int-same}
 use Rattle.comparing.proofs.plain.plain_equal.Statement.{statement}
 use Rattle.comparing.proofs.plain.plain_equal.Tie as tie
 
-plain-of-requires : tie.Need-plain-of-requires
-plain-of-requires c κs = search needs
+enum-known-first : tie.Need-enum-known-first
+enum-known-first c = search needs
 
-plain-of-requires-2 : tie.Need-plain-of-requires-2
-plain-of-requires-2 c κs = search needs
-
-enum-told : tie.Need-enum-told
-enum-told c = search needs
-
-same-null-requires : tie.Need-same-null-requires
-same-null-requires c κs = search needs
-
-enum-known-left : tie.Need-enum-known-left
-enum-known-left c = search needs
-
-same-bool-requires : tie.Need-same-bool-requires
-same-bool-requires c κs = search needs
-
-enum-known-left-2 : tie.Need-enum-known-left-2
-enum-known-left-2 c = search needs
-
-same-number-requires : tie.Need-same-number-requires
-same-number-requires c κs = search needs
-
-enum-known-left-3 : tie.Need-enum-known-left-3
-enum-known-left-3 c = search needs
-
-same-string-requires : tie.Need-same-string-requires
-same-string-requires c κs = search needs
-
-enum-known-left-4 : tie.Need-enum-known-left-4
-enum-known-left-4 c = search needs
-
-same-bytes-requires : tie.Need-same-bytes-requires
-same-bytes-requires c κs = search needs
-
-enum-told-2 : tie.Need-enum-told-2
-enum-told-2 c = search needs
-
-same-none-requires : tie.Need-same-none-requires
-same-none-requires c κs = search needs
-
-enum-told-3 : tie.Need-enum-told-3
-enum-told-3 c = search needs
+enum-known-second : tie.Need-enum-known-second
+enum-known-second c = search needs
 
 returns : tie.Need-returns
-returns c = simp (← c .before .before .before .before .plain-of .ensures, ← c .before .before .before .plain-of2 .ensures, c .before .enum-told .given .1) (c .same-null .ensures (c .before .before .before .before .before .before .before .before .args .literal .now) (c .before .before .before .before .before .before .before .before .args .binding-text .now) (c .before .before .before .before .before .before .before .before .args .text .now))
+returns c =
+    let left = c .before .before .before .before .first in
+    let right = c .before .second in
+    simp (left .given .1, right .given .1) (int-same (left .given .0 .0) (right .given .0 .0) (sfits-of (c .before .before .before .known-told .given .0 .1)) (sfits-of (c .known-told2 .given .0 .1)))
+
+equal-by-kind-requires : tie.Need-equal-by-kind-requires
+equal-by-kind-requires c κs = search needs
 
 returns-2 : tie.Need-returns-2
-returns-2 c = simp (← c .before .before .before .before .before .plain-of .ensures, ← c .before .before .before .before .plain-of2 .ensures, c .before .before .left .given .1) (c .same-bool .ensures (c .before .before .before .before .before .before .before .before .before .args .literal .now) (c .before .before .before .before .before .before .before .before .before .args .binding-text .now) (c .before .before .before .before .before .before .before .before .before .args .text .now))
-
-returns-3 : tie.Need-returns-3
-returns-3 c = simp (← c .before .before .before .before .before .plain-of .ensures, ← c .before .before .before .before .plain-of2 .ensures, c .before .before .left2 .given .1) (c .same-number .ensures (c .before .before .before .before .before .before .before .before .before .args .literal .now) (c .before .before .before .before .before .before .before .before .before .args .binding-text .now) (c .before .before .before .before .before .before .before .before .before .args .text .now))
-
-returns-4 : tie.Need-returns-4
-returns-4 c = simp (← c .before .before .before .before .before .plain-of .ensures, ← c .before .before .before .before .plain-of2 .ensures, c .before .before .left3 .given .1) (c .same-string .ensures)
-
-returns-5 : tie.Need-returns-5
-returns-5 c = simp (← c .before .before .before .before .before .plain-of .ensures, ← c .before .before .before .before .plain-of2 .ensures, c .before .before .left4 .given .1) (c .same-bytes .ensures)
-
-returns-6 : tie.Need-returns-6
-returns-6 c = simp (← c .before .before .before .before .plain-of .ensures, ← c .before .before .before .plain-of2 .ensures, c .before .enum-told2 .given .1) (c .same-none .ensures (c .before .before .before .before .before .before .before .before .args .literal .now) (c .before .before .before .before .before .before .before .before .args .binding-text .now) (c .before .before .before .before .before .before .before .before .args .text .now))
-
-returns-7 : tie.Need-returns-7
-returns-7 c = simp (← c .before .before .before .plain-of .ensures, ← c .before .before .plain-of2 .ensures, c .enum-told3 .given .1)
+returns-2 c = rw (⊎-elim (λ w. w .4 ∙ sym (w .1 .given .1)) (λ w. w .1) (c .before .match .came)) at (c .equal-by-kind .ensures)
 
 pub plain-equal-spec : {M : Type 1} → statement M
 plain-equal-spec =
     tie.close
-    (tie.spec
-    plain-of-requires
-    plain-of-requires-2
-    enum-told
-    same-null-requires
-    enum-known-left
-    same-bool-requires
-    enum-known-left-2
-    same-number-requires
-    enum-known-left-3
-    same-string-requires
-    enum-known-left-4
-    same-bytes-requires
-    enum-told-2
-    same-none-requires
-    enum-told-3
-    returns
-    returns-2
-    returns-3
-    returns-4
-    returns-5
-    returns-6
-    returns-7)
+    (tie.spec enum-known-first enum-known-second returns equal-by-kind-requires returns-2)
