@@ -2,7 +2,7 @@
 ghost use mathlib.Core.Path.{_≡_};
 ghost use Rattle.rooms.specs.Rooms.{rooms};
 ghost use Rattle.comparing.specs.LookUp.{findIn};
-use crate::plain::plain_equal;
+use crate::plain::key_equal;
 use cells::cell_at;
 use rooms::value::CellSpace;
 use rooms::value::Value;
@@ -39,7 +39,7 @@ pub fn find(
         }
         pairs += 1;
         let key = cell_at(binding_cells, cells, space, at);
-        if plain_equal(literal, binding_text, text, probe, key) {
+        if key_equal(literal, binding_text, text, probe, key) {
             return Found::At(at + 1, pairs);
         }
         at += 2;

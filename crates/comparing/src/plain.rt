@@ -14,6 +14,7 @@ use rooms::value::TextSpace;
 use rooms::value::Value;
 use rooms::value::plain_of;
 use spans::parts_compare;
+use spans::parts_equal;
 use text::bytes::TextOrder;
 
 fn same_null(other: Plain) -> bool
@@ -144,7 +145,35 @@ fn equal_by_kind(
     }
 }
 
-// Whether two values without parts are equal. Two Ints are asked for first: they need no number line.
+// Whether two values without parts are equal. Two Strings, which most keys are, are asked for first: they need no order.
+pub fn key_equal(
+    literal: &[u8],
+    binding_text: &[u8],
+    text: &[u8],
+    first: Value,
+    second: Value,
+) -> bool
+    ensures { λ r. ⌜ r ≡ sameSeen (seenOf (now (literal .entry)) (now («binding_text» .entry)) (now (text .entry)) (plainOf first)) (seenOf (now (literal .entry)) (now («binding_text» .entry)) (now (text .entry)) (plainOf second)) ⌝ }
+{
+    if let Value::String(space, at, length) = first {
+        if let Value::String(there, from, count) = second {
+            return parts_equal(
+                literal,
+                binding_text,
+                text,
+                space,
+                at,
+                length,
+                there,
+                from,
+                count,
+            );
+        }
+    }
+    equal_by_kind(literal, binding_text, text, first, second)
+}
+
+// The same; two Ints are asked for first: they need no number line.
 pub fn plain_equal(
     literal: &[u8],
     binding_text: &[u8],
@@ -159,5 +188,5 @@ pub fn plain_equal(
             return one == other;
         }
     }
-    equal_by_kind(literal, binding_text, text, first, second)
+    key_equal(literal, binding_text, text, first, second)
 }

@@ -3,7 +3,7 @@ ghost use mathlib.Core.Path.{_≡_};
 ghost use Prim.Native.Nat.{_+_, _*_, _<_};
 ghost use Rattle.mapkeys.specs.Keys.{isKey, repeatedIn, keysFit};
 use cells::read_cell;
-use comparing::plain::plain_equal;
+use comparing::plain::key_equal;
 use rooms::value::Value;
 
 pub fn is_key(v: Value) -> bool
@@ -35,7 +35,7 @@ fn repeated(cells: &[u64], text: &[u8], key: Value, first: usize, count: usize) 
     let mut left = count;
     while 0 < left {
         let other = read_cell(cells, at);
-        if plain_equal(b"", text, b"", key, other) {
+        if key_equal(b"", text, b"", key, other) {
             return true;
         }
         at += 2;

@@ -3,7 +3,7 @@ ghost use mathlib.Core.Path.{_≡_};
 ghost use Rattle.accepted.specs.Records.{Sound, exprOf};
 ghost use Rattle.scalars.specs.Literals.{Entries, keysFrom, literalIn};
 ghost use Rattle.findings.specs.Judging.{repeatedIn, keyFault};
-use comparing::plain::plain_equal;
+use comparing::plain::key_equal;
 use findings::Fault;
 use mapkeys::is_key;
 use outline::end_at;
@@ -19,7 +19,7 @@ fn repeated(table: &[u8], literal: &[u8], first: usize, count: usize, key: Value
     let mut left = count;
     while 0 < left {
         let other = literal_at(table, at);
-        if plain_equal(literal, b"", b"", key, other) {
+        if key_equal(literal, b"", b"", key, other) {
             return true;
         }
         at = end_at(table, end_at(table, at));

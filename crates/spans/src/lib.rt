@@ -1,6 +1,6 @@
 // Text where it lies: a part of a space, and two parts compared.
 ghost use mathlib.Core.Path.{_≡_};
-ghost use Rattle.text.specs.Bytes.{orderOf};
+ghost use Rattle.text.specs.Bytes.{equalOf, orderOf};
 ghost use Rattle.text.specs.Utf8.{codePoints};
 ghost use Rattle.rooms.specs.Rooms.{part, textOf};
 use rooms::value::TextSpace;
@@ -92,6 +92,88 @@ pub fn parts_compare(
             let left = part(text, first as usize, length as usize);
             compare_part(
                 left,
+                literal,
+                binding_text,
+                text,
+                other,
+                other_first,
+                other_length,
+            )
+        }
+    }
+}
+
+// Whether the text `left` is the part of a space.
+fn equal_part(
+    left: &[u8],
+    literal: &[u8],
+    binding_text: &[u8],
+    text: &[u8],
+    space: TextSpace,
+    first: u16,
+    length: u16,
+) -> bool
+    ensures { λ r. ⌜ r ≡ equalOf (now (left .entry)) (part (textOf (now (literal .entry)) (now («binding_text» .entry)) (now (text .entry)) space) first length) ⌝ }
+{
+    match space {
+        TextSpace::Literal => text::bytes::equal(
+            left,
+            part(literal, first as usize, length as usize),
+        ),
+        TextSpace::Binding => text::bytes::equal(
+            left,
+            part(binding_text, first as usize, length as usize),
+        ),
+        TextSpace::Evaluation => text::bytes::equal(
+            left,
+            part(text, first as usize, length as usize),
+        ),
+    }
+}
+
+// Whether two parts are the same.
+pub fn parts_equal(
+    literal: &[u8],
+    binding_text: &[u8],
+    text: &[u8],
+    space: TextSpace,
+    first: u16,
+    length: u16,
+    other: TextSpace,
+    other_first: u16,
+    other_length: u16,
+) -> bool
+    ensures { λ r. ⌜ r ≡ equalOf (part (textOf (now (literal .entry)) (now («binding_text» .entry)) (now (text .entry)) space) first length) (part (textOf (now (literal .entry)) (now («binding_text» .entry)) (now (text .entry)) other) «other_first» «other_length») ⌝ }
+{
+    match space {
+        TextSpace::Literal => {
+            let one = part(literal, first as usize, length as usize);
+            equal_part(
+                one,
+                literal,
+                binding_text,
+                text,
+                other,
+                other_first,
+                other_length,
+            )
+        }
+        TextSpace::Binding => {
+            let one = part(binding_text, first as usize, length as usize);
+            equal_part(
+                one,
+                literal,
+                binding_text,
+                text,
+                other,
+                other_first,
+                other_length,
+            )
+        }
+        TextSpace::Evaluation => {
+            let one = part(text, first as usize, length as usize);
+            equal_part(
+                one,
                 literal,
                 binding_text,
                 text,

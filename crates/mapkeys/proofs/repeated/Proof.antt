@@ -9,7 +9,7 @@ use Rattle.mapkeys.proofs.repeated.Tie as tie
 use Rattle.mapkeys.proofs.repeated.Reads as reads
 use Rattle.mapkeys.proofs.repeated.Lts as lts
 use Rattle.cells.proofs.read_cell.Reads as read-cell-reads
-use Rattle.comparing.proofs.plain.plain_equal.Reads as plain-equal-reads
+use Rattle.comparing.proofs.plain.key_equal.Reads as key-equal-reads
 
 abbrev Inv-loop : tie.InvT-loop
 Inv-loop cells text key first count at₀ left₀ t9 t10 at left = (at + 2 * left < 262144) × (repeatedIn cells text key at left ≡ repeatedIn cells text key first count)
@@ -26,21 +26,21 @@ read-cell-requires : tie.Need-read-cell-requires Inv-loop μ-loop
 read-cell-requires c κs = search needs
 
 -- src/keys.rt:38:24
-slice-aggregate-plain-equal : tie.Need-slice-aggregate-plain-equal Inv-loop μ-loop
-slice-aggregate-plain-equal c = search needs
+slice-aggregate-key-equal : tie.Need-slice-aggregate-key-equal Inv-loop μ-loop
+slice-aggregate-key-equal c = search needs
 
 -- src/keys.rt:38:35
-slice-aggregate-plain-equal-2 : tie.Need-slice-aggregate-plain-equal-2 Inv-loop μ-loop
-slice-aggregate-plain-equal-2 c = search needs
+slice-aggregate-key-equal-2 : tie.Need-slice-aggregate-key-equal-2 Inv-loop μ-loop
+slice-aggregate-key-equal-2 c = search needs
 
 -- src/keys.rt:38:12
-plain-equal-requires : tie.Need-plain-equal-requires Inv-loop μ-loop
-plain-equal-requires c κs = search needs
+key-equal-requires : tie.Need-key-equal-requires Inv-loop μ-loop
+key-equal-requires c κs = search needs
 
 -- src/keys.rt:39:13
 returns : tie.Need-returns Inv-loop μ-loop
 unfolding match
-returns c = repeated-found (c .before .before .before .before .before .before .before .before .before .args .cells .now) (c .before .before .before .before .before .before .before .before .before .args .text .now) (c .before .before .before .before .before .before .before .before .before .args .key) (c .before .before .before .before .read-cell .result) (c .before .before .before .before .before .before .loop .at) (c .before .before .before .before .before .before .loop .left) (c .before .before .before .before .before .loop-test .taken) (c .before .before .before .before .read-cell .ensures) (sym (c .before .plain-equal .ensures) ∙ c .if1 .taken) ∙ c .before .before .before .before .before .before .loop .inv .1
+returns c = repeated-found (c .before .before .before .before .before .before .before .before .before .args .cells .now) (c .before .before .before .before .before .before .before .before .before .args .text .now) (c .before .before .before .before .before .before .before .before .before .args .key) (c .before .before .before .before .read-cell .result) (c .before .before .before .before .before .before .loop .at) (c .before .before .before .before .before .before .loop .left) (c .before .before .before .before .before .loop-test .taken) (c .before .before .before .before .read-cell .ensures) (sym (c .before .key-equal .ensures) ∙ c .if1 .taken) ∙ c .before .before .before .before .before .before .loop .inv .1
 
 -- src/keys.rt:41:9
 add-at : tie.Need-add-at Inv-loop μ-loop
@@ -57,7 +57,7 @@ loop-less c = search needs
 -- src/keys.rt:36:5
 loop-again : tie.Need-loop-again Inv-loop μ-loop
 unfolding match
-loop-again c = (omega arith, repeated-on (c .before .before .before .before .before .before .before .before .before .args .cells .now) (c .before .before .before .before .before .before .before .before .before .args .text .now) (c .before .before .before .before .before .before .before .before .before .args .key) (c .before .before .before .before .read-cell .result) (c .before .before .before .before .before .before .loop .at) (c .before .before .before .before .before .before .loop .left) (c .before .before .before .before .before .loop-test .taken) (c .before .before .before .before .read-cell .ensures) (sym (c .before .plain-equal .ensures) ∙ c .if1 .left) ∙ c .before .before .before .before .before .before .loop .inv .1)
+loop-again c = (omega arith, repeated-on (c .before .before .before .before .before .before .before .before .before .args .cells .now) (c .before .before .before .before .before .before .before .before .before .args .text .now) (c .before .before .before .before .before .before .before .before .before .args .key) (c .before .before .before .before .read-cell .result) (c .before .before .before .before .before .before .loop .at) (c .before .before .before .before .before .before .loop .left) (c .before .before .before .before .before .loop-test .taken) (c .before .before .before .before .read-cell .ensures) (sym (c .before .key-equal .ensures) ∙ c .if1 .left) ∙ c .before .before .before .before .before .before .loop .inv .1)
 
 -- src/keys.rt:30:1
 returns-2 : tie.Need-returns-2 Inv-loop μ-loop
@@ -71,9 +71,9 @@ repeated-spec =
     μ-loop
     loop-holds
     read-cell-requires
-    slice-aggregate-plain-equal
-    slice-aggregate-plain-equal-2
-    plain-equal-requires
+    slice-aggregate-key-equal
+    slice-aggregate-key-equal-2
+    key-equal-requires
     returns
     add-at
     sub-left

@@ -10,7 +10,7 @@ use Rattle.repeats.proofs.repeated.Tie as tie
 use Rattle.repeats.proofs.repeated.Reads as reads
 use Rattle.repeats.proofs.repeated.Lts as lts
 use Rattle.scalars.proofs.literal_at.Reads as literal-at-reads
-use Rattle.comparing.proofs.plain.plain_equal.Reads as plain-equal-reads
+use Rattle.comparing.proofs.plain.key_equal.Reads as key-equal-reads
 use Rattle.outline.proofs.end_at.Reads as end-at-reads
 
 abbrev Inv-loop : tie.InvT-loop
@@ -28,20 +28,20 @@ literal-at-requires : tie.Need-literal-at-requires Inv-loop μ-loop
 literal-at-requires c κs = let f = first-entry (c .before .before .before .before .args .table .now) (c .before .before .before .before .args .literal .now) (c .before .loop .left) (c .before .loop .at) (c .loop-test .taken) (c .before .loop .inv .0) in let p = sound-place (c .before .before .before .before .args .table .now) (c .before .before .before .before .args .literal .now) (c .before .loop .at) (f .0) in (p .known, p .head)
 
 -- src/judging.rt:147:33
-slice-aggregate-plain-equal : tie.Need-slice-aggregate-plain-equal Inv-loop μ-loop
-slice-aggregate-plain-equal c = search needs
+slice-aggregate-key-equal : tie.Need-slice-aggregate-key-equal Inv-loop μ-loop
+slice-aggregate-key-equal c = search needs
 
 -- src/judging.rt:147:38
-slice-aggregate-plain-equal-2 : tie.Need-slice-aggregate-plain-equal-2 Inv-loop μ-loop
-slice-aggregate-plain-equal-2 c = search needs
+slice-aggregate-key-equal-2 : tie.Need-slice-aggregate-key-equal-2 Inv-loop μ-loop
+slice-aggregate-key-equal-2 c = search needs
 
 -- src/judging.rt:147:12
-plain-equal-requires : tie.Need-plain-equal-requires Inv-loop μ-loop
-plain-equal-requires c κs = search needs
+key-equal-requires : tie.Need-key-equal-requires Inv-loop μ-loop
+key-equal-requires c κs = search needs
 
 -- src/judging.rt:148:13
 returns : tie.Need-returns Inv-loop μ-loop
-returns c = repeated-found (c .before .before .before .before .before .before .before .before .before .args .table .now) (c .before .before .before .before .before .before .before .before .before .args .literal .now) (c .before .before .before .before .before .before .before .before .before .args .key) (c .before .before .before .before .literal-at .result) (c .before .before .before .before .before .before .loop .left) (c .before .before .before .before .before .before .loop .at) (c .before .before .before .before .before .loop-test .taken) (c .before .before .before .before .literal-at .ensures) (sym (c .before .plain-equal .ensures) ∙ c .if1 .taken) ∙ c .before .before .before .before .before .before .loop .inv .1
+returns c = repeated-found (c .before .before .before .before .before .before .before .before .before .args .table .now) (c .before .before .before .before .before .before .before .before .before .args .literal .now) (c .before .before .before .before .before .before .before .before .before .args .key) (c .before .before .before .before .literal-at .result) (c .before .before .before .before .before .before .loop .left) (c .before .before .before .before .before .before .loop .at) (c .before .before .before .before .before .loop-test .taken) (c .before .before .before .before .literal-at .ensures) (sym (c .before .key-equal .ensures) ∙ c .if1 .taken) ∙ c .before .before .before .before .before .before .loop .inv .1
 
 -- src/judging.rt:150:28
 end-at-requires : tie.Need-end-at-requires Inv-loop μ-loop
@@ -61,7 +61,7 @@ loop-less c = omega arith
 
 -- src/judging.rt:145:5
 loop-again : tie.Need-loop-again Inv-loop μ-loop
-loop-again c = let f = first-entry (c .before .before .before .before .before .before .before .before .before .before .before .args .table .now) (c .before .before .before .before .before .before .before .before .before .before .before .args .literal .now) (c .before .before .before .before .before .before .before .before .loop .left) (c .before .before .before .before .before .before .before .before .loop .at) (c .before .before .before .before .before .before .before .loop-test .taken) (c .before .before .before .before .before .before .before .before .loop .inv .0) in let p = sound-place (c .before .before .before .before .before .before .before .before .before .before .before .args .table .now) (c .before .before .before .before .before .before .before .before .before .before .before .args .literal .now) (c .before .before .before .before .before .before .before .before .loop .at) (f .0) in (rw (c .end-at2 .ensures, c .before .end-at .ensures) (f .2), repeated-on (c .before .before .before .before .before .before .before .before .before .before .before .args .table .now) (c .before .before .before .before .before .before .before .before .before .before .before .args .literal .now) (c .before .before .before .before .before .before .before .before .before .before .before .args .key) (c .before .before .before .before .before .before .literal-at .result) (c .before .before .before .before .before .before .before .before .loop .left) (c .before .before .before .before .before .before .before .before .loop .at) (c .before .before .before .before .before .before .before .loop-test .taken) (c .before .before .before .before .before .before .literal-at .ensures) (sym (c .before .before .before .plain-equal .ensures) ∙ c .before .before .if1 .left) (c .before .end-at .result) (c .end-at2 .result) (c .before .end-at .ensures) (c .end-at2 .ensures) ∙ c .before .before .before .before .before .before .before .before .loop .inv .1)
+loop-again c = let f = first-entry (c .before .before .before .before .before .before .before .before .before .before .before .args .table .now) (c .before .before .before .before .before .before .before .before .before .before .before .args .literal .now) (c .before .before .before .before .before .before .before .before .loop .left) (c .before .before .before .before .before .before .before .before .loop .at) (c .before .before .before .before .before .before .before .loop-test .taken) (c .before .before .before .before .before .before .before .before .loop .inv .0) in let p = sound-place (c .before .before .before .before .before .before .before .before .before .before .before .args .table .now) (c .before .before .before .before .before .before .before .before .before .before .before .args .literal .now) (c .before .before .before .before .before .before .before .before .loop .at) (f .0) in (rw (c .end-at2 .ensures, c .before .end-at .ensures) (f .2), repeated-on (c .before .before .before .before .before .before .before .before .before .before .before .args .table .now) (c .before .before .before .before .before .before .before .before .before .before .before .args .literal .now) (c .before .before .before .before .before .before .before .before .before .before .before .args .key) (c .before .before .before .before .before .before .literal-at .result) (c .before .before .before .before .before .before .before .before .loop .left) (c .before .before .before .before .before .before .before .before .loop .at) (c .before .before .before .before .before .before .before .loop-test .taken) (c .before .before .before .before .before .before .literal-at .ensures) (sym (c .before .before .before .key-equal .ensures) ∙ c .before .before .if1 .left) (c .before .end-at .result) (c .end-at2 .result) (c .before .end-at .ensures) (c .end-at2 .ensures) ∙ c .before .before .before .before .before .before .before .before .loop .inv .1)
 
 -- src/judging.rt:139:1
 returns-2 : tie.Need-returns-2 Inv-loop μ-loop
@@ -75,9 +75,9 @@ repeated-spec =
     μ-loop
     loop-holds
     literal-at-requires
-    slice-aggregate-plain-equal
-    slice-aggregate-plain-equal-2
-    plain-equal-requires
+    slice-aggregate-key-equal
+    slice-aggregate-key-equal-2
+    key-equal-requires
     returns
     end-at-requires
     end-at-requires-2

@@ -28,15 +28,15 @@ add-pairs c = search needs
 cell-at-requires : tie.Need-cell-at-requires Inv-loop μ-loop
 cell-at-requires c κs = search needs
 
-plain-equal-requires : tie.Need-plain-equal-requires Inv-loop μ-loop
-plain-equal-requires c κs = search needs
+key-equal-requires : tie.Need-key-equal-requires Inv-loop μ-loop
+key-equal-requires c κs = search needs
 
 add-t18 : tie.Need-add-t18 Inv-loop μ-loop
 add-t18 c = search needs
 
 returns-2 : tie.Need-returns-2 Inv-loop μ-loop
 unfolding seenIn cellAt
-returns-2 c = find-at (c .before .before .before .before .before .before .before .before .before .before .before .args .limit) (rooms (c .before .before .before .before .before .before .before .before .before .before .before .args .literal .now) (c .before .before .before .before .before .before .before .before .before .before .before .args .binding-cells .now) (c .before .before .before .before .before .before .before .before .before .before .before .args .binding-text .now) (c .before .before .before .before .before .before .before .before .before .before .before .args .cells .now) (c .before .before .before .before .before .before .before .before .before .before .before .args .text .now)) (c .before .before .before .before .before .before .before .before .before .before .before .args .probe) (c .before .before .before .before .before .before .before .before .before .before .before .args .space) (c .before .before .before .before .before .loop .at) (c .before .before .before .before .before .loop .left) (c .before .before .before .before .before .loop .pairs) (c .before .plain-equal .result) (c .before .before .before .before .loop-test .taken) (c .before .before .before .if1 .left) (c .before .plain-equal .ensures ∙ ap (λ v. sameSeen (seenIn (rooms (c .before .before .before .before .before .before .before .before .before .before .before .args .literal .now) (c .before .before .before .before .before .before .before .before .before .before .before .args .binding-cells .now) (c .before .before .before .before .before .before .before .before .before .before .before .args .binding-text .now) (c .before .before .before .before .before .before .before .before .before .before .before .args .cells .now) (c .before .before .before .before .before .before .before .before .before .before .before .args .text .now)) (c .before .before .before .before .before .before .before .before .before .before .before .args .probe)) (seenIn (rooms (c .before .before .before .before .before .before .before .before .before .before .before .args .literal .now) (c .before .before .before .before .before .before .before .before .before .before .before .args .binding-cells .now) (c .before .before .before .before .before .before .before .before .before .before .before .args .binding-text .now) (c .before .before .before .before .before .before .before .before .before .before .before .args .cells .now) (c .before .before .before .before .before .before .before .before .before .before .before .args .text .now)) v)) (c .before .before .cell-at .ensures)) (c .if2 .taken) ∙ c .before .before .before .before .before .loop .inv .1
+returns-2 c = find-at (c .before .before .before .before .before .before .before .before .before .before .before .args .limit) (rooms (c .before .before .before .before .before .before .before .before .before .before .before .args .literal .now) (c .before .before .before .before .before .before .before .before .before .before .before .args .binding-cells .now) (c .before .before .before .before .before .before .before .before .before .before .before .args .binding-text .now) (c .before .before .before .before .before .before .before .before .before .before .before .args .cells .now) (c .before .before .before .before .before .before .before .before .before .before .before .args .text .now)) (c .before .before .before .before .before .before .before .before .before .before .before .args .probe) (c .before .before .before .before .before .before .before .before .before .before .before .args .space) (c .before .before .before .before .before .loop .at) (c .before .before .before .before .before .loop .left) (c .before .before .before .before .before .loop .pairs) (c .before .key-equal .result) (c .before .before .before .before .loop-test .taken) (c .before .before .before .if1 .left) (c .before .key-equal .ensures ∙ ap (λ v. sameSeen (seenIn (rooms (c .before .before .before .before .before .before .before .before .before .before .before .args .literal .now) (c .before .before .before .before .before .before .before .before .before .before .before .args .binding-cells .now) (c .before .before .before .before .before .before .before .before .before .before .before .args .binding-text .now) (c .before .before .before .before .before .before .before .before .before .before .before .args .cells .now) (c .before .before .before .before .before .before .before .before .before .before .before .args .text .now)) (c .before .before .before .before .before .before .before .before .before .before .before .args .probe)) (seenIn (rooms (c .before .before .before .before .before .before .before .before .before .before .before .args .literal .now) (c .before .before .before .before .before .before .before .before .before .before .before .args .binding-cells .now) (c .before .before .before .before .before .before .before .before .before .before .before .args .binding-text .now) (c .before .before .before .before .before .before .before .before .before .before .before .args .cells .now) (c .before .before .before .before .before .before .before .before .before .before .before .args .text .now)) v)) (c .before .before .cell-at .ensures)) (c .if2 .taken) ∙ c .before .before .before .before .before .loop .inv .1
 
 add-at : tie.Need-add-at Inv-loop μ-loop
 add-at c = search needs
@@ -49,7 +49,7 @@ loop-less c = search needs
 
 loop-again : tie.Need-loop-again Inv-loop μ-loop
 unfolding seenIn cellAt
-loop-again c = (omega arith, find-on (c .before .before .before .before .before .before .before .before .before .before .before .args .limit) (rooms (c .before .before .before .before .before .before .before .before .before .before .before .args .literal .now) (c .before .before .before .before .before .before .before .before .before .before .before .args .binding-cells .now) (c .before .before .before .before .before .before .before .before .before .before .before .args .binding-text .now) (c .before .before .before .before .before .before .before .before .before .before .before .args .cells .now) (c .before .before .before .before .before .before .before .before .before .before .before .args .text .now)) (c .before .before .before .before .before .before .before .before .before .before .before .args .probe) (c .before .before .before .before .before .before .before .before .before .before .before .args .space) (c .before .before .before .before .before .loop .at) (c .before .before .before .before .before .loop .left) (c .before .before .before .before .before .loop .pairs) (c .before .plain-equal .result) (c .before .before .before .before .loop-test .taken) (c .before .before .before .if1 .left) (c .before .plain-equal .ensures ∙ ap (λ v. sameSeen (seenIn (rooms (c .before .before .before .before .before .before .before .before .before .before .before .args .literal .now) (c .before .before .before .before .before .before .before .before .before .before .before .args .binding-cells .now) (c .before .before .before .before .before .before .before .before .before .before .before .args .binding-text .now) (c .before .before .before .before .before .before .before .before .before .before .before .args .cells .now) (c .before .before .before .before .before .before .before .before .before .before .before .args .text .now)) (c .before .before .before .before .before .before .before .before .before .before .before .args .probe)) (seenIn (rooms (c .before .before .before .before .before .before .before .before .before .before .before .args .literal .now) (c .before .before .before .before .before .before .before .before .before .before .before .args .binding-cells .now) (c .before .before .before .before .before .before .before .before .before .before .before .args .binding-text .now) (c .before .before .before .before .before .before .before .before .before .before .before .args .cells .now) (c .before .before .before .before .before .before .before .before .before .before .before .args .text .now)) v)) (c .before .before .cell-at .ensures)) (c .if2 .left) ∙ c .before .before .before .before .before .loop .inv .1)
+loop-again c = (omega arith, find-on (c .before .before .before .before .before .before .before .before .before .before .before .args .limit) (rooms (c .before .before .before .before .before .before .before .before .before .before .before .args .literal .now) (c .before .before .before .before .before .before .before .before .before .before .before .args .binding-cells .now) (c .before .before .before .before .before .before .before .before .before .before .before .args .binding-text .now) (c .before .before .before .before .before .before .before .before .before .before .before .args .cells .now) (c .before .before .before .before .before .before .before .before .before .before .before .args .text .now)) (c .before .before .before .before .before .before .before .before .before .before .before .args .probe) (c .before .before .before .before .before .before .before .before .before .before .before .args .space) (c .before .before .before .before .before .loop .at) (c .before .before .before .before .before .loop .left) (c .before .before .before .before .before .loop .pairs) (c .before .key-equal .result) (c .before .before .before .before .loop-test .taken) (c .before .before .before .if1 .left) (c .before .key-equal .ensures ∙ ap (λ v. sameSeen (seenIn (rooms (c .before .before .before .before .before .before .before .before .before .before .before .args .literal .now) (c .before .before .before .before .before .before .before .before .before .before .before .args .binding-cells .now) (c .before .before .before .before .before .before .before .before .before .before .before .args .binding-text .now) (c .before .before .before .before .before .before .before .before .before .before .before .args .cells .now) (c .before .before .before .before .before .before .before .before .before .before .before .args .text .now)) (c .before .before .before .before .before .before .before .before .before .before .before .args .probe)) (seenIn (rooms (c .before .before .before .before .before .before .before .before .before .before .before .args .literal .now) (c .before .before .before .before .before .before .before .before .before .before .before .args .binding-cells .now) (c .before .before .before .before .before .before .before .before .before .before .before .args .binding-text .now) (c .before .before .before .before .before .before .before .before .before .before .before .args .cells .now) (c .before .before .before .before .before .before .before .before .before .before .before .args .text .now)) v)) (c .before .before .cell-at .ensures)) (c .if2 .left) ∙ c .before .before .before .before .before .loop .inv .1)
 
 returns-3 : tie.Need-returns-3 Inv-loop μ-loop
 returns-3 c = find-none (c .before .before .before .before .before .before .before .args .limit) (rooms (c .before .before .before .before .before .before .before .args .literal .now) (c .before .before .before .before .before .before .before .args .binding-cells .now) (c .before .before .before .before .before .before .before .args .binding-text .now) (c .before .before .before .before .before .before .before .args .cells .now) (c .before .before .before .before .before .before .before .args .text .now)) (c .before .before .before .before .before .before .before .args .probe) (c .before .before .before .before .before .before .before .args .space) (c .before .loop .at) (c .before .loop .left) (c .before .loop .pairs) (c .loop-test .left) ∙ c .before .loop .inv .1
@@ -64,7 +64,7 @@ find-spec =
     returns
     add-pairs
     cell-at-requires
-    plain-equal-requires
+    key-equal-requires
     add-t18
     returns-2
     add-at

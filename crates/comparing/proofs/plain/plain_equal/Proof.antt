@@ -18,13 +18,13 @@ returns c =
     let right = c .before .second in
     simp (left .given .1, right .given .1) (int-same (left .given .0 .0) (right .given .0 .0) (sfits-of (c .before .before .before .known-told .given .0 .1)) (sfits-of (c .known-told2 .given .0 .1)))
 
-equal-by-kind-requires : tie.Need-equal-by-kind-requires
-equal-by-kind-requires c κs = search needs
+key-equal-requires : tie.Need-key-equal-requires
+key-equal-requires c κs = search needs
 
 returns-2 : tie.Need-returns-2
-returns-2 c = rw (⊎-elim (λ w. w .4 ∙ sym (w .1 .given .1)) (λ w. w .1) (c .before .match .came)) at (c .equal-by-kind .ensures)
+returns-2 c = rw (⊎-elim (λ w. w .4 ∙ sym (w .1 .given .1)) (λ w. w .1) (c .before .match .came)) at (c .key-equal .ensures)
 
 pub plain-equal-spec : {M : Type 1} → statement M
 plain-equal-spec =
     tie.close
-    (tie.spec enum-known-first enum-known-second returns equal-by-kind-requires returns-2)
+    (tie.spec enum-known-first enum-known-second returns key-equal-requires returns-2)
