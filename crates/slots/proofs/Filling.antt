@@ -34,30 +34,44 @@ unfolding slotsIn
 slots-suc w i zero = ap (λ (k : ℕ). slotAt w k ∷ []) (omega arith)
 slots-suc w i (suc n) = ap (λ (l : List Slot). slotAt w i ∷ l) (slots-suc w (suc i) n ∙ ap (λ (k : ℕ). slotsIn w (suc i) n ++ slotAt w k ∷ []) (omega arith))
 
-next-stored : (w : List ℕ) (at left : ℕ) → set (slotsIn w 0 at ++ replicate (suc left) absent) at (slotAt w at) ≡ slotsIn w 0 (suc at) ++ replicate left absent
-next-stored w at left =
-    set-at (slotsIn w 0 at) absent (replicate left absent) (slotAt w at) at (slots-length w 0 at)
-    ∙ sym (append-snoc (slotsIn w 0 at) (slotAt w at) (replicate left absent))
+-- the next slot with those read so far
+next-read : (w : List ℕ) (at left : ℕ) → slotsIn w 0 at ++ slotAt w at ∷ replicate left absent ≡ slotsIn w 0 (suc at) ++ replicate left absent
+next-read w at left =
+    sym (append-snoc (slotsIn w 0 at) (slotAt w at) (replicate left absent))
     ∙ ap (λ (l : List Slot). l ++ replicate left absent) (ap (λ (k : ℕ). slotsIn w 0 at ++ slotAt w k ∷ []) {x = at} {y = 0 + at} (omega arith) ∙ sym (slots-suc w 0 at))
 
 -- the slots read so far, with absent ones behind them
 abbrev pub slotsSoFar : List ℕ → (at left : ℕ) → List Slot
 slotsSoFar w at left = slotsIn w 0 at ++ replicate left absent
 
--- and the next one stored
-pub slot-stored : (w : List ℕ) (l : List Slot) (v : Value) (at left : ℕ) → 0 < left → l ≡ slotsSoFar w at left → v ≡ slotIn w at
-    → set l at (record { value = v }) ≡ slotsSoFar w (at + 1) (left - 1)
-slot-stored w l v at zero h e f = absurd (omega (arith, h))
-slot-stored w l v at (suc left) h e f =
-    (λ i. set (e i) at (record { value = f i }))
-    ∙ next-stored w at left
-    ∙ (λ i. slotsSoFar w (one i) (less i))
+-- one slot more
+so-far-on : (w : List ℕ) (at left : ℕ) → slotsSoFar w (suc at) left ≡ slotsSoFar w (at + 1) (suc left - 1)
+so-far-on w at left = (λ i. slotsSoFar w (one i) (less i))
   where
     one : suc at ≡ at + 1
     one = omega arith
 
     less : left ≡ suc left - 1
     less = omega arith
+
+-- the next one stored
+pub slot-stored : (w : List ℕ) (l : List Slot) (v : Value) (at left : ℕ) → 0 < left → l ≡ slotsSoFar w at left → v ≡ slotIn w at
+    → set l at (record { value = v }) ≡ slotsSoFar w (at + 1) (left - 1)
+slot-stored w l v at zero h e f = absurd (omega (arith, h))
+slot-stored w l v at (suc left) h e f =
+    (λ i. set (e i) at (record { value = f i }))
+    ∙ set-at (slotsIn w 0 at) absent (replicate left absent) (slotAt w at) at (slots-length w 0 at)
+    ∙ next-read w at left
+    ∙ so-far-on w at left
+
+-- or absent, as it stands there already
+pub slot-kept : (w : List ℕ) (l : List Slot) (at left : ℕ) → 0 < left → l ≡ slotsSoFar w at left → Value.Absent ≡ slotIn w at → l ≡ slotsSoFar w (at + 1) (left - 1)
+slot-kept w l at zero h e f = absurd (omega (arith, h))
+slot-kept w l at (suc left) h e f =
+    e
+    ∙ (λ i. slotsIn w 0 at ++ record { value = f i } ∷ replicate left absent)
+    ∙ next-read w at left
+    ∙ so-far-on w at left
 
 pub slots-none : (w : List ℕ) (l : List Slot) → l ≡ replicate 128 absent → l ≡ slotsSoFar w 0 128
 unfolding slotsIn

@@ -40,8 +40,8 @@ fn says_absent(words: &[u64], name: usize) -> bool
     false
 }
 
-// What a slot's words hold: most slots are absent, so that is asked first. Words that are no value, and do not say that it is absent, are an
-// Optional, which no binding gives a name.
+// What a slot's words hold.
+// Words that are no value, and do not say that it is absent, are an Optional, which no binding gives a name.
 fn slot_in(words: &[u64], name: usize) -> Value
     ensures { λ r. ⌜ r ≡ slotIn (now (words .entry)) name ⌝ }
 {
@@ -56,6 +56,7 @@ fn slot_in(words: &[u64], name: usize) -> Value
     }
 }
 
+// The scope begins with each slot absent, and most stay so: those are not stored again.
 fn scope_in(words: &[u64]) -> Scope
     ensures { λ r. ⌜ r ≡ scopeIn (now (words .entry)) ⌝ }
 {
@@ -63,10 +64,12 @@ fn scope_in(words: &[u64]) -> Scope
     let mut at = 0;
     let mut left = NAMES;
     while 0 < left {
-        let slot = Slot {
-            value: slot_in(words, at),
-        };
-        scope.slots[at] = slot;
+        if !says_absent(words, at) {
+            let slot = Slot {
+                value: slot_in(words, at),
+            };
+            scope.slots[at] = slot;
+        }
         at += 1;
         left -= 1;
     }
