@@ -62,11 +62,14 @@ fn slots_fit(cells: &[u64], text: &[u8], used: usize, bytes: usize, scope: Scope
 }
 
 // The cells below the used count are judged one by one, each by what it says and what the cells it refers to say.
+// The slots are judged first, which saves a copy of the scope; a bad cell is answered all the same.
 pub fn sound(cells: &[u64], text: &[u8], bindings: Bindings) -> Soundness
     ensures { λ r. ⌜ r ≡ soundOf (now (cells .entry)) (now (text .entry)) bindings ⌝ }
 {
     let used = lesser(bindings.cells, cell_room(cells));
     let bytes = lesser(bindings.bytes, text_room(text));
+    let scope = bindings.scope;
+    let fit = slots_fit(cells, text, used, bytes, scope);
     let bad = first_bad(cells, text, used, bytes);
     if bad < used {
         return Soundness::Unsound(bad);
@@ -77,8 +80,7 @@ pub fn sound(cells: &[u64], text: &[u8], bindings: Bindings) -> Soundness
     if bytes < bindings.bytes {
         return Soundness::Unsound(0);
     }
-    let scope = bindings.scope;
-    if slots_fit(cells, text, used, bytes, scope) {
+    if fit {
         Soundness::Sound
     } else {
         Soundness::Unsound(0)
