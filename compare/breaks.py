@@ -107,6 +107,8 @@ def main() -> None:
     numbers = [number for number in wanted if BREAKS[number].model or not arguments.model]
     missed = [number for number in numbers if not tried(number, arguments)]
     print(f"{len(numbers)} tried, {len(missed)} not found")
+    if not numbers:
+        sys.exit("nothing was tried")
     sys.exit(bool(missed))
 
 
