@@ -1,30 +1,27 @@
 -- What is known of a binding that is accepted; and the ways through `judge_all` and `bring_in`, over plain variables. Assumes nothing.
-use Prim.Native.Nat.{ℕ, zero, suc, _+_, _≤_, _<_}
+use Prim.Native.Nat.{ℕ, _+_, _≤_, _<_}
 use mathlib.Core.Path.{_≡_, refl, sym, ap, _∙_}
-use mathlib.Core.List.{List, []}
-use mathlib.Core.Bool.{Bool, true, false, not, _&&_, cond}
-use mathlib.Core.Option.{Option, none, some}
+use mathlib.Core.List.{List}
+use mathlib.Core.Bool.{Bool, true, false, _&&_, cond}
+use mathlib.Core.Option.{none, some}
 use native.Mathlib.Omega.{arith}
 use lib.Dec.{leb, ltb}
-use lib.ListN.{length, getD}
+use lib.ListN.{length}
 use borrow.Author.Tests.{leb-true, lt-ltb, le-ltb, ltb-true}
-use Rattle.meaning.specs.Limits.{deepestValue}
-use Rattle.meaning.specs.Errors.{Refusal, UnsoundBinding, BindingRoomFull, WrongField, NameBound, TableLength, refusalNumber}
+use Rattle.meaning.specs.Errors.{UnsoundBinding, BindingRoomFull, WrongField, NameBound, TableLength, refusalNumber}
 use Rattle.meaning.specs.Value as Meaning
 use Rattle.meaning.specs.Expr.{Expr}
 use Rattle.meaning.specs.Kinds.{nameOf}
 use Rattle.meaning.specs.Heads.{Got, got, refused, _>>=_, _>>_, demand, orRefuse, start}
-use Rattle.meaning.specs.Table.{Part, bare, readTable, rootAt, wordBytes}
+use Rattle.meaning.specs.Table.{readTable, rootAt, wordBytes}
 use Rattle.meaning.specs.Bindings.{cellsOf, bytesOf}
 use Rattle.meaning.specs.Spelling.{Literal, literalOf, literalNesting, spelled, spelledRoot}
 use Rattle.laws.specs.Each.{Reads}
 use Rattle.laws.proofs.Fine.{Perhaps}
-use Rattle.laws.proofs.Reading.{reads-got, reads-refused, reads-bind, reads-bind-any, reads-demand, reads-orRefuse, reads-itself, was-read}
-use Rattle.table.specs.declared.Checked.{Checked}
+use Rattle.laws.proofs.Reading.{reads-got, reads-refused, reads-bind, reads-demand, reads-orRefuse, reads-itself, was-read}
 use Rattle.table.specs.declared.Checked.the-variants as Checked
 use Rattle.table.specs.Check.{verdict, checkOf}
 use Rattle.accepted.specs.Records.{exprOf, partOf, Sound, SoundPart}
-use Rattle.accepted.specs.Opened.{AcceptedTable}
 use Rattle.accepted.proofs.Accepted as table
 use Rattle.rooms.specs.declared.value.Value.{Value}
 use Rattle.building.specs.Building.{cellRoom, textRoom}

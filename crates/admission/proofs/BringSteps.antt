@@ -1,32 +1,27 @@
 -- The ways through `judge_table`, `judge_all` and `bring_in`, over plain variables. Assumes nothing.
-use Prim.Native.Nat.{ℕ, zero, suc, _+_, _-_, _≤_, _<_}
+use Prim.Native.Nat.{ℕ, _+_, _-_, _≤_, _<_}
 use mathlib.Core.Path.{_≡_, refl, sym, ap, _∙_}
-use mathlib.Core.List.{List, []}
-use mathlib.Core.Bool.{Bool, true, false, not, _&&_, cond}
-use mathlib.Core.Option.{Option, none, some}
+use mathlib.Core.List.{List}
+use mathlib.Core.Bool.{Bool, true, false, _&&_}
 use native.Mathlib.Omega.{arith}
-use lib.Dec.{leb, ltb}
-use lib.ListN.{length, getD}
-use borrow.Author.Tests.{le-leb, lt-leb, leb-true, leb-false, lt-ltb, le-ltb, ltb-true}
-use Rattle.meaning.specs.Errors.{Refusal, UnsoundBinding, NotALiteral, BindingRoomFull, WrongField, NameBound, refusalNumber}
+use lib.Dec.{leb}
+use lib.ListN.{getD}
+use borrow.Author.Tests.{le-leb, lt-leb, leb-true, leb-false}
+use Rattle.meaning.specs.Errors.{Refusal, UnsoundBinding, BindingRoomFull}
 use Rattle.meaning.specs.Value.{Value}
-use Rattle.meaning.specs.Expr.{Expr, literal}
-use Rattle.meaning.specs.Kinds.{nameOf}
-use Rattle.meaning.specs.Heads.{Got, got, refused, _>>=_, _>>_, demand, orRefuse, start}
-use Rattle.meaning.specs.Table.{Part, bare, readTable}
+use Rattle.meaning.specs.Expr.{Expr}
+use Rattle.meaning.specs.Heads.{Got, got, refused, _>>=_, _>>_, demand, start}
 use Rattle.meaning.specs.Bindings.{cellsOf, bytesOf}
-use Rattle.meaning.specs.Spelling.{Literal, scalarAt, listAt, mapAt, literalOf, placeOf, literalNesting, spelled, spelledRoot}
-use Rattle.laws.specs.Each.{Reads}
+use Rattle.meaning.specs.Spelling.{Literal, literalOf, placeOf, literalNesting, spelled, spelledRoot}
 use Rattle.laws.proofs.Reading.{was-read}
 use Rattle.laws.proofs.SpelledReasons.{literal-reason, root-reason, root-refused}
 use Rattle.accepted.specs.Records.{exprOf, partOf, Sound}
-use Rattle.findings.specs.declared.Fault.{Fault}
 use Rattle.findings.specs.declared.Fault.the-variants.{At, Nowhere}
 use Rattle.findings.specs.declared.Judged.{Judged}
 use Rattle.admission.specs.declared.Answer.{Answer}
 use Rattle.admission.specs.declared.Answer.the-variants.{Done, Refused}
 use Rattle.scalars.specs.Literals.{literalIn}
-use Rattle.findings.specs.Judging.{faultIn, keysIn, cellsFor, bytesFor, judgedOf, judgedPart}
+use Rattle.findings.specs.Judging.{faultIn, cellsFor, bytesFor, judgedOf, judgedPart}
 use Rattle.admission.specs.Bringing.{literalFor, said}
 use Rattle.scalars.proofs.LiteralLaws.{View, aScalar, aList, aMap, another, view}
 use Rattle.scalars.proofs.PartLaws.{bare-part}

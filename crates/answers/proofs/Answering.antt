@@ -3,9 +3,7 @@
 use Prim.Native.Nat.{ℕ, min}
 use mathlib.Core.Path.{_≡_, refl, sym, ap, _∙_, subst}
 use mathlib.Core.List.{List}
-use mathlib.Core.Option.{some}
 use native.Mathlib.Omega.{arith}
-use lib.ListN.{length}
 use Rattle.meaning.specs.Limits.{nothingYet, cut, mostSteps}
 use Rattle.meaning.specs.Errors as Errors
 use Rattle.meaning.specs.Errors.{aBool, anIterable, errorNumber}
@@ -19,7 +17,6 @@ use Rattle.meaning.specs.Heads.{Got, got, refused, _>>=_}
 use Rattle.meaning.specs.Table.{readTable}
 use Rattle.meaning.specs.Bindings.{scopeOf}
 use Rattle.meaning.specs.Answer.{ran, answerRun, answerRead}
-use Rattle.rooms.specs.declared.scope.Scope.{Scope}
 use Rattle.rooms.specs.Rooms.{Rooms, rooms}
 use Rattle.rooms.specs.Scope.{StandsSlot, StandsScope, slotOf}
 use Rattle.rooms.specs.Stands.{Alive}

@@ -3,7 +3,6 @@ use Prim.Native.Nat.{_*_}
 use mathlib.Core.Path.{_≡_}
 use mathlib.Core.List.{List}
 use lib.ListN.{length, drop}
-use Rattle.meaning.specs.Limits.{Counts}
 use Rattle.meaning.specs.Limited.{Cell}
 use Rattle.rooms.specs.Rooms.{Rooms}
 use Rattle.machine.specs.Answer.{CellsHave}

@@ -14,7 +14,7 @@ use Rattle.rooms.specs.Value.{plainOf, partsOf}
 use Rattle.rooms.proofs.value.Plain.{the-type}
 use Rattle.rooms.specs.Rooms.{Rooms}
 use Rattle.machine.specs.declared.outcome.Used.{Used}
-use Rattle.machine.specs.Outcomes.{Res, noOverload}
+use Rattle.machine.specs.Outcomes.{noOverload}
 use Rattle.machine.specs.Numbers.{onlyAdd, partsArith, plainArith, arithmetic}
 use Rattle.listsum.specs.ListSums.{sumParts}
 use Rattle.arithmetic.specs.Sums.{sumPlain, sumOf}

@@ -2,15 +2,12 @@
 use Prim.Native.Nat.{ℕ, zero, suc, _+_, _-_, _*_, _/_, _≤_, _<_, min}
 use mathlib.Core.Path.{_≡_, refl, sym, ap, _∙_}
 use mathlib.Core.List.{List, [], _∷_}
-use mathlib.Core.Bool.{true, false, cond}
 use native.Mathlib.Omega.{arith}
 use native.Mathlib.Numerals.{add-one}
-use lib.Dec.{leb}
 use lib.ListN.{length, getD, set}
 use borrow.Author.Tests.{le-leb, lt-leb}
 use Rattle.rooms.specs.declared.value.CellSpace.{CellSpace}
 use Rattle.rooms.specs.declared.value.TextSpace.{TextSpace}
-use Rattle.building.specs.declared.Taken.{Taken}
 use Rattle.building.specs.declared.Taken.the-variants as Taken
 use Rattle.rooms.specs.Cells.{cellIn, writtenIn}
 use Rattle.rooms.specs.Rooms.{wordsOf, textOf}

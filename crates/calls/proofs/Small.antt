@@ -2,7 +2,7 @@
 use Prim.Native.Nat.{ℕ, _≤_}
 use mathlib.Core.List.{List}
 use native.Mathlib.Omega.{arith}
-use lib.ListN.{length, take, drop, length-take}
+use lib.ListN.{take, drop, length-take}
 use Rattle.text.specs.Utf8.{codePoints}
 use Rattle.text.proofs.Utf8Laws.{code-points-length}
 

@@ -32,7 +32,6 @@ use Rattle.machine.proofs.AnyCells.{words-fit}
 use Rattle.machine.proofs.AcceptedTables.{read-accepted}
 use Rattle.machine.proofs.Answering.{begins}
 use Rattle.machine.proofs.Refine.{refines}
-use Rattle.answers.specs.declared.Answer.{Answer}
 use Rattle.answers.specs.declared.Answer.the-variants as Answer
 use Rattle.answers.specs.Evaluated.{asAnswer, accepted, after, evaluated}
 use Rattle.answers.specs.Promised.{Lent}

@@ -1,9 +1,7 @@
 -- A head below the first kind that has fields is a kind alone. Assumes nothing.
 use Prim.Native.Nat.{ℕ, _<_, _%_}
 use mathlib.Core.Path.{_≡_, refl}
-use mathlib.Core.Bool.{cond}
 use native.Mathlib.Omega.{arith}
-use lib.Dec.{eqb}
 use borrow.Author.Tests.{eq-eqb, ne-eqb}
 use Rattle.rooms.specs.Cells.{cellOf, valueOf, bareOf}
 

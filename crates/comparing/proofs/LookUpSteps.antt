@@ -8,7 +8,6 @@ use lib.Dec.{ltb}
 use borrow.Author.Tests.{lt-ltb, le-ltb}
 use Rattle.rooms.specs.declared.value.Value.{Value}
 use Rattle.rooms.specs.declared.value.CellSpace.{CellSpace}
-use Rattle.comparing.specs.declared.lookup.Found.{Found}
 use Rattle.comparing.specs.declared.lookup.Found.the-variants as Found
 use Rattle.rooms.specs.Rooms.{Rooms, cellAt}
 use Rattle.comparing.specs.Seen.{sameSeen, seenIn}

@@ -8,7 +8,6 @@ use Rattle.meaning.specs.Value.{null, bool, int, uint, double, string, bytes, s
 use Rattle.meaning.specs.Comparison as Comparison
 use Rattle.meaning.specs.Comparison.{scalarEqual, against}
 use Rattle.rooms.specs.declared.value.Value.{Value}
-use Rattle.rooms.specs.declared.value.Parts.{Parts}
 use Rattle.rooms.specs.declared.value.Parts.the-variants as Parts
 use Rattle.rooms.specs.Value.{partsOf, doubleValue}
 use Rattle.rooms.specs.Rooms.{Rooms}

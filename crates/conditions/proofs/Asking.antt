@@ -12,7 +12,6 @@ use Rattle.machine.specs.Views.{boolIn}
 use Rattle.machine.specs.Logic.{branch}
 use Rattle.machine.specs.Comprehension.{asks}
 use Rattle.conditions.specs.declared.Asked.{Asked}
-use Rattle.conditions.specs.declared.Asked.the-variants as Asked
 use Rattle.conditions.specs.Decisions.{askedBool, askedOf, onAsked}
 
 module _ (p : ℕ) (holds fails : Used → Rooms → Res) where

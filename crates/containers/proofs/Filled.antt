@@ -28,7 +28,6 @@ use Rattle.containers.specs.declared.Begun.{Begun}
 use Rattle.containers.specs.declared.Begun.the-variants as Begun
 use Rattle.containers.specs.declared.Ready.{Ready}
 use Rattle.containers.specs.declared.Key.{Key}
-use Rattle.containers.specs.declared.Key.the-variants as Key
 use Rattle.containers.specs.declared.Entry.{Entry}
 use Rattle.containers.specs.Filling.{begunTo, begunOf, BegunIn, onBegun, addedOf, AddedIn, keyedIf, keyedOf, onKey, insertedIf, enteredOf, EntryIn, onEntry}
 

@@ -1,10 +1,10 @@
 -- Bytes copied from a slice that is not written: where the slice stands makes no difference. Assumes nothing.
 use Prim.Native.Nat.{ℕ, zero, suc, _+_, _-_, _≤_, _<_}
-use mathlib.Core.Path.{_≡_, refl, sym, ap, _∙_}
+use mathlib.Core.Path.{_≡_, refl, ap}
 use mathlib.Core.List.{List}
-use mathlib.Core.Bool.{Bool, true, false, cond}
+use mathlib.Core.Bool.{Bool, cond}
 use native.Mathlib.Omega.{arith}
-use lib.ListN.{length, getD, set}
+use lib.ListN.{getD, set}
 use Rattle.rooms.specs.declared.value.TextSpace.the-variants.{Literal, Binding}
 use Rattle.building.specs.Building.{pasted}
 use Rattle.building.proofs.BuildingSteps.{paste-on, paste-none}

@@ -184,12 +184,12 @@ module _ (L : Alive) (r : Rooms) (limit : ℕ) where
         (λ w c g j. equal-ok v w n (cellAt r s (suc a)) (cellAt r t c) j (first-value key v es n d) (h .3) g)
         (λ j. entries-ok es fs n s (suc (suc a)) t b j (other-values key v es n d) (h .4) i)
 
-  -- `equality::equal` answers what the definition's `equal` does, after as many pairs; `Out` exactly where a pair would pass the limit.
+  -- `equals::equal` answers what the definition's `equal` does, after as many pairs; `Out` exactly where a pair would pass the limit.
   pub equal-pairs : (v w : Meaning.Value) (x y : Value) (k : ℕ) → Stands v L r x → Stands w L r y → equalPairs limit r x y k ≡ paid limit k (equal v w)
   unfolding equalPairs
   equal-pairs v w x y k h i = equal-ok v w (suc (nestingOf x)) x y k (omega (arith, stands-nesting L r v x h)) h i
 
-  -- `equality::among` likewise is `among`.
+  -- `searching::among` likewise is `among`.
   pub among-ok : (v : Meaning.Value) (ws : Meaning.Values) (x : Value) (space : CellSpace) (a k : ℕ) → Stands v L r x → StandsCells ws L r space a → amongIn limit r x space a (count ws) k ≡ paid limit k (among v ws)
   unfolding Stands amongIn among count paid
   among-ok v nil x space a k h i = refl

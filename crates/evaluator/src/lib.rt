@@ -17,7 +17,7 @@ use soundness::Bindings;
 use soundness::Soundness;
 use table::Checked;
 
-// The table is accepted and the binding room is sound.
+// An accepted table, run from nothing and ended. `evaluate` has judged the binding room before; nothing here asks that it did.
 fn run(
     table: &[u8],
     literal: &[u8],

@@ -2,7 +2,7 @@
 -- nests; the first key that is none or that matches one before it; and how many cells and bytes it takes.
 use Prim.Native.Nat.{ℕ, zero, suc, _+_, _*_, _≤_, max}
 use mathlib.Core.List.{List, [], _∷_, _++_}
-use mathlib.Core.Bool.{Bool, true, false, not, _&&_, _||_, cond}
+use mathlib.Core.Bool.{Bool, false, not, _&&_, _||_, cond}
 use Rattle.meaning.specs.Value.{Scalar, keyIn}
 use Rattle.meaning.specs.Comparison.{scalarEqual}
 use Rattle.meaning.specs.Expr.{Expr, Elements, Pairs}

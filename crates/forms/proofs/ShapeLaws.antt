@@ -25,9 +25,7 @@ use Rattle.outcomes.specs.declared.operators.Comparison.{Comparison}
 use Rattle.outcomes.specs.declared.operators.Comparison.the-variants as Comparison
 use Rattle.outcomes.specs.declared.operators.Binary.{Binary}
 use Rattle.outcomes.specs.declared.operators.Binary.the-variants as Binary
-use Rattle.outcomes.specs.declared.operators.Function.{Function}
 use Rattle.outcomes.specs.Seen.{foldSeen, arithSeen, comparisonSeen, unarySeen, binarySeen, functionSeen}
-use Rattle.following.specs.declared.Fixed.{Fixed}
 use Rattle.following.specs.declared.Fixed.the-variants as Fixed
 use Rattle.forms.specs.declared.Shape.{Shape}
 use Rattle.forms.specs.declared.Shape.the-variants as Shape

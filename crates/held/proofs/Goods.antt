@@ -1,8 +1,8 @@
 -- What follows for a value that fits a binding room, and for each cell of a sound one. Assumes nothing.
-use Prim.Native.Nat.{ℕ, zero, suc, _+_, _*_, _-_, _≤_, _<_, max}
+use Prim.Native.Nat.{ℕ, zero, suc, _+_, _*_, _≤_, _<_}
 use mathlib.Core.Path.{_≡_, refl, sym, ap, _∙_}
-use mathlib.Core.List.{List, []}
-use mathlib.Core.Bool.{Bool, true, false, not, _&&_, _||_, cond}
+use mathlib.Core.List.{List}
+use mathlib.Core.Bool.{Bool, true, false, _&&_, cond}
 use native.Mathlib.Omega.{arith}
 use lib.Dec.{leb, eqb, ltb}
 use borrow.Author.Tests.{le-leb, leb-true, le-ltb, eqb-true, eqb-false, ltb-false}
@@ -20,10 +20,9 @@ use Rattle.rooms.specs.Rooms.{part}
 use Rattle.building.specs.Building.{cellRoom, textRoom}
 use Rattle.rooms.specs.Scope.{slotOf}
 use Rattle.soundness.specs.declared.Bindings.{Bindings}
-use Rattle.soundness.specs.declared.Soundness.{Soundness}
 use Rattle.soundness.specs.declared.Soundness.the-variants.{Sound, Unsound}
-use Rattle.mapkeys.specs.Keys.{isKey, repeatedIn, keysFit}
-use Rattle.references.specs.Fits.{deepestIn, spanFits, stringFits, rowFits, mapFits, valueFits, isAbsent, slotFits}
+use Rattle.mapkeys.specs.Keys.{keysFit}
+use Rattle.references.specs.Fits.{deepestIn, spanFits, stringFits, rowFits, mapFits, valueFits, slotFits}
 use Rattle.soundness.specs.Sound.{cellFits, firstBad, slotsFit, usedCells, usedBytes, soundOf}
 use Rattle.held.specs.SoundRoom.{SoundRoom}
 

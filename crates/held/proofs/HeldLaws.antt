@@ -1,31 +1,30 @@
 -- Each value that fits a room with good cells stands for a value of the definition, the same one whatever lies outside of the room.
 -- By the depth to which it nests. Assumes nothing.
-use Prim.Native.Nat.{ℕ, zero, suc, _+_, _*_, _-_, _≤_, _<_, max}
+use Prim.Native.Nat.{ℕ, zero, suc, _+_, _*_, _≤_, _<_, max}
 use mathlib.Core.Path.{_≡_, refl, sym, ap, _∙_}
 use mathlib.Core.List.{List, []}
 use mathlib.Core.Bool.{Bool, true, false, not, cond}
 use native.Mathlib.Omega.{arith}
-use lib.ListN.{length, take, drop, length-take, length-drop}
+use lib.ListN.{length, length-take, length-drop}
 use Rattle.numbers.specs.declared.double.Double.the-variants as Double
 use Rattle.numbers.specs.Double.{bitsOf}
-use Rattle.text.specs.Utf8.{wellFormed}
 use Rattle.meaning.specs.Value as Meaning
-use Rattle.meaning.specs.Value.{null, bool, int, uint, double, string, bytes, scalar, list, map, nil, cons, empty, entry, Key, intKey, uintKey, boolKey, stringKey, keyScalar, nesting, nestingIn, nestingOver, count, countEntries}
+use Rattle.meaning.specs.Value.{null, bool, int, uint, double, string, bytes, scalar, list, map, nil, cons, empty, entry, Key, intKey, uintKey, boolKey, stringKey, keyScalar, nestingIn, nestingOver, count, countEntries}
 use Rattle.rooms.specs.declared.value.Value.{Value}
 use Rattle.rooms.specs.declared.value.Value.the-variants as Value
 use Rattle.rooms.specs.declared.value.TextSpace.{TextSpace}
 use Rattle.rooms.specs.declared.value.TextSpace.the-variants as Text
 use Rattle.rooms.specs.declared.value.CellSpace.{CellSpace}
 use Rattle.rooms.specs.declared.value.CellSpace.the-variants as Cells
-use Rattle.rooms.specs.Value.{nestingOf, doubleValue}
+use Rattle.rooms.specs.Value.{nestingOf}
 use Rattle.rooms.specs.Cells.{cellIn}
-use Rattle.rooms.specs.Rooms.{Rooms, rooms, cellAt, part}
-use Rattle.rooms.specs.Stands.{Alive, TextAt, StandsScalar, Stands, StandsCells, StandsEntries}
+use Rattle.rooms.specs.Rooms.{rooms, cellAt, part}
+use Rattle.rooms.specs.Stands.{TextAt, StandsScalar, Stands, StandsCells, StandsEntries}
 use Rattle.rooms.proofs.Depths.{stands-nesting}
 use Rattle.mapkeys.specs.Keys.{isKey, repeatedIn, keysFit}
 use Rattle.references.specs.Fits.{deepestIn, valueFits}
 use Rattle.held.specs.Held.{aliveBelow}
-use Rattle.held.proofs.Goods.{both-true, Span, span-good, string-good, Row, row-good, map-good}
+use Rattle.held.proofs.Goods.{both-true, Span, span-good, string-good, row-good, map-good}
 
 never : {A : Type 0} {b : Bool} → b ≡ true → b ≡ false → A
 never e f = let z : true ≡ false = sym e ∙ f in let y : _≡_ {A = ℕ} 1 0 = ap (λ b. cond b 1 0) z in absurd (omega arith)

@@ -1,27 +1,23 @@
 -- The scope of a sound room: each slot stands for the value that is read out of it, in every rooms that have these bindings; and that scope
 -- is the one of a binding room of the definition. Assumes nothing.
 use Prim.Native.Nat.{ℕ, zero, suc, _+_, _≤_, _<_}
-use mathlib.Core.Path.{_≡_, refl, sym, ap, _∙_}
-use mathlib.Core.List.{List, [], _∷_}
+use mathlib.Core.Path.{_≡_, refl, sym, _∙_}
+use mathlib.Core.List.{List, []}
 use mathlib.Core.Option.{Option, none, some}
-use mathlib.Core.Bool.{Bool, true, false, cond, _||_}
+use mathlib.Core.Bool.{Bool, true, false, _||_}
 use native.Mathlib.Omega.{arith}
 use lib.Dec.{eqb, ltb}
 use lib.ListN.{length}
-use borrow.Author.Tests.{eqb-true, eqb-false, eq-eqb, ne-eqb, ltb-true, ltb-false}
+use borrow.Author.Tests.{eqb-true, eqb-false, ne-eqb, ltb-true, ltb-false}
 use Rattle.meaning.specs.Value as Meaning
-use Rattle.meaning.specs.Value.{nesting}
-use Rattle.meaning.specs.Limits.{deepestValue}
 use Rattle.meaning.specs.Comprehension as Loops
 use Rattle.meaning.specs.Comprehension.{emptyScope, store}
 use Rattle.meaning.specs.Bindings.{boundIn, scopeOf}
 use Rattle.rooms.specs.declared.value.Value.{Value}
 use Rattle.rooms.specs.declared.value.Value.the-variants as Value
-use Rattle.rooms.specs.Value.{nestingOf}
 use Rattle.rooms.specs.Cells.{Fits}
 use Rattle.rooms.specs.Rooms.{rooms}
-use Rattle.rooms.specs.Reading.{readBy, readTo, reading}
-use Rattle.rooms.specs.Stands.{Alive, Stands, Holds}
+use Rattle.rooms.specs.Reading.{readTo, reading}
 use Rattle.rooms.specs.Scope.{slotOf, StandsSlot, StandsScope}
 use Rattle.rooms.proofs.Depths.{stands-nesting}
 use Rattle.rooms.proofs.ReadBack.{reads}

@@ -1,35 +1,31 @@
 -- What records come to together is what the definition says of the record that holds them. Assumes nothing.
-use Prim.Native.Nat.{ℕ, zero, suc, _+_, _*_, _-_, _≤_, _<_, max}
-use mathlib.Core.Path.{_≡_, refl, sym, ap, _∙_}
+use Prim.Native.Nat.{ℕ, suc, _+_, _<_, max}
+use mathlib.Core.Path.{_≡_, refl, sym, _∙_}
 use mathlib.Core.List.{List, [], _∷_, _++_}
-use mathlib.Core.Bool.{Bool, true, false, cond}
+use mathlib.Core.Bool.{Bool, true, false}
 use native.Mathlib.Omega.{arith}
 use native.Mathlib.Numerals.{add-one}
 use lib.Dec.{eqb}
 use borrow.Author.Tests.{eqb-true, eqb-false}
-use lib.ListN.{length, getD}
+use lib.ListN.{getD}
 use Rattle.meaning.specs.Errors.{NotALiteral}
-use Rattle.meaning.specs.Value.{Scalar, null}
 use Rattle.meaning.specs.Bindings.{textBytes}
-use Rattle.meaning.specs.Expr.{Expr, literal, listOf, mapOf, Elements, noElements, element, markedElement, Pairs, noPairs, pair, markedPair}
+use Rattle.meaning.specs.Expr.{Expr, listOf, mapOf, Elements, Pairs}
 use Rattle.meaning.specs.Heads.{Got, got, refused, _>>=_, _>>_}
 use Rattle.meaning.specs.Table.{Part, bare, marked, addElement, addPair}
-use Rattle.meaning.specs.Spelling.{Literal, scalarAt, listAt, mapAt, Literals, noLiterals, literals, LiteralPairs, noLiteralPairs, literalPairs, literalOf, literalsOf, literalPairsOf, literalNesting, literalsNesting, literalPairsNesting}
+use Rattle.meaning.specs.Spelling.{Literal, listAt, mapAt, literals, LiteralPairs, literalPairs, literalOf, literalsOf, literalPairsOf, literalNesting, literalsNesting, literalPairsNesting}
 use Rattle.layout.specs.Layout.{wordAt}
-use Rattle.layout.specs.Layout.{after}
-use Rattle.accepted.specs.Records.{exprOf, partOf, Sound, SoundPart, elementsOf, pairsOf}
-use Rattle.accepted.specs.Opened.{Marked}
+use Rattle.accepted.specs.Records.{exprOf, partOf, SoundPart, elementsOf, pairsOf}
 use Rattle.accepted.proofs.Parts.{part-marked, part-bare}
 use Rattle.rooms.specs.declared.value.Value.{Value}
 use Rattle.rooms.specs.declared.value.Value.the-variants as Value
-use Rattle.references.specs.Fits.{isAbsent}
 use Rattle.findings.specs.declared.Fault.{Fault}
 use Rattle.findings.specs.declared.Fault.the-variants.{At, Nowhere}
 use Rattle.findings.specs.declared.Judged.{Judged}
-use Rattle.scalars.specs.Literals.{literalIn, literalsIn, literalPairsIn, literalValue, textLength, keysFrom}
-use Rattle.findings.specs.Judging.{firstOf, faultIn, keyFault, keysIn, keysAmong, keysOver, cellsFor, cellsAmong, cellsOver, bytesFor, bytesAmong, bytesOver, nothingJudged, joinedOf, withKey, deepenedOf, withoutParts, otherFault, judgedOf, judgedPart, judgedElements, judgedPairs}
-use Rattle.scalars.proofs.LiteralLaws.{Shows, View, aScalar, aList, aMap, another, view, no-literal}
-use Rattle.scalars.proofs.PartLaws.{ListAt, MapAt, list-at, map-at}
+use Rattle.scalars.specs.Literals.{literalIn, literalsIn, literalPairsIn, literalValue}
+use Rattle.findings.specs.Judging.{firstOf, faultIn, keyFault, keysIn, keysAmong, keysOver, cellsFor, cellsAmong, cellsOver, bytesFor, bytesAmong, bytesOver, nothingJudged, joinedOf, withKey, deepenedOf, withoutParts, judgedOf, judgedPart, judgedElements, judgedPairs}
+use Rattle.scalars.proofs.LiteralLaws.{View, aScalar, aList, aMap, another, view, no-literal}
+use Rattle.scalars.proofs.PartLaws.{ListAt, MapAt}
 
 -- ---- the first fault
 

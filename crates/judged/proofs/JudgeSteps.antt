@@ -1,5 +1,5 @@
--- The ways through `judging::judge`, over plain variables: a List, a Map, and a record without parts. Assumes nothing.
-use Prim.Native.Nat.{ℕ, zero, suc, _+_, _*_, _-_, _≤_, _<_}
+-- The ways through `judged::judge`, over plain variables: a List, a Map, and a record without parts. Assumes nothing.
+use Prim.Native.Nat.{ℕ, _+_, _*_, _-_, _≤_, _<_}
 use mathlib.Core.Path.{_≡_, refl, sym, ap, _∙_}
 use mathlib.Core.List.{List, []}
 use native.Mathlib.Omega.{arith}
@@ -12,7 +12,7 @@ use Rattle.findings.specs.declared.Judged.{Judged}
 use Rattle.scalars.specs.Literals.{literalValue, rowBytes, entryBytes, Operands, Entries}
 use Rattle.findings.specs.Judging.{deepenedOf, withoutParts, Small, judgedPart, judgedElements, judgedPairs}
 use Rattle.scalars.proofs.Heads.{list-head, map-head}
-use Rattle.scalars.proofs.Rows.{Place, part-place}
+use Rattle.scalars.proofs.Rows.{part-place}
 use Rattle.scalars.proofs.PartLaws.{ListAt, MapAt, list-at, map-at}
 use Rattle.judged.proofs.JudgeLaws.{list-judged, map-judged, leaf-judged}
 

@@ -1,18 +1,17 @@
 -- What the code finds of a table's keys is what the definition's spelling finds; and what the spelled value is, part by part, with the cells
 -- and the bytes that it takes. Assumes nothing.
-use Prim.Native.Nat.{ℕ, zero, suc, _+_, _≤_, _<_}
+use Prim.Native.Nat.{ℕ}
 use mathlib.Core.Path.{_≡_, refl, sym, ap, _∙_}
 use mathlib.Core.List.{List, [], _∷_, _++_}
 use mathlib.Core.Option.{Option, none, some}
 use mathlib.Core.Bool.{Bool, true, false, not, _&&_, _||_, cond}
 use native.Mathlib.Omega.{arith}
-use Rattle.meaning.specs.Errors.{Refusal, UnsoundBinding}
+use Rattle.meaning.specs.Errors.{UnsoundBinding}
 use Rattle.meaning.specs.Value.{Scalar, null, bool, int, uint, double, string, bytes, Key, intKey, uintKey, boolKey, stringKey, keyScalar, keyIn, Value, scalar, list, map, Values, nil, cons, Entries, empty, entry, addEntry}
 use Rattle.meaning.specs.Comparison.{scalarEqual, tick, find}
 use Rattle.meaning.specs.Maps.{isFound}
 use Rattle.meaning.specs.Expr.{Expr, literal, name, unary, binary, conditional, select, listOf, mapOf, comprehension, call, noneCall, orValue, Elements, noElements, element, markedElement, Pairs, noPairs, pair, markedPair}
 use Rattle.meaning.specs.Heads.{Got, got, refused, _>>=_, _>>_, demand}
-use Rattle.meaning.specs.Containers.{cellsAnEntry}
 use Rattle.meaning.specs.Bindings as meant
 use Rattle.meaning.specs.Bindings.{textBytes, cellsOf, bytesOf}
 use Rattle.meaning.specs.Spelling.{Literal, scalarAt, listAt, mapAt, Literals, noLiterals, literals, LiteralPairs, noLiteralPairs, literalPairs, literalOf, literalsOf, literalPairsOf, newKey, keyLiteral, spelled, spelledElements, spelledEntries}

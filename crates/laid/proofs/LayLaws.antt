@@ -1,7 +1,7 @@
 -- What is laid down: how much it takes and how deep it nests, and the parts of a Map as a row. Assumes nothing.
-use Prim.Native.Nat.{ℕ, zero, suc, _+_, _*_, _-_, _≤_, _<_, max}
-use mathlib.Core.Path.{_≡_, refl, sym, ap, _∙_}
-use mathlib.Core.List.{List, []}
+use Prim.Native.Nat.{ℕ, zero, suc, _+_, _*_, _≤_, max}
+use mathlib.Core.Path.{_≡_, refl, ap, _∙_}
+use mathlib.Core.List.{List}
 use native.Mathlib.Omega.{arith}
 use Rattle.numbers.specs.declared.double.Double.{Double}
 use Rattle.numbers.specs.declared.double.Double.the-variants as Double
@@ -16,7 +16,7 @@ use Rattle.accepted.specs.Records.{exprOf, partOf, elementsOf, pairsOf}
 use Rattle.rooms.specs.Value.{nestingOf, doubleValue}
 use Rattle.scalars.specs.Literals.{literalIn, literalsIn, literalPairsIn, partLiteral, rowLiterals, Entries}
 use Rattle.findings.specs.Judging.{cellsFor, cellsAmong, cellsOver, bytesFor, bytesAmong, bytesOver}
-use Rattle.scalars.specs.Laying.{Room, room, put, taking, laidScalar, countLiterals, countPairs, laid, laidRow, laidPairs, flat}
+use Rattle.scalars.specs.Laying.{Room, put, taking, laidScalar, countLiterals, countPairs, laid, laidRow, laidPairs, flat}
 use Rattle.scalars.proofs.PartLaws.{bare-part}
 
 -- ---- how much is used afterwards

@@ -1,7 +1,7 @@
--- The ways through `laying::lay` and a turn of `laying::lay_row`, over plain variables. Assumes nothing.
+-- The ways through `laid::lay` and a turn of `laid::lay_row`, over plain variables. Assumes nothing.
 use Prim.Native.Nat.{ℕ, zero, suc, _+_, _*_, _-_, _≤_, _<_, max}
 use mathlib.Core.Path.{_≡_, refl, sym, ap, _∙_}
-use mathlib.Core.List.{List, []}
+use mathlib.Core.List.{List}
 use mathlib.Core.Bool.{Bool, true, false}
 use native.Mathlib.Omega.{arith}
 use native.Mathlib.Numerals.{add-one}
@@ -10,28 +10,25 @@ use lib.ListN.{length, getD}
 use borrow.Author.Tests.{eqb-true, eqb-false}
 use Rattle.meaning.specs.Value.{null}
 use Rattle.meaning.specs.Bindings.{textBytes}
-use Rattle.meaning.specs.Expr.{Expr, literal}
-use Rattle.meaning.specs.Table.{Part, bare, marked}
-use Rattle.meaning.specs.Spelling.{Literal, scalarAt, listAt, mapAt, Literals, noLiterals, literals, LiteralPairs, literalNesting, literalsNesting, literalPairsNesting}
+use Rattle.meaning.specs.Table.{bare}
+use Rattle.meaning.specs.Spelling.{Literal, scalarAt, listAt, mapAt, Literals, literals, LiteralPairs, literalNesting, literalsNesting}
 use Rattle.layout.specs.Layout.{headBytes, wordAt}
 use Rattle.layout.specs.Layout.{after}
-use Rattle.accepted.specs.Records.{exprOf, partOf, elementsOf, pairsOf, Sound, SoundPart}
-use Rattle.accepted.specs.Opened.{Marked}
+use Rattle.accepted.specs.Records.{exprOf, partOf, pairsOf, SoundPart}
 use Rattle.accepted.proofs.Parts.{part-marked, part-bare}
 use Rattle.rooms.specs.declared.value.Value.{Value}
 use Rattle.rooms.specs.declared.value.Value.the-variants as Value
-use Rattle.rooms.specs.declared.value.TextSpace.the-variants as Text
 use Rattle.rooms.specs.declared.value.CellSpace.the-variants as Cells
 use Rattle.rooms.specs.Value.{nestingOf}
 use Rattle.rooms.specs.Cells.{writtenIn}
 use Rattle.building.specs.Building.{pasted}
 use Rattle.rooms.proofs.CellLaws.{written-length}
-use Rattle.scalars.specs.Literals.{literalIn, literalsIn, literalPairsIn, partLiteral, literalValue, textLength, textFirst, movedTo, rowBytes, entryBytes, rowLiterals, Operands, Entries}
-use Rattle.findings.specs.Judging.{cellsFor, cellsAmong, cellsOver, bytesFor, bytesAmong, bytesOver}
-use Rattle.scalars.specs.Laying.{Room, room, put, taking, laidScalar, countLiterals, countPairs, laid, laidRow, laidPairs, flat}
+use Rattle.scalars.specs.Literals.{literalIn, literalPairsIn, partLiteral, literalValue, textLength, rowBytes, entryBytes, rowLiterals, Operands, Entries}
+use Rattle.findings.specs.Judging.{cellsFor, cellsAmong, bytesFor, bytesAmong}
+use Rattle.scalars.specs.Laying.{Room, room, put, laidScalar, laid, laidRow, flat}
 use Rattle.scalars.proofs.Heads.{list-head, map-head}
-use Rattle.scalars.proofs.Rows.{Place, part-place, first-part, first-bytes}
-use Rattle.scalars.proofs.LiteralLaws.{Shows, Moved, View, aScalar, aList, aMap, another, view, no-literal}
+use Rattle.scalars.proofs.Rows.{first-part, first-bytes}
+use Rattle.scalars.proofs.LiteralLaws.{Moved, View, aScalar, aList, aMap, another, view, no-literal}
 use Rattle.scalars.proofs.PartLaws.{bare-part, ListAt, MapAt, list-at, map-at}
 use Rattle.laid.proofs.LayLaws.{laid-cells, laid-bytes, laid-nesting, pairs-row, flat-nesting, flat-cells, flat-bytes, elements-row, row-count, count-cells, pairs-count, entries-row}
 

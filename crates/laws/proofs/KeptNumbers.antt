@@ -15,7 +15,6 @@ use Rattle.numbers.specs.declared.uint.UintAnswer.the-variants as UintAnswer
 use Rattle.numbers.specs.Int as Int
 use Rattle.text.proofs.Utf8Laws.{joined-well-formed}
 use Rattle.meaning.specs.Limits.{mostBytes}
-use Rattle.meaning.specs.Errors.{Unordered}
 use Rattle.meaning.specs.Value.{Scalar, null, bool, int, uint, double, string, bytes, Value, scalar, list, map, optionalNone, optionalOf, join, scalarOf, elementsOf, boolOf, stringIn}
 use Rattle.meaning.specs.Expr.{Arith, add, sub, div, mul, rem, Comparison}
 use Rattle.meaning.specs.Run.{text, Rule}

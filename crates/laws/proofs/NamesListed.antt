@@ -1,10 +1,9 @@
 -- The names of a rule are those that its list of records has, and no others. Assumes nothing.
-use mathlib.Core.Path.{_≡_}
 use mathlib.Core.Logic.{_⊎_, inl, inr, _↔_}
 use mathlib.Core.List.{List, [], _∷_, _++_}
 use mathlib.Core.Option.{none, some}
 use Prim.Native.Nat.{ℕ}
-use Rattle.meaning.specs.Expr.{Expr, literal, name, unary, binary, conditional, select, listOf, mapOf, comprehension, call, noneCall, orValue, Elements, noElements, element, markedElement, Pairs, noPairs, pair, markedPair}
+use Rattle.meaning.specs.Expr.{Expr, name, unary, binary, conditional, select, listOf, mapOf, comprehension, call, orValue, Elements, element, markedElement, Pairs, pair, markedPair}
 use Rattle.meaning.specs.Listing.{Listed, recordsOf, recordsOfElements, recordsOfPairs, namesIn, namesOf}
 use Rattle.laws.specs.Names.{Names, NamesInElements, NamesInPairs, In}
 

@@ -1,4 +1,4 @@
--- Where things stand in a table, by the definition's kinds, fields and words, at the one width of today.
+-- Where things stand in a table, by the definition's kinds, fields and words, at the width that the definition names, `wordBytes`.
 use Prim.Native.Nat.{ℕ, _+_, _^_}
 use mathlib.Core.List.{List, [], _∷_}
 use lib.ListN.{getD}

@@ -20,7 +20,7 @@ use Rattle.machine.specs.Literals.{literalValue, nameOut}
 abbrev pub leafKinds : ℕ
 leafKinds = 8
 
--- the name of a name's record
+-- the name of a name's record; 0 of any other
 abbrev pub slotIn : Expr → ℕ
 slotIn (literal p x) = 0
 slotIn (name p n) = n
@@ -35,6 +35,7 @@ slotIn (call p f e) = 0
 slotIn (noneCall p) = 0
 slotIn (orValue p e f) = 0
 
+-- the value of a literal's record; Null of any other, which nobody asks for
 abbrev pub literalOf : List ℕ → Expr → Value
 literalOf t (literal p x) = literalValue t p x
 literalOf t (name p n) = Value.Null
@@ -49,7 +50,7 @@ literalOf t (call p f e) = Value.Null
 literalOf t (noneCall p) = Value.Null
 literalOf t (orValue p e f) = Value.Null
 
--- what a leaf gives after its step, with v in its slot
+-- what a leaf gives after its step, with v in its slot; Null of any other record, which nobody asks for
 abbrev pub leafOut : List ℕ → Expr → Value → Used → Outcome
 leafOut t (literal p x) v u = Outcome.Value (literalValue t p x) u
 leafOut t (name p n) v u = nameOut p v u

@@ -1,4 +1,4 @@
-// Literals and names: the records without operands, evaluated where they are asked for, with no scope passed on.
+// Literals and names, evaluated where they are asked for, with no scope passed on.
 ghost use mathlib.Core.Path.{_≡_};
 ghost use Prim.Native.Nat.{_+_, _<_, _≤_};
 ghost use lib.ListN.{length, getD};
@@ -76,7 +76,7 @@ pub fn is_leaf(table: &[u8], at: usize) -> bool
     kind_at(table, at) < LEAF_KINDS
 }
 
-// The slot of a name's record; of any other the first, which is not looked at.
+// The slot of a name's record; of any other 0, whose value is not looked at.
 pub fn slot_at(table: &[u8], literal: &[u8], at: usize) -> usize
     requires { ⌜ Sound (now table) (now literal) at ⌝ }
     ensures { λ r. ⌜ (r ≡ slotIn (exprOf (now (table .entry)) (now (literal .entry)) at)) × (r < 128) ⌝ }

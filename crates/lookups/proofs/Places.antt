@@ -8,7 +8,6 @@ use lib.IntN.{ℤ, pos, negsuc}
 use borrow.Author.Tests.{ltb-true}
 use Rattle.rooms.specs.declared.value.Value.{Value}
 use Rattle.rooms.specs.declared.value.Value.the-variants as Value
-use Rattle.sizes.specs.declared.Position.{Position}
 use Rattle.sizes.specs.declared.Position.the-variants as Position
 use Rattle.sizes.specs.Sizes.{positionOf, inside, insideInt}
 

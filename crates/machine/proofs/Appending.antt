@@ -15,7 +15,6 @@ use Rattle.meaning.specs.Run.{cells, error, byRule, Eval, Rule, charged, onValu
 use Rattle.meaning.specs.Logic.{raisedError}
 use Rattle.meaning.specs.Comprehension as Rules
 use Rattle.meaning.specs.Comprehension.{Scope, store, Comprehension, appendItems, appendTurn, appendLoop}
-use Rattle.rooms.specs.declared.value.Value.{Value}
 use Rattle.rooms.specs.declared.value.CellSpace.{CellSpace}
 use Rattle.rooms.specs.declared.scope.Scope as Code
 use Rattle.rooms.specs.Value.{partsOf}

@@ -13,7 +13,6 @@ use Rattle.numbers.specs.declared.int.IntAnswer.{IntAnswer}
 use Rattle.numbers.specs.declared.int.IntAnswer.the-variants as IntAnswer
 use Rattle.numbers.specs.declared.uint.UintAnswer.{UintAnswer}
 use Rattle.numbers.specs.declared.uint.UintAnswer.the-variants as UintAnswer
-use Rattle.numbers.specs.declared.order.Number.{Number}
 use Rattle.numbers.specs.declared.order.Number.the-variants as Number
 use Rattle.numbers.specs.Int.{inRange}
 use Rattle.numbers.specs.Int as Int

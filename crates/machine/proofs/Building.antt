@@ -28,7 +28,6 @@ use Rattle.rooms.specs.Rooms.{Rooms, cellAt, part}
 use Rattle.rooms.specs.Stands.{Alive, TextAt, StandsScalar, Stands, StandsCells, Agrees, Holds}
 use Rattle.rooms.proofs.Frame.{frame, frame-cells}
 use Rattle.built.proofs.Built.{settled-stands}
-use Rattle.machine.specs.declared.outcome.Outcome.{Outcome}
 use Rattle.machine.specs.declared.outcome.Outcome.the-variants as Outcome
 use Rattle.machine.specs.Outcomes.{withText, written, whole, present}
 use Rattle.machine.specs.Numbers.{bothTexts, textSum, bothLists}

@@ -21,7 +21,6 @@ use Rattle.meaning.specs.Calls.{counted, scalarSize, sizeRule, callRule, orValu
 use Rattle.meaning.specs.Comprehension as Comprehension
 use Rattle.rooms.specs.declared.value.Value.{Value}
 use Rattle.rooms.specs.declared.value.Value.the-variants as Value
-use Rattle.sizes.specs.declared.Size.{Size}
 use Rattle.sizes.specs.declared.Size.the-variants as Size
 use Rattle.rooms.specs.declared.scope.Scope.{Scope}
 use Rattle.rooms.specs.Value.{doubleValue}

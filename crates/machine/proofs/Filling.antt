@@ -9,7 +9,7 @@ use lib.ListN.{length, length-append}
 use Rattle.meaning.specs.Limits.{Counts, mostCells}
 use Rattle.meaning.specs.Value as Meaning
 use Rattle.meaning.specs.Value.{Values, nil, cons, count, join}
-use Rattle.meaning.specs.Run.{cells, text, Trace, value, charged, operand}
+use Rattle.meaning.specs.Run.{cells, Trace}
 use Rattle.meaning.specs.Containers.{pad}
 use Rattle.meaning.specs.Comprehension as Comprehension
 use Rattle.meaning.specs.Limited.{cellsBuilt, textBuilt}

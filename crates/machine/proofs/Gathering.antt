@@ -12,7 +12,7 @@ use Rattle.meaning.specs.Limits.{Counts, deepestValue}
 use Rattle.meaning.specs.Value as Meaning
 use Rattle.meaning.specs.Value.{Values, nil, cons, scalar, list, map, optionalNone, optionalOf, nesting, nestingIn, count, join}
 use Rattle.meaning.specs.Run.{cells, nest, Result, value, error, Eval, Rule, pure, charged, onValue, _>>=_, fromOperand, operand, placed, built}
-use Rattle.meaning.specs.Comprehension.{Scope, Gathering}
+use Rattle.meaning.specs.Comprehension.{Scope}
 use Rattle.meaning.specs.Limited.{spend, outcome, cellsBuilt, textBuilt}
 use Rattle.rooms.specs.declared.value.Value.{Value}
 use Rattle.rooms.specs.declared.value.Value.the-variants as Value
@@ -24,7 +24,6 @@ use Rattle.rooms.specs.Rooms.{Rooms}
 use Rattle.rooms.specs.Stands.{Alive, Stands, StandsCells, Holds, Agrees}
 use Rattle.rooms.proofs.Frame.{frame-cells}
 use Rattle.machine.specs.declared.outcome.Used.{Used}
-use Rattle.machine.specs.declared.outcome.Outcome.{Outcome}
 use Rattle.machine.specs.declared.outcome.Outcome.the-variants as Outcome
 use Rattle.machine.specs.Outcomes.{Res, Does, withValue}
 use Rattle.machine.specs.Comprehension as Machine

@@ -13,7 +13,7 @@ use Rattle.meaning.specs.Limits.{Counts, deepestValue}
 use Rattle.meaning.specs.Errors.{NoOverload, NoSuchKey, IndexOutOfBounds}
 use Rattle.meaning.specs.Value as Meaning
 use Rattle.meaning.specs.Value.{Scalar, null, bool, int, uint, double, string, bytes, Values, nil, cons, Entries, empty, entry, scalar, list, map, optionalNone, optionalOf, scalarOf, keyScalar, nesting, nestingIn, nestingOver, count, countEntries, nth}
-use Rattle.meaning.specs.Run.{value, Rule, pure, charged, after, onValue, _>>=_, fail, orFail, truth}
+use Rattle.meaning.specs.Run.{Rule, pure, charged, after, onValue, _>>=_, fail, orFail, truth}
 use Rattle.meaning.specs.Comparison.{tick, scalarEqual, find, among, compared}
 use Rattle.meaning.specs.Maps as Rules
 use Rattle.meaning.specs.Maps.{probeOf, positionOf, positionIn, elementAt, isFound, inRule}
@@ -22,9 +22,7 @@ use Rattle.meaning.specs.Comprehension as Comprehension
 use Rattle.rooms.specs.declared.value.Value.{Value}
 use Rattle.rooms.specs.declared.value.Value.the-variants as Value
 use Rattle.rooms.specs.declared.value.CellSpace.{CellSpace}
-use Rattle.rooms.specs.declared.value.Parts.{Parts}
 use Rattle.rooms.specs.declared.value.Parts.the-variants as Parts
-use Rattle.sizes.specs.declared.Position.{Position}
 use Rattle.sizes.specs.declared.Position.the-variants as Position
 use Rattle.rooms.specs.declared.scope.Scope.{Scope}
 use Rattle.rooms.specs.Value.{partsOf, doubleValue}

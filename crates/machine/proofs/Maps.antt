@@ -35,7 +35,6 @@ use Rattle.equality.specs.Finds.{FoundIs, Finds}
 use Rattle.equality.proofs.EqualMeaning.{find-ok}
 use Rattle.machine.specs.declared.outcome.Used.{Used}
 use Rattle.machine.specs.declared.outcome.Error.the-variants as Error
-use Rattle.machine.specs.declared.outcome.Outcome.{Outcome}
 use Rattle.machine.specs.declared.outcome.Outcome.the-variants as Outcome
 use Rattle.machine.specs.Outcomes.{Res, Does, written, withValue, taking}
 use Rattle.machine.specs.Views.{isKey, partIn, unmarkedIn, optionalIn}

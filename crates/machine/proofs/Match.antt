@@ -23,12 +23,11 @@ use Rattle.rooms.specs.Rooms.{Rooms, part}
 use Rattle.rooms.specs.Stands.{Alive, Stands, StandsCells, Agrees, Holds}
 use Rattle.rooms.proofs.Frame.{frame-cells, part-same, holds-frame}
 use Rattle.machine.specs.declared.outcome.Used.{Used}
-use Rattle.machine.specs.declared.outcome.Error.{Error}
 use Rattle.machine.specs.declared.outcome.Limit.{Limit}
 use Rattle.machine.specs.declared.outcome.Outcome.{Outcome}
 use Rattle.machine.specs.declared.outcome.Outcome.the-variants as Outcome
 use Rattle.machine.specs.Outcomes.{Res}
-use Rattle.machine.specs.Refines.{usedOf, errorOf, limitOf, from, countsOf, Live, Upto, Keeps, Logged, Good, Matches, Below, Start}
+use Rattle.machine.specs.Refines.{usedOf, errorOf, limitOf, countsOf, Live, Upto, Keeps, Logged, Good, Matches, Below, Start}
 use Rattle.machine.proofs.Keeping.{upto-same, keeps-cells, keeps-text, keeps-roomy, keeps-same, keeps-then, keeps-agrees, agrees-sub, agrees-then, live-below, live-sub}
 use Rattle.machine.proofs.Traces.{count-join, stands-join, spend-append, cells-append, text-append, part-add}
 use Rattle.rooms.proofs.Scopes.{scope-frame}

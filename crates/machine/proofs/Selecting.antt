@@ -27,9 +27,9 @@ use Rattle.rooms.specs.Stands.{Alive, Stands, Holds}
 use Rattle.machine.specs.declared.outcome.Outcome.{Outcome}
 use Rattle.machine.specs.declared.outcome.Outcome.the-variants as Outcome
 use Rattle.machine.specs.Outcomes.{Res, Does, withValue}
-use Rattle.machine.specs.Views.{Optional, notOptional, optionalIn}
+use Rattle.machine.specs.Views.{notOptional, optionalIn}
 use Rattle.machine.specs.Views as Views
-use Rattle.machine.specs.Selection.{lookUp, optionally, selectInContainer, selectInMap, selectInNone, selectInPresent, selectPlain, selectParts, selectField, perhaps, indexIn, index, optSelect}
+use Rattle.machine.specs.Selection.{lookUp, selectInContainer, selectInMap, selectInNone, selectInPresent, selectPlain, selectParts, selectField, perhaps, indexIn, index, optSelect}
 use Rattle.machine.specs.Machine.{unlessNone, indexLeft, onLeft, both}
 use Rattle.machine.specs.Refines.{usedOf, Start, Refines}
 use Rattle.machine.proofs.Match.{Says, value-now, raises, error-now}

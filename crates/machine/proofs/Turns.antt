@@ -24,8 +24,6 @@ use Rattle.rooms.specs.Scope.{stored}
 use Rattle.rooms.specs.Stands.{Alive, Stands, StandsCells, StandsEntries, Holds, Agrees}
 use Rattle.rooms.proofs.Frame.{frame}
 use Rattle.rooms.proofs.Scopes.{scope-stored}
-use Rattle.machine.specs.declared.outcome.Error.{Error}
-use Rattle.machine.specs.declared.outcome.Outcome.{Outcome}
 use Rattle.machine.specs.declared.outcome.Outcome.the-variants as Outcome
 use Rattle.machine.specs.Outcomes.{Res, Does}
 use Rattle.machine.specs.Views.{boolIn}

@@ -11,7 +11,6 @@ use lib.Ieee.Bits.{toBits-lt, ofBits-fits}
 use lib.ListN.{length, getD, set, take, drop}
 use lib.Seq.{getD-take, getD-drop, take-set-le, drop-set-lt, take-take, drop-drop}
 use borrow.Author.Tests.{eqb-true, eq-eqb}
-use Rattle.numbers.specs.declared.double.Double.{Double}
 use Rattle.numbers.specs.declared.double.Double.the-variants as Bits
 use Rattle.numbers.specs.Double.{bitsOf, doubleOf, isNan}
 use Rattle.meaning.specs.Limits.{Counts}

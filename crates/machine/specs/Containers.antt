@@ -15,7 +15,6 @@ use Rattle.comparing.specs.LookUp.{findIn}
 use Rattle.machine.specs.declared.outcome.Used.{Used}
 use Rattle.machine.specs.declared.outcome.Error.the-variants as Error
 use Rattle.machine.specs.declared.outcome.Limit.the-variants as Limit
-use Rattle.machine.specs.declared.outcome.Outcome.{Outcome}
 use Rattle.machine.specs.declared.outcome.Outcome.the-variants as Outcome
 use Rattle.machine.specs.Outcomes.{Res, Does, withSteps, written, withValue, whole}
 use Rattle.machine.specs.Views.{isKey, partIn}

@@ -1,4 +1,4 @@
--- The machine: what each record does on rooms, from the limit on steps. Its text's limits and its cells' are the rooms' lengths.
+-- The machine: what each record does on rooms, under a limit on steps; what limits cells and text are the rooms' lengths, up to document 01's.
 use Prim.Native.Nat.{ℕ, _*_}
 use mathlib.Core.List.{List}
 use mathlib.Core.Bool.{Bool, true, false, cond, _&&_}

@@ -16,7 +16,6 @@ use Rattle.rooms.specs.Cells.{writtenIn}
 use Rattle.rooms.specs.Rooms.{Rooms, rooms}
 use Rattle.building.specs.Building.{cellRoom, takenOf, cellsTaken}
 use Rattle.machine.specs.declared.outcome.Used.{Used}
-use Rattle.machine.specs.declared.outcome.Error.{Error}
 use Rattle.machine.specs.declared.outcome.Error.the-variants as Error
 use Rattle.machine.specs.declared.outcome.Limit.the-variants as Limit
 use Rattle.machine.specs.declared.outcome.Outcome.{Outcome}

@@ -1,5 +1,5 @@
 -- Bindings: what is brought in, what is refused and in which order, and what the room holds then. Assumes nothing.
-use mathlib.Core.Path.{_≡_, refl}
+use mathlib.Core.Path.{refl}
 use mathlib.Core.List.{List, [], _∷_}
 use lib.IntN.{pos}
 use Rattle.meaning.specs.Value.{double, string, bytes, stringKey, scalar, map, empty, entry}

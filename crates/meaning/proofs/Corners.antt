@@ -1,6 +1,6 @@
 -- Corners of containers, comparison, look-ups, logic and calls: what each row shows is said above it. x is the name 0, y 1.
 -- Assumes nothing.
-use mathlib.Core.Path.{_≡_, refl}
+use mathlib.Core.Path.{refl}
 use mathlib.Core.List.{List, [], _∷_}
 use mathlib.Core.Bool.{true, false}
 use lib.IntN.{pos}

@@ -1,5 +1,5 @@
 -- The worked examples P1 to P8, over the bytes of their tables: reading is included. x is the name 0, y 1, i 2 and r 3. Assumes nothing.
-use mathlib.Core.Path.{_≡_, refl}
+use mathlib.Core.Path.{refl}
 use mathlib.Core.List.{List, [], _∷_}
 use mathlib.Core.Bool.{true, false}
 use lib.IntN.{pos}

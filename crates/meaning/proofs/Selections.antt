@@ -1,5 +1,5 @@
 -- Selection, Optionals, calls, marks, logic: a row for each clause. x is the name 0, y 1. Assumes nothing.
-use mathlib.Core.Path.{_≡_, refl}
+use mathlib.Core.Path.{refl}
 use mathlib.Core.List.{List, [], _∷_}
 use mathlib.Core.Bool.{true, false}
 use lib.IntN.{pos}

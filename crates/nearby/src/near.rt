@@ -1,5 +1,4 @@
 // A record whose operands are literals, names and records of those, evaluated with their slots and no scope: a call that takes a scope copies it.
-ghost use mathlib.Core.Path.{_≡_};
 ghost use Rattle.rooms.specs.Rooms.{rooms};
 ghost use Rattle.accepted.specs.Records.{Sound, exprOf};
 ghost use Rattle.machine.specs.Machine.{machine};

@@ -1,7 +1,7 @@
 -- The size of a float by its fields, cut to a whole number, as `size_of` works it out. Assumes nothing.
 use mathlib.Core.Path.{_≡_, refl, sym, ap, _∙_, subst}
 use mathlib.Core.Bool.{Bool, true, false, not, cond}
-use Prim.Native.Nat.{ℕ, zero, suc, _+_, _-_, _*_, _/_, _%_, _^_, _≤_, _<_, zero-le, suc-le-suc}
+use Prim.Native.Nat.{ℕ, zero, suc, _+_, _*_, _/_, _%_, _^_, _≤_, _<_, zero-le, suc-le-suc}
 use native.Mathlib.Nat.{zero-mul, zero-add, add-zero, add-comm, add-mul, mul-assoc, mul-pos, mul-le-mul, le-trans, le-of-eq, lt-of-lt-of-le, lt-of-le-of-lt, mod-lt, mod-eq-of-lt, div-add-mod', mul-lt-mul-of-pos-right, div-le-self, lt-irrefl, le-div-iff-mul-le, div-lt-iff-lt-mul}
 use native.Mathlib.Omega.{arith}
 use lib.Dec.{ltb, eqb, lit<, lit≤}

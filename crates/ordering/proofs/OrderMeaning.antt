@@ -1,8 +1,8 @@
 -- The order of values, as the code decides it, is the definition's. Assumes nothing.
 use Prim.Native.Nat.{ℕ}
-use mathlib.Core.Path.{_≡_, refl, sym, ap, ap₂, _∙_}
-use mathlib.Core.Bool.{Bool, true, false, not, cond, _&&_}
-use mathlib.Core.Option.{Option, none, some, bind}
+use mathlib.Core.Path.{_≡_, refl, sym, ap, _∙_}
+use mathlib.Core.Bool.{Bool, true, false, cond, _&&_}
+use mathlib.Core.Option.{Option, none, some}
 use mathlib.Core.List.{List}
 use lib.Dec.{eqb}
 use Rattle.numbers.specs.declared.order.Order.{Order}
@@ -14,9 +14,8 @@ use Rattle.text.specs.Bytes as Bytes
 use Rattle.meaning.specs.Errors.{NoOverload}
 use Rattle.meaning.specs.Run.{pure, charged, after, onValue, _>>=_, fail, orFail}
 use Rattle.meaning.specs.Value as Meaning
-use Rattle.meaning.specs.Value.{Scalar, null, bool, int, uint, double, string, bytes, scalar, list, map, optionalNone, optionalOf, scalarOf}
+use Rattle.meaning.specs.Value.{Scalar, null, bool, string, bytes, scalar, list, map, optionalNone, optionalOf, scalarOf}
 use Rattle.meaning.specs.Comparison.{rank, textOrder, thenText, rankOrder, sameClass, scalarOrder, ordered, compareValues}
-use Rattle.ordering.specs.declared.Compared.{Compared}
 use Rattle.ordering.specs.declared.Compared.the-variants as Compared
 use Rattle.rooms.specs.declared.value.Plain.{Plain}
 use Rattle.rooms.specs.declared.value.Plain.the-variants as Plain

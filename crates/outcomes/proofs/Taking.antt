@@ -1,13 +1,11 @@
 -- Room that was taken: how much there is. Assumes nothing.
-use Prim.Native.Nat.{ℕ, _+_, _≤_, _<_, _/_}
-use mathlib.Core.Path.{_≡_, refl, sym, _∙_}
+use Prim.Native.Nat.{ℕ, _+_, _≤_}
+use mathlib.Core.Path.{_≡_, refl}
 use mathlib.Core.Bool.{Bool, true, false, cond}
 use mathlib.Core.List.{List}
 use native.Mathlib.Omega.{arith}
 use lib.Dec.{leb}
-use lib.ListN.{length}
 use borrow.Author.Tests.{leb-true}
-use Rattle.building.specs.declared.Taken.{Taken}
 use Rattle.building.specs.declared.Taken.the-variants as Taken
 use Rattle.building.specs.Building.{cellRoom, textRoom, takenOf}
 

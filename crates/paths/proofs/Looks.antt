@@ -1,5 +1,5 @@
 -- What a comprehension sees of an operand, by the kind of its record: a literal, a name, a fold, the append path. Assumes nothing.
-use Prim.Native.Nat.{ℕ, _+_}
+use Prim.Native.Nat.{ℕ}
 use mathlib.Core.Path.{_≡_, refl}
 use mathlib.Core.Bool.{Bool, true, false, cond}
 use mathlib.Core.List.{List}

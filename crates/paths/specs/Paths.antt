@@ -8,18 +8,14 @@ use Rattle.meaning.specs.Look.{ofName, named}
 use Rattle.meaning.specs.Meaning.{look}
 use Rattle.rooms.specs.declared.value.Value.{Value}
 use Rattle.rooms.specs.Value.{partsOf}
-use Rattle.layout.specs.Layout.{wordAt}
 use lib.ListN.{getD}
-use Rattle.layout.specs.Layout.{after}
+use Rattle.layout.specs.Layout.{wordAt, after}
 use Rattle.accepted.specs.Records.{Sound, exprOf}
-use Rattle.machine.specs.declared.outcome.Error.{Error}
-use Rattle.machine.specs.declared.outcome.Outcome.{Outcome}
 use Rattle.machine.specs.declared.outcome.Outcome.the-variants as Outcome
 use Rattle.machine.specs.Outcomes.{Does}
 use Rattle.machine.specs.Comprehension as Machine
 use Rattle.machine.specs.Comprehension.{AppendStep, emptyParts}
 use Rattle.machine.specs.Machine.{machine, appendStep}
-use Rattle.loops.specs.declared.Pending.{Pending}
 use Rattle.paths.specs.declared.Path.{Path}
 use Rattle.paths.specs.declared.Path.the-variants as Path
 use Rattle.paths.specs.declared.Listed.{Listed}
@@ -64,7 +60,7 @@ foldIn isIn = none
 
 -- ---- the append path
 
--- of the comprehension at p with these operands
+-- of a comprehension with these operands, whose init gave `start`
 abbrev pub pathOf : (t x : List ℕ) (limit : ℕ) → Places → Value → Option AppendStep
 pathOf t x limit c start =
     cond (emptyParts (partsOf start))

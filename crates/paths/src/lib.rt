@@ -85,7 +85,7 @@ pub fn folds_at(table: &[u8], literal: &[u8], step: usize, accumulator: usize) -
 
 // ---- the append path
 
-// Where the items list stands, and the guard if there is one.
+// Where the items list stands; the place of a guard comes before it.
 pub enum Path {
     Plain(usize),
     Guarded(usize, usize),

@@ -1,9 +1,9 @@
 -- What the memory holds once a text was put: the text as far as it fits, and behind it what was there. Assumes nothing.
-use Prim.Native.Nat.{ℕ, suc, _+_, _≤_, _<_}
-use mathlib.Core.Path.{_≡_, refl, sym, ap, _∙_, subst}
+use Prim.Native.Nat.{ℕ, _≤_, _<_}
+use mathlib.Core.Path.{_≡_, sym, ap, _∙_, subst}
 use mathlib.Core.List.{List, [], _∷_, _++_, append-nil, append-assoc}
 use native.Mathlib.Omega.{arith}
-use lib.ListN.{length, set, take, drop, length-append}
+use lib.ListN.{length, take, drop, length-append}
 use lib.Seq.{set-append-seam}
 use Rattle.pieces.specs.Page.{put, puts, between}
 use Rattle.pieces.proofs.Putting.{put-in, puts-full}

@@ -10,7 +10,7 @@ use lib.Seq.{drop-cons}
 use borrow.Author.Tests.{le-leb, lt-leb, eq-eqb, ne-eqb}
 use Rattle.pieces.specs.Page.{Page, put, puts}
 use Rattle.pieces.specs.Spelled.{ascii, hexadecimal, isPlain, escaped, escapedAll, quoted}
-use Rattle.pieces.proofs.Putting.{puts-one, puts-none, puts-joined}
+use Rattle.pieces.proofs.Putting.{puts-one, puts-joined}
 
 -- ---- a byte that stands for itself
 

@@ -1,28 +1,25 @@
 -- Keys of a table: what the code sees of one and of those before it, and what the definition says of them. Assumes nothing.
-use Prim.Native.Nat.{ℕ, zero, suc, _+_, _-_, _≤_, _<_}
+use Prim.Native.Nat.{ℕ, zero, suc, _<_}
 use mathlib.Core.Path.{_≡_, refl, sym, ap, _∙_}
-use mathlib.Core.List.{List, [], _∷_, _++_}
-use mathlib.Core.Bool.{Bool, true, false, not, _&&_, _||_, cond}
-use mathlib.Core.Option.{Option, none, some}
+use mathlib.Core.List.{List, []}
+use mathlib.Core.Bool.{Bool, true, false, not, cond}
 use native.Mathlib.Omega.{arith}
 use lib.ListN.{getD}
 use Rattle.meaning.specs.Value.{Scalar, null, bool, int, uint, double, string, bytes, keyIn}
 use Rattle.meaning.specs.Comparison.{rank, sameClass, scalarEqual}
-use Rattle.meaning.specs.Expr.{literal}
-use Rattle.meaning.specs.Spelling.{Literal, scalarAt, listAt, mapAt}
 use Rattle.fields.specs.Fits.{isSome}
 use Rattle.layout.specs.Layout.{after}
 use Rattle.accepted.specs.Records.{exprOf, Sound}
 use Rattle.rooms.specs.declared.value.Value.{Value}
 use Rattle.rooms.specs.declared.value.Value.the-variants as Value
 use Rattle.rooms.specs.Value.{plainOf}
-use Rattle.comparing.specs.Seen.{seenOf, seenScalar, seenOther, sameSeen}
+use Rattle.comparing.specs.Seen.{seenOf, seenScalar, sameSeen}
 use Rattle.mapkeys.specs.Keys.{isKey}
 use Rattle.findings.specs.declared.Fault.{Fault}
 use Rattle.findings.specs.declared.Fault.the-variants.{At, Nowhere}
 use Rattle.scalars.specs.Literals.{literalIn, literalValue, keysFrom, Entries}
 use Rattle.findings.specs.Judging.{matches, isAmong, keyFault, repeatedIn}
-use Rattle.scalars.proofs.LiteralLaws.{Shows, View, aScalar, aList, aMap, another, view}
+use Rattle.scalars.proofs.LiteralLaws.{View, aScalar, aList, aMap, another, view}
 
 never : {A : Type 0} {b : Bool} → b ≡ true → b ≡ false → A
 never e f = let z : true ≡ false = sym e ∙ f in let y : _≡_ {A = ℕ} 1 0 = ap (λ b. cond b 1 0) z in absurd (omega arith)

@@ -2,26 +2,23 @@
 use mathlib.Core.Path.{_≡_, refl, sym, ap, _∙_, subst}
 use mathlib.Core.Bool.{Bool, true, false, cond}
 use mathlib.Core.List.{List}
-use Prim.Native.Nat.{ℕ, _-_, _*_, _+_, _/_, _%_, _^_, _<_}
+use Prim.Native.Nat.{ℕ, _*_, _+_, _/_, _%_, _^_, _<_}
 use native.Mathlib.Omega.{arith}
 use lib.ListN.{length, getD}
 use lib.Signed.{mag}
 use lib.Dec.{ltb, eqb}
-use borrow.Author.Tests.{ltb-true, ltb-false, eqb-true}
+use borrow.Author.Tests.{ltb-true, ltb-false}
 use Rattle.numbers.specs.declared.double.Double.{Double}
 use Rattle.numbers.specs.declared.double.Double.the-variants as Bits
-use Rattle.numbers.specs.Double.{bitsOf, doubleOf, Proper}
+use Rattle.numbers.specs.Double.{doubleOf, Proper}
 use Rattle.numbers.proofs.DoubleLaws.{proper, double-back}
 use Rattle.rooms.specs.declared.value.Value.{Value}
-use Rattle.rooms.specs.declared.value.Value.the-variants as Value
-use Rattle.rooms.specs.declared.value.TextSpace.the-variants as Text
-use Rattle.rooms.specs.declared.value.CellSpace.the-variants as Cells
 use Rattle.rooms.specs.declared.places.TextPlace.{TextPlace}
 use Rattle.rooms.specs.declared.places.TextPlace.the-variants as TextPlace
 use Rattle.rooms.specs.declared.places.CellPlace.{CellPlace}
 use Rattle.rooms.specs.declared.places.CellPlace.the-variants as CellPlace
 use Rattle.rooms.specs.Value.{doubleValue}
-use Rattle.rooms.specs.Cells.{signedOf, headOf, payloadOf, textPlace, cellPlace, only, bareOf, textOf, containerOf, valueOf, cellOf, hasCell, cellIn, writtenIn, settled}
+use Rattle.rooms.specs.Cells.{signedOf, textPlace, cellPlace, bareOf, textOf, containerOf, valueOf, cellOf, hasCell, cellIn, writtenIn, settled}
 use Rattle.rooms.proofs.Words.{signed-below, signed-above}
 use Rattle.rooms.proofs.CellLaws.{Small, small-back, written-words}
 

@@ -1,31 +1,24 @@
 -- A cell gives back the value that was written into it, and every other cell its own. Assumes nothing.
-use mathlib.Core.Path.{_≡_, refl, sym, ap, ap₂, _∙_, subst}
+use mathlib.Core.Path.{_≡_, refl, ap, ap₂, _∙_}
 use mathlib.Core.Logic.{_≢_}
 use mathlib.Core.Bool.{Bool, true, false, cond}
 use mathlib.Core.List.{List}
-use Prim.Native.Nat.{ℕ, zero, suc, _+_, _-_, _*_, _/_, _%_, _^_, _≤_, _<_}
+use Prim.Native.Nat.{ℕ, _+_, _*_, _/_, _%_, _^_, _<_}
 use native.Mathlib.Omega.{arith}
-use lib.IntN.{ℤ}
 use lib.Signed.{mag}
 use lib.ListN.{length, getD, set, length-set}
 use lib.Seq.{getD-set-same, getD-set-other}
-use lib.Dec.{ltb, eqb}
-use borrow.Author.Tests.{lt-ltb, le-ltb, ltb-true, eqb-true}
-use Rattle.numbers.specs.declared.double.Double.{Double}
-use Rattle.numbers.specs.declared.double.Double.the-variants.{Plain, Nan}
-use Rattle.numbers.specs.Double.{bitsOf, doubleOf}
+use lib.Dec.{ltb}
+use borrow.Author.Tests.{lt-ltb, le-ltb}
 use Rattle.rooms.specs.declared.value.Value.{Value}
 use Rattle.rooms.specs.declared.value.Value.the-variants as Value
 use Rattle.rooms.specs.declared.value.TextSpace.{TextSpace}
 use Rattle.rooms.specs.declared.value.TextSpace.the-variants as Text
 use Rattle.rooms.specs.declared.value.CellSpace.{CellSpace}
 use Rattle.rooms.specs.declared.value.CellSpace.the-variants as Cells
-use Rattle.rooms.specs.declared.places.TextPlace.{TextPlace}
 use Rattle.rooms.specs.declared.places.TextPlace.the-variants as TextPlace
-use Rattle.rooms.specs.declared.places.CellPlace.{CellPlace}
 use Rattle.rooms.specs.declared.places.CellPlace.the-variants as CellPlace
-use Rattle.rooms.specs.Value.{doubleValue}
-use Rattle.rooms.specs.Cells.{wordOf, signedOf, bitOf, textNumber, cellNumber, packed, headOf, payloadOf, textPlace, cellPlace, bareOf, textOf, containerOf, valueOf, cellOf, hasCell, cellIn, writtenIn, Fits, settled}
+use Rattle.rooms.specs.Cells.{textNumber, cellNumber, packed, headOf, payloadOf, textPlace, cellPlace, bareOf, textOf, containerOf, valueOf, cellOf, hasCell, cellIn, writtenIn, Fits, settled}
 use Rattle.rooms.proofs.Words.{signed-back, text-small, cell-small}
 
 -- the fields of a head that was packed

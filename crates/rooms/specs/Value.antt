@@ -4,7 +4,6 @@ use Rattle.numbers.specs.declared.double.Double as Numbers
 use Rattle.numbers.specs.declared.double.Double.the-variants as Bits
 use Rattle.rooms.specs.declared.value.Value.{Value}
 use Rattle.rooms.specs.declared.value.Value.the-variants as Value
-use Rattle.numbers.specs.declared.order.Number.{Number}
 use Rattle.numbers.specs.declared.order.Number.the-variants as Number
 use Rattle.rooms.specs.declared.value.Plain.{Plain}
 use Rattle.rooms.specs.declared.value.Plain.the-variants as Plain

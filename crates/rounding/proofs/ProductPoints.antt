@@ -1,6 +1,6 @@
 -- lib.Ieee's product and quotient are the `Product` and `Quotient` of specs/Rounding.antt. Assumes nothing.
 use mathlib.Core.Path.{_≡_, refl, sym, ap, _∙_, subst}
-use mathlib.Core.Bool.{Bool, true, false}
+use mathlib.Core.Bool.{true, false}
 use Prim.Native.Nat.{ℕ, zero, suc, _*_, _<_, zero-le, suc-le-suc}
 use native.Mathlib.Nat.{mul-comm, mul-assoc, mul-right-comm, mul-pos, zero-mul, lt-irrefl}
 use lib.Dec.{eqb}
@@ -10,7 +10,7 @@ use lib.Ieee as Ieee
 use lib.Ieee.{Float, inf, fin, binary64, mul, div, up, down}
 use lib.Ieee.Fits.{up-pos, down-pos}
 use borrow.Author.Tests.{eq-eqb, ne-eqb}
-use Rattle.numbers.specs.Double.{Point, nan, infinite, finite}
+use Rattle.numbers.specs.Double.{Point, infinite, finite}
 use Rattle.rounding.specs.Rounding.{unlike, Product, Quotient}
 use Rattle.rounding.proofs.RoundPoints.{U, round-points}
 use Rattle.rounding.proofs.Stands.{Stands}

@@ -1,22 +1,20 @@
 -- An accepted record as an operand that carries no mark, and the three ways in which one is judged and laid down: as a List, as a Map, and
 -- as a record without parts. Assumes nothing.
-use Prim.Native.Nat.{ℕ, zero, suc, _+_, _*_, _-_, _≤_, _<_}
-use mathlib.Core.Path.{_≡_, refl, sym, ap, _∙_}
-use mathlib.Core.List.{List, []}
+use Prim.Native.Nat.{ℕ, _+_, _≤_}
+use mathlib.Core.Path.{_≡_, sym, ap, _∙_}
+use mathlib.Core.List.{List}
 use native.Mathlib.Omega.{arith}
 use lib.ListN.{length, getD}
-use Rattle.meaning.specs.Value.{Scalar, null}
-use Rattle.meaning.specs.Expr.{Expr, literal, listOf, mapOf}
-use Rattle.meaning.specs.Kinds.{ExprKind, listKind, mapKind}
-use Rattle.meaning.specs.Heads.{Got, got, refused, _>>=_, Head, headAt}
-use Rattle.meaning.specs.Table.{Part, bare, marked, bodyAt, asExpr, asPart, exprAt, partAt, wordBytes}
+use Rattle.meaning.specs.Expr.{Expr, listOf, mapOf}
+use Rattle.meaning.specs.Kinds.{listKind, mapKind}
+use Rattle.meaning.specs.Heads.{Got, got, _>>=_}
+use Rattle.meaning.specs.Table.{Part, bare, bodyAt, asExpr, asPart, exprAt, partAt, wordBytes}
 use Rattle.layout.specs.Layout.{wordAt}
 use Rattle.layout.specs.Layout.{after}
-use Rattle.accepted.specs.Records.{exprIn, partIn, exprOf, partOf, Sound, SoundPart, Row, elementsOf, pairsOf, kindByte, numbersIn}
-use Rattle.accepted.specs.Opened.{Opened, Marked}
+use Rattle.accepted.specs.Records.{partIn, exprOf, partOf, Sound, SoundPart, elementsOf, pairsOf, numbersIn}
 use Rattle.accepted.proofs.SoundLaws.{sound-here}
 use Rattle.accepted.proofs.Opened.{opened, headIn, head-of-kind, record-read, part-read}
-use Rattle.accepted.proofs.Parts.{sound-kind, part-marked, part-bare}
+use Rattle.accepted.proofs.Parts.{sound-kind, part-bare}
 use Rattle.scalars.specs.Literals.{rowBytes, entryBytes, Operands, Entries}
 use Rattle.scalars.proofs.Rows.{row-operands, row-entries}
 

@@ -1,14 +1,13 @@
 -- Operands and entries of an accepted table, one after the other. Assumes nothing.
 use Prim.Native.Nat.{ℕ, zero, suc, _+_, _*_, _-_, _≤_, _<_}
-use mathlib.Core.Path.{_≡_, refl, sym, ap, _∙_}
-use mathlib.Core.List.{List, [], _∷_, _++_}
+use mathlib.Core.Path.{_≡_}
+use mathlib.Core.List.{List}
 use native.Mathlib.Omega.{arith}
-use native.Mathlib.Numerals.{sub-one}
 use lib.ListN.{length, getD}
 use Rattle.faults.specs.declared.Marks.the-variants.{Anywhere, Values}
 use Rattle.layout.specs.Layout.{headBytes, wordAt}
 use Rattle.layout.specs.Layout.{after}
-use Rattle.accepted.specs.Records.{exprOf, partOf, Sound, SoundPart, Row}
+use Rattle.accepted.specs.Records.{Sound, SoundPart, Row}
 use Rattle.layout.proofs.KindLaws.{head-table}
 use Rattle.heads.proofs.HeadLaws.{Here}
 use Rattle.accepted.proofs.SoundLaws.{sound-here, part-here}

@@ -11,8 +11,7 @@ use Rattle.meaning.specs.Value.{null}
 use Rattle.meaning.specs.Expr.{Expr, literal, name, unary, binary, conditional, select, listOf, mapOf, comprehension, call, noneCall, orValue, Elements, noElements, element, markedElement, Pairs, noPairs, pair, markedPair}
 use Rattle.meaning.specs.Table.{Part, bare, marked, wordBytes}
 use Rattle.meaning.specs.Spelling.{Literal, scalarAt, listAt, mapAt, Literals, noLiterals, literals, LiteralPairs, noLiteralPairs, literalPairs}
-use Rattle.layout.specs.Layout.{fieldsAt, wordAt}
-use Rattle.layout.specs.Layout.{longAt, after}
+use Rattle.layout.specs.Layout.{fieldsAt, wordAt, longAt, after}
 use Rattle.accepted.specs.Records.{exprOf, partOf, Sound, SoundPart}
 use Rattle.rooms.specs.declared.value.Value.{Value}
 use Rattle.rooms.specs.declared.value.Value.the-variants as Value

@@ -1,6 +1,6 @@
 -- The ways through a turn of `among_plain`, over plain variables. Assumes nothing.
 use Prim.Native.Nat.{ℕ, suc, _+_, _-_, _≤_, _<_}
-use mathlib.Core.Path.{_≡_, refl, sym, ap, _∙_}
+use mathlib.Core.Path.{_≡_, refl, ap, _∙_}
 use mathlib.Core.Bool.{Bool, true, false}
 use mathlib.Core.List.{List}
 use native.Mathlib.Numerals.{add-one}
@@ -9,7 +9,6 @@ use borrow.Author.Tests.{lt-ltb, le-ltb}
 use Rattle.rooms.specs.declared.value.Value.{Value}
 use Rattle.rooms.specs.declared.value.Parts.the-variants as Parts
 use Rattle.rooms.specs.declared.value.CellSpace.{CellSpace}
-use Rattle.equality.specs.declared.Pairs.{Pairs}
 use Rattle.equality.specs.declared.Pairs.the-variants as Pairs
 use Rattle.rooms.specs.Value.{partsOf, plainOf, nestingOf}
 use Rattle.rooms.specs.Cells.{cellIn}

@@ -61,7 +61,7 @@ fn select_found(
     select_in_container(cells, test, found)
 }
 
-// In what a present Optional holds: a List or a Map.
+// In what a present Optional holds: a List or a Map is looked up, anything else has no such key.
 fn select_in_present(
     literal: &[u8],
     binding_cells: &[u64],
@@ -109,7 +109,7 @@ fn select_in_present(
     }
 }
 
-// Of what has no parts, none alone has a field: there is none.
+// What has no parts: on none a select gives none and a test false; on anything else there is no overload.
 fn select_plain(test: bool, v: Value, at: usize, used: Used) -> Outcome
     ensures { λ r. ⌜ r ≡ selectPlainOut at test used (optionalIn v) ⌝ }
 {

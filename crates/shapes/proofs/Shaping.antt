@@ -7,7 +7,7 @@ use lib.ListN.{getD}
 use Rattle.rooms.specs.declared.value.Value.{Value}
 use Rattle.rooms.specs.declared.value.Value.the-variants as Value
 use Rattle.rooms.specs.Value.{plainOf, partsOf}
-use Rattle.rooms.specs.Cells.{bitOf, headOf, payloadOf}
+use Rattle.rooms.specs.Cells.{headOf, payloadOf}
 use Rattle.extents.specs.declared.Span.{Span}
 use Rattle.extents.specs.declared.Span.the-variants as Span
 use Rattle.reading.specs.Values.{kindOf}

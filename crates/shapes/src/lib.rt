@@ -1,6 +1,6 @@
 // A value as a caller in another language reads it: six words that say what it is by itself, and the two words of a part.
 ghost use mathlib.Core.Path.{_≡_};
-ghost use mathlib.Core.List.{List, [], _∷_};
+ghost use mathlib.Core.List.{List};
 ghost use Prim.Native.Nat.{ℕ};
 ghost use Rattle.rooms.specs.Cells.{textNumber};
 ghost use Rattle.overlay.specs.Over.{handed};

@@ -24,7 +24,6 @@ use Rattle.forms.proofs.Operands.{go-at, no-next}
 use Rattle.leaves.specs.Leaf.{slotIn}
 use Rattle.sides.specs.declared.Pair.{Pair}
 use Rattle.sides.specs.declared.Pair.the-variants as Pair
-use Rattle.sides.specs.declared.Quad.the-variants as Quad
 use Rattle.sides.specs.Sides.{Operands, neither, one, two, operandsOf, isLeaf, flatSlots, smallOf, beside, nearSlots, IsPair, PairHolds, IsQuad, QuadHolds}
 use Rattle.sides.proofs.SideLaws.{sidesWith, operands-at}
 

@@ -21,12 +21,13 @@ pub enum Sides {
     Two(usize, usize),
 }
 
-// The slots of two literals or names; of a literal, and where there is no second, the first slot, which is not looked at.
+// The slots of two literals or names; 0 for a literal and where there is no second, whose value is not looked at.
 pub enum Pair {
     No,
     Slots(usize, usize),
 }
 
+// Those of two such pairs.
 pub enum Quad {
     No,
     Slots(usize, usize, usize, usize),

@@ -1,19 +1,12 @@
 -- Where an index falls in a list. Assumes nothing.
-use Prim.Native.Nat.{ℕ, zero, suc, _+_, _<_}
-use mathlib.Core.Path.{_≡_, refl, sym, ap, _∙_, subst}
+use Prim.Native.Nat.{ℕ, _<_}
+use mathlib.Core.Path.{_≡_, refl}
 use mathlib.Core.Bool.{true, false, true≢false}
-use mathlib.Core.Option.{Option, none, some}
 use native.Mathlib.Omega.{arith}
 use lib.IntN.{ℤ, pos, negsuc, natAbs}
 use lib.Signed.{ltZ}
 use borrow.Author.Tests.{ltb-true}
-use Rattle.meaning.specs.Value as Meaning
-use Rattle.meaning.specs.Value.{nil, cons, nth, count}
-use Rattle.rooms.specs.declared.value.CellSpace.{CellSpace}
-use Rattle.sizes.specs.declared.Position.{Position}
 use Rattle.sizes.specs.declared.Position.the-variants as Position
-use Rattle.rooms.specs.Rooms.{Rooms, cellAt}
-use Rattle.rooms.specs.Stands.{Alive, Stands, StandsCells}
 use Rattle.sizes.specs.Sizes.{inside, insideInt}
 
 pub negative-outside : (z : ℤ) (n : ℕ) → ltZ z (pos 0) ≡ true → Position.Outside ≡ insideInt z n

@@ -5,8 +5,7 @@ use mathlib.Core.Bool.{Bool, true, false, cond}
 use mathlib.Core.Option.{Option, none, some, bind}
 use native.Mathlib.Omega.{arith}
 use lib.Dec.{ltb}
-use lib.IntN.{ℤ, pos, negsuc}
-use lib.ListN.{length}
+use lib.IntN.{pos, negsuc}
 use borrow.Author.Tests.{ltb-true, ltb-false}
 use Rattle.numbers.specs.declared.double.Double.{Double}
 use Rattle.numbers.specs.declared.double.Double.the-variants as Bits
@@ -19,16 +18,13 @@ use Rattle.meaning.specs.Calls.{scalarSize, sizeRule}
 use Rattle.meaning.specs.Maps as Maps
 use Rattle.meaning.specs.Maps.{positionIn, elementAt, lookUp}
 use Rattle.rooms.specs.declared.value.Value.{Value}
-use Rattle.rooms.specs.declared.value.Value.the-variants as Value
 use Rattle.rooms.specs.declared.value.CellSpace.{CellSpace}
 use Rattle.rooms.specs.Value.{doubleValue}
 use Rattle.rooms.specs.Rooms.{Rooms, cellAt}
 use Rattle.rooms.specs.Stands.{Alive, StandsScalar, Stands, StandsCells}
-use Rattle.sizes.specs.declared.Position.{Position}
 use Rattle.sizes.specs.declared.Position.the-variants as Position
-use Rattle.sizes.specs.declared.Size.{Size}
 use Rattle.sizes.specs.declared.Size.the-variants as Size
-use Rattle.sizes.specs.Sizes.{sizedRule, inside, insideInt, positionOf}
+use Rattle.sizes.specs.Sizes.{sizedRule, inside, positionOf}
 use Rattle.sizes.specs.Indexed.{sized, IndexIs}
 
 -- ---- size

@@ -1,19 +1,18 @@
 -- The words of bindings stand for those bindings again, with each Double in the one spelling that words give it. Assumes nothing.
-use Prim.Native.Nat.{ℕ, zero, suc, _+_, _*_, _/_, _<_}
-use mathlib.Core.Path.{_≡_, refl, sym, ap, _∙_, subst}
-use mathlib.Core.Bool.{Bool, true, false, cond}
+use Prim.Native.Nat.{ℕ, suc, _+_, _*_, _/_, _<_}
+use mathlib.Core.Path.{_≡_, refl, sym, ap, _∙_}
+use mathlib.Core.Bool.{true, false}
 use mathlib.Core.List.{List, [], _∷_, _++_, append-assoc, map}
 use native.Mathlib.Omega.{arith}
 use lib.ListN.{length, getD, length-append}
 use lib.Seq.{getD-at, append-snoc}
-use borrow.Author.Tests.{lt-ltb, eq-eqb}
+use borrow.Author.Tests.{lt-ltb}
 use Rattle.numbers.specs.declared.double.Double.{Double}
 use Rattle.numbers.specs.declared.double.Double.the-variants.{Plain, Nan}
 use Rattle.numbers.specs.Double.{bitsOf, doubleOf}
 use Rattle.rooms.specs.declared.value.Value.{Value}
 use Rattle.rooms.specs.declared.value.Value.the-variants as Value
 use Rattle.rooms.specs.declared.scope.Slot.{Slot}
-use Rattle.rooms.specs.declared.scope.Scope.{Scope}
 use Rattle.rooms.specs.Value.{doubleValue}
 use Rattle.rooms.specs.Cells.{headOf, payloadOf, cellOf, cellIn, Fits, settled}
 use Rattle.rooms.proofs.CellLaws.{read-back}

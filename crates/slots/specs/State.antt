@@ -1,15 +1,15 @@
 -- A state: 259 words that stand for bindings. Two a name, its slot as a cell; the used cells, the used bytes; and the number of slots.
-use Prim.Native.Nat.{ℕ, zero, suc, _+_, _*_, _/_}
+use Prim.Native.Nat.{ℕ, zero, suc, _+_, _*_}
 use mathlib.Core.List.{List, [], _∷_, _++_}
 use mathlib.Core.Bool.{Bool, cond, _&&_}
-use lib.Dec.{ltb, eqb}
+use lib.Dec.{eqb}
 use lib.ListN.{length, getD}
 use Rattle.rooms.specs.declared.value.Value.{Value}
 use Rattle.rooms.specs.declared.value.Value.the-variants as Value
 use Rattle.rooms.specs.declared.scope.Slot.{Slot}
 use Rattle.rooms.specs.declared.scope.Scope.{Scope}
-use Rattle.rooms.specs.Cells.{cellIn, hasCell, headOf, payloadOf, writtenIn}
-use Rattle.rooms.specs.Scope.{emptySlots, slotOf, stored}
+use Rattle.rooms.specs.Cells.{cellIn, hasCell, headOf, payloadOf}
+use Rattle.rooms.specs.Scope.{emptySlots, stored}
 use Rattle.soundness.specs.declared.Bindings.{Bindings}
 use Rattle.references.specs.Fits.{isAbsent}
 

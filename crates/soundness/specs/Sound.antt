@@ -1,11 +1,8 @@
 -- When a room is sound, and if it is not, the first cell at fault. All contents are the caller's.
-use Prim.Native.Nat.{ℕ, zero, suc, _+_, min}
-use mathlib.Core.List.{List, [], _∷_}
-use mathlib.Core.Bool.{Bool, true, false, _&&_, cond}
+use Prim.Native.Nat.{ℕ, zero, suc, min}
+use mathlib.Core.List.{List}
+use mathlib.Core.Bool.{Bool, true, _&&_, cond}
 use lib.Dec.{leb, ltb}
-use lib.ListN.{take}
-use Rattle.rooms.specs.declared.value.Value.{Value}
-use Rattle.rooms.specs.declared.scope.Slot.{Slot}
 use Rattle.rooms.specs.Cells.{cellIn}
 use Rattle.building.specs.Building.{cellRoom, textRoom}
 use Rattle.rooms.specs.Scope.{slotOf}

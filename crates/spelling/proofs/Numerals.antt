@@ -1,6 +1,6 @@
 -- Decimal digits, read place by place. Assumes nothing.
-use Prim.Native.Nat.{ℕ, suc, _+_, _-_, _≤_, _<_}
-use mathlib.Core.Path.{_≡_, refl, sym, ap, _∙_}
+use Prim.Native.Nat.{ℕ, _+_, _-_, _≤_, _<_}
+use mathlib.Core.Path.{_≡_, refl}
 use mathlib.Core.Bool.{Bool, true, false, _&&_}
 use mathlib.Core.List.{List, [], _∷_}
 use native.Mathlib.Numerals.{add-one}
@@ -8,10 +8,9 @@ use native.Mathlib.Omega.{arith}
 use lib.Dec.{leb}
 use lib.ListN.{length, getD, drop, drop-of-length-le}
 use lib.Seq.{drop-cons}
-use borrow.Author.Tests.{le-leb, lt-leb, leb-true, leb-false}
-use Rattle.spelling.specs.declared.decimal.Number.{Number}
+use borrow.Author.Tests.{le-leb, leb-true}
 use Rattle.spelling.specs.declared.decimal.Number.the-variants as Number
-use Rattle.spelling.specs.Decimal.{isDigit, longer, numberFrom, numberOf}
+use Rattle.spelling.specs.Decimal.{longer, numberFrom, numberOf}
 
 -- ---- a byte between two others
 

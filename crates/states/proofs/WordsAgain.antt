@@ -9,7 +9,6 @@ use lib.Dec.{eqb}
 use lib.ListN.{length, getD, drop, drop-of-length-le}
 use lib.Seq.{drop-cons}
 use borrow.Author.Tests.{lt-ltb, eqb-true}
-use Rattle.rooms.specs.declared.value.Value.{Value}
 use Rattle.rooms.specs.declared.value.Value.the-variants as Value
 use Rattle.rooms.specs.declared.scope.Slot.{Slot}
 use Rattle.rooms.specs.Cells.{headOf, payloadOf, bareOf, valueOf, cellOf, hasCell, cellIn}

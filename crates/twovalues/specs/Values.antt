@@ -5,7 +5,6 @@ use Rattle.meaning.specs.Expr as Expr
 use Rattle.rooms.specs.declared.value.Value.{Value}
 use Rattle.rooms.specs.Rooms.{Rooms}
 use Rattle.machine.specs.declared.outcome.Used.{Used}
-use Rattle.machine.specs.declared.outcome.Outcome.{Outcome}
 use Rattle.machine.specs.declared.outcome.Outcome.the-variants as Outcome
 use Rattle.machine.specs.Outcomes.{Res}
 use Rattle.rooms.specs.Value.{partsOf}

@@ -6,7 +6,7 @@ use mathlib.Core.Path.{_≡_, refl, sym, subst}
 use mathlib.Core.List.{List, [], _∷_, _++_}
 use mathlib.Core.Option.{Option, none, some, bind}
 use Rattle.meaning.specs.Value as Meaning
-use Rattle.meaning.specs.Value.{Scalar, null, bool, int, uint, double, string, bytes, Key, scalar, list, map, optionalNone, optionalOf, nil, cons, count, empty, entry, countEntries, keyScalar, keyIn, keyOf, scalarOf}
+use Rattle.meaning.specs.Value.{null, bool, int, uint, double, string, bytes, Key, scalar, list, map, optionalNone, optionalOf, cons, count, entry, countEntries, keyScalar, keyIn, keyOf, scalarOf}
 use Rattle.rooms.specs.declared.value.Value.{Value}
 use Rattle.rooms.specs.declared.value.Value.the-variants as Value
 use Rattle.rooms.specs.declared.value.CellSpace.{CellSpace}

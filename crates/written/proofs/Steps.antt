@@ -1,5 +1,5 @@
 -- The ways through the functions that put a value, over plain variables: what was put is what the definition says. Assumes nothing.
-use Prim.Native.Nat.{ℕ, zero, suc, _+_, _-_, _≤_, _<_}
+use Prim.Native.Nat.{ℕ, suc, _+_, _-_, _≤_, _<_}
 use Prim.Native.Char.{code}
 use mathlib.Core.Path.{_≡_, refl, sym, ap, _∙_}
 use mathlib.Core.Bool.{Bool, true, false}
@@ -25,7 +25,7 @@ use Rattle.rooms.specs.Rooms.{Rooms, cellAt, part, textOf}
 use Rattle.comparing.specs.Seen.{numberScalar, seenOf, seenIn}
 use Rattle.pieces.specs.Page.{Page, puts}
 use Rattle.pieces.specs.Spelled.{ascii, hexadecimal, decimal, signed, quoted}
-use Rattle.pieces.proofs.Putting.{puts-none, puts-joined, puts-two, puts-three}
+use Rattle.pieces.proofs.Putting.{puts-none, puts-two, puts-three}
 use Rattle.written.specs.Written.{writtenScalar, separator}
 use Rattle.written.specs.Shown.{Show, shownSeen, elementsShown, entriesShown, partsShown, shownTo, shownIn}
 

@@ -1,3 +1,4 @@
+-- `admission::has_room` meets its contract. Assumes nothing.
 use mathlib.Core.Path.{sym}
 use Prim.Native.Nat.{_+_}
 use native.Mathlib.Omega.{arith}
@@ -5,8 +6,6 @@ use borrow.Author.Tests.{lt-leb}
 use Rattle.admission.proofs.BringSteps.{room-left}
 use Rattle.admission.proofs.has_room.Statement.{statement}
 use Rattle.admission.proofs.has_room.Tie as tie
-use Rattle.admission.proofs.has_room.Reads as reads
-use Rattle.admission.proofs.has_room.Lts as lts
 
 -- src/lib.rt:49:9
 returns : tie.Need-returns

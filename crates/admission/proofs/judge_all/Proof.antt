@@ -1,19 +1,10 @@
-use mathlib.Core.Path.{_≡_, refl, sym, ap, _∙_}
-use native.Mathlib.Omega.{arith}
+-- `admission::judge_all` meets its contract. Assumes nothing.
+use mathlib.Core.Path.{sym, _∙_}
 use borrow.Author.Tests.{not-true, not-false}
-use Rattle.admission.proofs.AcceptedLaws.{Read, checked-read, all-unsound, all-unnamed, all-bound, all-unread, all-read}
+use Rattle.admission.proofs.AcceptedLaws.{checked-read, all-unsound, all-unnamed, all-bound, all-unread, all-read}
 use borrow.Author.Needs.{needs}
 use Rattle.admission.proofs.judge_all.Statement.{statement}
 use Rattle.admission.proofs.judge_all.Tie as tie
-use Rattle.admission.proofs.judge_all.Reads as reads
-use Rattle.admission.proofs.judge_all.Lts as lts
-use Rattle.admission.proofs.judge_table.Reads as judge-table-reads
-use Rattle.building.proofs.cell_room.Reads as cell-room-reads
-use Rattle.building.proofs.text_room.Reads as text-room-reads
-use Rattle.rooms.proofs.scope.Scope.value_of.Reads as value-of-reads
-use Rattle.soundness.proofs.sound.Reads as sound-reads
-use Rattle.fitting.proofs.is_absent.Reads as is-absent-reads
-use Rattle.table.proofs.check.Reads as check-reads
 
 -- src/lib.rt:98:9
 sound-requires : tie.Need-sound-requires

@@ -1,4 +1,5 @@
-use mathlib.Core.Path.{_≡_, refl, sym, _∙_}
+-- `admission::judge_table` meets its contract. Assumes nothing.
+use mathlib.Core.Path.{sym, _∙_}
 use native.Mathlib.Omega.{arith}
 use borrow.Author.Tests.{not-true, not-false}
 use Rattle.scalars.proofs.PartLaws.{bare-part}
@@ -6,10 +7,6 @@ use Rattle.admission.proofs.BringSteps.{table-other, table-deep, table-
 use borrow.Author.Needs.{needs}
 use Rattle.admission.proofs.judge_table.Statement.{statement}
 use Rattle.admission.proofs.judge_table.Tie as tie
-use Rattle.admission.proofs.judge_table.Reads as reads
-use Rattle.admission.proofs.judge_table.Lts as lts
-use Rattle.admission.proofs.has_room.Reads as has-room-reads
-use Rattle.judged.proofs.judge.Reads as judge-reads
 
 -- src/lib.rt:66:9
 judge-requires : tie.Need-judge-requires

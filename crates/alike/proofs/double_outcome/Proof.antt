@@ -1,4 +1,4 @@
--- `numeric::double_outcome` meets its contract. Assumes nothing.
+-- `alike::double_outcome` meets its contract. Assumes nothing.
 use borrow.Author.Needs.{needs}
 use Rattle.alike.proofs.double_outcome.Statement.{statement}
 use Rattle.alike.proofs.double_outcome.Tie as tie

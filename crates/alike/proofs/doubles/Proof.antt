@@ -1,4 +1,4 @@
--- `numeric::doubles` meets its contract. Assumes nothing.
+-- `alike::doubles` meets its contract. Assumes nothing.
 use borrow.Author.Needs.{needs}
 use Rattle.alike.proofs.doubles.Statement.{statement}
 use Rattle.alike.proofs.doubles.Tie as tie

@@ -1,4 +1,4 @@
--- `numeric::int_outcome` meets its contract. Assumes nothing.
+-- `alike::int_outcome` meets its contract. Assumes nothing.
 use borrow.Author.Needs.{needs}
 use mir.Syntax.{w64}
 use mir.ValLaws.{toZ-ofZ}

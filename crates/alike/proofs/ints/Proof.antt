@@ -1,4 +1,4 @@
--- `numeric::ints` meets its contract. Assumes nothing.
+-- `alike::ints` meets its contract. Assumes nothing.
 use borrow.Author.Needs.{needs}
 use Rattle.meaning.specs.Numbers.{intArith}
 use mir.Syntax.{w64}

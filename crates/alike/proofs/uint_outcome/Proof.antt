@@ -1,4 +1,4 @@
--- `numeric::uint_outcome` meets its contract. Assumes nothing.
+-- `alike::uint_outcome` meets its contract. Assumes nothing.
 use borrow.Author.Needs.{needs}
 use Rattle.alike.proofs.uint_outcome.Statement.{statement}
 use Rattle.alike.proofs.uint_outcome.Tie as tie

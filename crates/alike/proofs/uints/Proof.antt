@@ -1,4 +1,4 @@
--- `numeric::uints` meets its contract. Assumes nothing.
+-- `alike::uints` meets its contract. Assumes nothing.
 use borrow.Author.Needs.{needs}
 use Rattle.meaning.specs.Numbers.{uintArith}
 use Rattle.alike.proofs.uints.Statement.{statement}

@@ -1,4 +1,4 @@
--- `first::call` meets its contract. Assumes nothing.
+-- `applied::call` meets its contract. Assumes nothing.
 use borrow.Author.Needs.{needs}
 use Rattle.applied.proofs.call.Statement.{statement}
 use Rattle.applied.proofs.call.Tie as tie

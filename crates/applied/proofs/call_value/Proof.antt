@@ -1,4 +1,4 @@
--- `first::call_value` meets its contract. Assumes nothing.
+-- `applied::call_value` meets its contract. Assumes nothing.
 use borrow.Author.Needs.{needs}
 use Rattle.applied.proofs.call_value.Statement.{statement}
 use Rattle.applied.proofs.call_value.Tie as tie

@@ -1,4 +1,4 @@
--- `first::select` meets its contract. Assumes nothing.
+-- `applied::select` meets its contract. Assumes nothing.
 use borrow.Author.Needs.{needs}
 use Rattle.applied.proofs.select.Statement.{statement}
 use Rattle.applied.proofs.select.Tie as tie

@@ -1,14 +1,9 @@
-use mathlib.Core.Path.{_≡_, refl, sym, ap, _∙_}
-use native.Mathlib.Omega.{arith}
+-- `bindings::bring_in` meets its contract. Assumes nothing.
+use mathlib.Core.Path.{sym, _∙_}
 use Rattle.admission.proofs.AcceptedLaws.{brought-refused, brought-asks, brought-done}
 use borrow.Author.Needs.{needs}
 use Rattle.bindings.proofs.bring_in.Statement.{statement}
 use Rattle.bindings.proofs.bring_in.Tie as tie
-use Rattle.bindings.proofs.bring_in.Reads as reads
-use Rattle.bindings.proofs.bring_in.Lts as lts
-use Rattle.admission.proofs.judge_all.Reads as judge-all-reads
-use Rattle.laid.proofs.lay.Reads as lay-reads
-use Rattle.rooms.proofs.scope.Scope.with.Reads as with-reads
 
 -- src/lib.rt:133:9
 judge-all-requires : tie.Need-judge-all-requires

@@ -1,9 +1,7 @@
+-- `bindings::empty` meets its contract. Assumes nothing.
 use borrow.Author.Needs.{needs}
 use Rattle.bindings.proofs.empty.Statement.{statement}
 use Rattle.bindings.proofs.empty.Tie as tie
-use Rattle.bindings.proofs.empty.Reads as reads
-use Rattle.bindings.proofs.empty.Lts as lts
-use Rattle.rooms.proofs.scope.Scope.empty.Reads as empty-reads
 
 -- src/lib.rt:167:16
 empty-requires : tie.Need-empty-requires

@@ -6,10 +6,6 @@ use Rattle.answers.specs.Meant.{Evaluates}
 use borrow.Author.Needs.{needs}
 use Rattle.board.proofs.evaluate_over.Statement.{statement}
 use Rattle.board.proofs.evaluate_over.Tie as tie
-use Rattle.board.proofs.evaluate_over.Reads as reads
-use Rattle.board.proofs.evaluate_over.Lts as lts
-use Rattle.evaluator.proofs.evaluate.Reads as evaluate-reads
-use Rattle.slots.proofs.bindings_in.Reads as bindings-in-reads
 
 -- src/lib.rt:20:9
 bindings-in-requires : tie.Need-bindings-in-requires

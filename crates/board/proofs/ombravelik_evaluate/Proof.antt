@@ -4,10 +4,6 @@ use Rattle.board.proofs.Boarding.{evaluates-none, evaluates-so}
 use borrow.Author.Needs.{needs}
 use Rattle.board.proofs.ombravelik_evaluate.Statement.{statement}
 use Rattle.board.proofs.ombravelik_evaluate.Tie as tie
-use Rattle.board.proofs.ombravelik_evaluate.Reads as reads
-use Rattle.board.proofs.ombravelik_evaluate.Lts as lts
-use Rattle.board.proofs.evaluate_over.Reads as evaluate-over-reads
-use Rattle.reports.proofs.put_answer.Reads as put-answer-reads
 
 -- src/lib.rt:78:9
 returns : tie.Need-returns

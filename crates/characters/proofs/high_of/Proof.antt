@@ -1,6 +1,5 @@
 -- `characters::high_of` meets its contract. Assumes nothing.
 use borrow.Author.Tests.{eq-eqb, ne-eqb}
-use borrow.Author.Needs.{needs}
 use Rattle.characters.proofs.high_of.Statement.{statement}
 use Rattle.characters.proofs.high_of.Tie as tie
 

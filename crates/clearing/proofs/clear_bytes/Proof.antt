@@ -1,4 +1,4 @@
--- `building::clear_bytes` meets its contract. Assumes nothing.
+-- `clearing::clear_bytes` meets its contract. Assumes nothing.
 use borrow.Author.Needs.{needs}
 use Prim.Native.Nat.{_+_, _≤_}
 use mathlib.Core.Path.{_≡_, refl, _∙_}

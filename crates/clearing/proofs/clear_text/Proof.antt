@@ -1,4 +1,4 @@
--- `building::clear_text` meets its contract. Assumes nothing.
+-- `clearing::clear_text` meets its contract. Assumes nothing.
 
 use mathlib.Core.Path.{_∙_}
 use native.Mathlib.Omega.{arith}

@@ -1,4 +1,4 @@
--- `building::clear_words` meets its contract. Assumes nothing.
+-- `clearing::clear_words` meets its contract. Assumes nothing.
 use borrow.Author.Needs.{needs}
 use Prim.Native.Nat.{_+_, _≤_}
 use mathlib.Core.Path.{_≡_, refl, _∙_}

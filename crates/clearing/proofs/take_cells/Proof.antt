@@ -1,4 +1,4 @@
--- `building::take_cells` meets its contract. Assumes nothing.
+-- `clearing::take_cells` meets its contract. Assumes nothing.
 
 use mathlib.Core.Path.{ap, _∙_}
 use native.Mathlib.Omega.{arith}

@@ -1,6 +1,6 @@
 -- `conditions::asks` meets its contract. Assumes nothing.
 use borrow.Author.Needs.{needs}
-use mathlib.Core.Path.{_≡_, refl}
+use mathlib.Core.Path.{refl}
 use Rattle.outcomes.proofs.Stops.{by-stop}
 use Rattle.conditions.specs.Decisions.{askedOf}
 use Rattle.conditions.specs.declared.Asked.the-variants as Asked

@@ -1,6 +1,6 @@
 -- `begin` meets its contract. Assumes nothing.
 use borrow.Author.Needs.{needs}
-use mathlib.Core.Path.{_≡_, sym, _∙_, ap}
+use mathlib.Core.Path.{sym, _∙_}
 use native.Mathlib.Omega.{arith}
 use Rattle.outcomes.proofs.Taking.{cells-within}
 use Rattle.containers.proofs.begin.Statement.{statement}

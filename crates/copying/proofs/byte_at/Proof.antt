@@ -1,4 +1,4 @@
--- `building::byte_at` meets its contract. Assumes nothing.
+-- `copying::byte_at` meets its contract. Assumes nothing.
 use borrow.Author.Needs.{needs}
 use Rattle.copying.proofs.byte_at.Statement.{statement}
 use Rattle.copying.proofs.byte_at.Tie as tie

@@ -1,4 +1,4 @@
--- `building::byte_in` meets its contract. Assumes nothing.
+-- `copying::byte_in` meets its contract. Assumes nothing.
 use mathlib.Core.Path.{sym}
 use Rattle.building.proofs.BuildingSteps.{beyond}
 use borrow.Author.Needs.{needs}

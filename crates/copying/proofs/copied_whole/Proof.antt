@@ -1,6 +1,6 @@
 -- `copying::copied_whole` meets its contract: what is left of the bytes is still to be copied. Assumes nothing.
 use Prim.Native.Nat.{_-_, _≤_}
-use mathlib.Core.Path.{_≡_, refl, sym, ap, _∙_}
+use mathlib.Core.Path.{_≡_, refl, _∙_}
 use native.Mathlib.Omega.{arith}
 use lib.ListN as Lists
 use lib.ListN.{length-set}

@@ -1,4 +1,4 @@
--- `building::copy_cells` meets its contract. Assumes nothing.
+-- `copying::copy_cells` meets its contract. Assumes nothing.
 use borrow.Author.Needs.{needs}
 use Prim.Native.Nat.{_+_, _≤_}
 use mathlib.Core.Path.{_≡_, refl, ap, _∙_}

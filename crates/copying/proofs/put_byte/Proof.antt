@@ -1,4 +1,4 @@
--- `building::put_byte` meets its contract. Assumes nothing.
+-- `copying::put_byte` meets its contract. Assumes nothing.
 use mathlib.Core.Path.{sym}
 use lib.Seq.{set-out}
 use borrow.Author.Needs.{needs}

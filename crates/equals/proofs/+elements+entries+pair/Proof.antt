@@ -3,26 +3,15 @@ mod Kit
 mod Elements
 mod Entries
 mod Pair
-use Prim.Native.Nat.{ℕ, _<_}
-use borrow.Fn.Kinds.{In}
-use borrow.Fn.PlainCycle.{Measures, is, falls, and}
 use Rattle.equals.proofs.elements.Reads as elements
-use Rattle.equals.proofs.elements.Kinds as elements-kinds
 use Rattle.equals.proofs.+elements+entries+pair.Lts-elements as elements-lts
 use Rattle.equals.proofs.entries.Reads as entries
-use Rattle.equals.proofs.entries.Kinds as entries-kinds
 use Rattle.equals.proofs.+elements+entries+pair.Lts-entries as entries-lts
 use Rattle.equals.proofs.pair.Reads as pair
-use Rattle.equals.proofs.pair.Kinds as pair-kinds
 use Rattle.equals.proofs.+elements+entries+pair.Lts-pair as pair-lts
-use Rattle.cells.proofs.cell_at.Reads as cell-at-reads
-use Rattle.comparing.proofs.lookup.find.Reads as find-reads
-use Rattle.comparing.proofs.plain.plain_equal.Reads as plain-equal-reads
-use Rattle.equals.proofs.verdict.Reads as verdict-reads
-use Rattle.rooms.proofs.value.parts_of.Reads as parts-of-reads
 use Rattle.equals.proofs.+elements+entries+pair.{statement}
 use Rattle.equals.proofs.+elements+entries+pair.Tie.{close}
-use Rattle.equals.proofs.+elements+entries+pair.Proof.Kit.{elements-claims, entries-claims, pair-claims, μ-elements, μ-entries, μ-pair, elements-at, elements-below, entries-at, entries-below, pair-at, pair-below}
+use Rattle.equals.proofs.+elements+entries+pair.Proof.Kit.{elements-claims, entries-claims, pair-claims, μ-elements, μ-entries, μ-pair, elements-at, entries-at, pair-at}
 use Rattle.equals.proofs.+elements+entries+pair.Proof.Elements.{elements-Inv-loop, elements-μ-loop, elements-loop-holds, elements-cell-at-requires, elements-cell-at-requires-2, elements-pair-requires, elements-enum-known-more, elements-enum-known-more-2, elements-returns, elements-enum-known-more-3, elements-returns-2, elements-add-at, elements-add-other, elements-sub-left, elements-loop-less, elements-loop-again, elements-returns-3}
 use Rattle.equals.proofs.+elements+entries+pair.Proof.Entries.{entries-Inv-loop, entries-μ-loop, entries-loop-holds, entries-cell-at-requires, entries-find-requires, entries-enum-known-cell, entries-add-cell-at, entries-cell-at-requires-2, entries-cell-at-requires-3, entries-pair-requires, entries-enum-known-more, entries-enum-known-more-2, entries-returns, entries-enum-known-more-3, entries-returns-2, entries-enum-known-looked, entries-returns-3, entries-enum-known-looked-2, entries-returns-4, entries-add-at, entries-sub-left, entries-loop-less, entries-loop-again, entries-returns-5}
 use Rattle.equals.proofs.+elements+entries+pair.Proof.Pair.{pair-returns, pair-returns-2, pair-sub-within, pair-add-pairs, pair-parts-of-requires, pair-enum-known-space, pair-parts-of-requires-2, pair-enum-known-there, pair-returns-3, pair-elements-requires, pair-enum-told, pair-enum-told-2, pair-enum-told-3, pair-enum-known-space-2, pair-parts-of-requires-3, pair-enum-told-4, pair-enum-known-there-2, pair-returns-4, pair-entries-requires, pair-enum-told-5, pair-enum-told-6, pair-enum-known-space-3, pair-parts-of-requires-4, pair-enum-told-7, pair-enum-told-8, pair-enum-known-there-3, pair-cast-cell-at, pair-cell-at-requires, pair-cast-cell-at-2, pair-cell-at-requires-2, pair-pair-requires, pair-enum-told-9, pair-enum-told-10, pair-plain-equal-requires, pair-verdict-requires, pair-returns-5, pair-returns-6, pair-returns-7, pair-returns-8, pair-returns-9, pair-returns-10, pair-returns-11, pair-returns-12, pair-returns-13, pair-returns-14, pair-returns-15, pair-returns-16, pair-returns-17}

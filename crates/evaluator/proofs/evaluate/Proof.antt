@@ -1,5 +1,4 @@
 -- `evaluate` meets its contract. Assumes nothing.
-use Prim.Native.Nat.{ℕ}
 use mathlib.Core.Path.{sym, _∙_}
 use native.Mathlib.Omega.{arith}
 use Rattle.rooms.specs.Rooms.{rooms}

@@ -1,8 +1,7 @@
+-- `findings::first_of` meets its contract. Assumes nothing.
 use borrow.Author.Needs.{needs}
 use Rattle.findings.proofs.first_of.Statement.{statement}
 use Rattle.findings.proofs.first_of.Tie as tie
-use Rattle.findings.proofs.first_of.Reads as reads
-use Rattle.findings.proofs.first_of.Lts as lts
 
 -- src/judging.rt:44:19
 enum-known-a : tie.Need-enum-known-a

@@ -1,10 +1,7 @@
+-- `findings::joined` meets its contract. Assumes nothing.
 use borrow.Author.Needs.{needs}
 use Rattle.findings.proofs.joined.Statement.{statement}
 use Rattle.findings.proofs.joined.Tie as tie
-use Rattle.findings.proofs.joined.Reads as reads
-use Rattle.findings.proofs.joined.Lts as lts
-use Rattle.findings.proofs.first_of.Reads as first-of-reads
-use Rattle.findings.proofs.greater.Reads as greater-reads
 
 -- src/judging.rt:65:16
 first-of-requires : tie.Need-first-of-requires

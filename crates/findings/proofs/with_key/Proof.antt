@@ -1,9 +1,7 @@
+-- `findings::with_key` meets its contract. Assumes nothing.
 use borrow.Author.Needs.{needs}
 use Rattle.findings.proofs.with_key.Statement.{statement}
 use Rattle.findings.proofs.with_key.Tie as tie
-use Rattle.findings.proofs.with_key.Reads as reads
-use Rattle.findings.proofs.with_key.Lts as lts
-use Rattle.findings.proofs.first_of.Reads as first-of-reads
 
 -- src/judging.rt:80:14
 first-of-requires : tie.Need-first-of-requires

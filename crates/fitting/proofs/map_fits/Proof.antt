@@ -1,13 +1,10 @@
+-- `fitting::map_fits` meets its contract. Assumes nothing.
 use borrow.Author.Tests.{not-true, not-false}
 use native.Mathlib.Omega.{arith}
 use Rattle.references.specs.Fits.{mapFits}
 use borrow.Author.Needs.{needs}
 use Rattle.fitting.proofs.map_fits.Statement.{statement}
 use Rattle.fitting.proofs.map_fits.Tie as tie
-use Rattle.fitting.proofs.map_fits.Reads as reads
-use Rattle.fitting.proofs.map_fits.Lts as lts
-use Rattle.mapkeys.proofs.keys_fit.Reads as keys-fit-reads
-use Rattle.references.proofs.row_fits.Reads as row-fits-reads
 
 -- src/values.rt:111:9
 mul-row-fits : tie.Need-mul-row-fits

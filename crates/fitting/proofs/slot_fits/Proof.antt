@@ -1,11 +1,8 @@
+-- `fitting::slot_fits` meets its contract. Assumes nothing.
 use Rattle.references.specs.Fits.{slotFits}
 use borrow.Author.Needs.{needs}
 use Rattle.fitting.proofs.slot_fits.Statement.{statement}
 use Rattle.fitting.proofs.slot_fits.Tie as tie
-use Rattle.fitting.proofs.slot_fits.Reads as reads
-use Rattle.fitting.proofs.slot_fits.Lts as lts
-use Rattle.fitting.proofs.is_absent.Reads as is-absent-reads
-use Rattle.fitting.proofs.value_fits.Reads as value-fits-reads
 
 -- src/values.rt:175:8
 is-absent-requires : tie.Need-is-absent-requires

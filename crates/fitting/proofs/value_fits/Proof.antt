@@ -1,12 +1,7 @@
+-- `fitting::value_fits` meets its contract. Assumes nothing.
 use borrow.Author.Needs.{needs}
 use Rattle.fitting.proofs.value_fits.Statement.{statement}
 use Rattle.fitting.proofs.value_fits.Tie as tie
-use Rattle.fitting.proofs.value_fits.Reads as reads
-use Rattle.fitting.proofs.value_fits.Lts as lts
-use Rattle.fitting.proofs.map_fits.Reads as map-fits-reads
-use Rattle.references.proofs.row_fits.Reads as row-fits-reads
-use Rattle.references.proofs.span_fits.Reads as span-fits-reads
-use Rattle.references.proofs.string_fits.Reads as string-fits-reads
 
 -- src/values.rt:130:24
 enum-told : tie.Need-enum-told

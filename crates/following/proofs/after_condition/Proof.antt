@@ -1,4 +1,4 @@
--- `first::after_condition` meets its contract. Assumes nothing.
+-- `following::after_condition` meets its contract. Assumes nothing.
 use borrow.Author.Needs.{needs}
 use Rattle.following.proofs.after_condition.Statement.{statement}
 use Rattle.following.proofs.after_condition.Tie as tie

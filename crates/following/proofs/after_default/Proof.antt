@@ -1,4 +1,4 @@
--- `first::after_default` meets its contract. Assumes nothing.
+-- `following::after_default` meets its contract. Assumes nothing.
 use borrow.Author.Needs.{needs}
 use Rattle.following.proofs.after_default.Statement.{statement}
 use Rattle.following.proofs.after_default.Tie as tie

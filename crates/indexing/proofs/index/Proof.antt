@@ -1,4 +1,4 @@
--- `index::index` meets its contract. Assumes nothing.
+-- `indexing::index` meets its contract. Assumes nothing.
 use borrow.Author.Needs.{needs}
 use Rattle.rooms.specs.Rooms.{cellAt}
 use Rattle.indexing.proofs.index.Statement.{statement}

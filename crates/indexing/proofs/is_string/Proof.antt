@@ -1,4 +1,4 @@
--- `index::is_string` meets its contract. Assumes nothing.
+-- `indexing::is_string` meets its contract. Assumes nothing.
 use borrow.Author.Needs.{needs}
 use Rattle.indexing.proofs.is_string.Statement.{statement}
 use Rattle.indexing.proofs.is_string.Tie as tie

@@ -1,4 +1,4 @@
--- `index::optional_select` meets its contract. Assumes nothing.
+-- `indexing::optional_select` meets its contract. Assumes nothing.
 use borrow.Author.Needs.{needs}
 use Rattle.indexing.proofs.optional_select.Statement.{statement}
 use Rattle.indexing.proofs.optional_select.Tie as tie

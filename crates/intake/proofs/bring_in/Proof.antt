@@ -4,11 +4,6 @@ use Rattle.intake.proofs.TakesIn.{brings-none, brings-so}
 use borrow.Author.Needs.{needs}
 use Rattle.intake.proofs.bring_in.Statement.{statement}
 use Rattle.intake.proofs.bring_in.Tie as tie
-use Rattle.intake.proofs.bring_in.Reads as reads
-use Rattle.intake.proofs.bring_in.Lts as lts
-use Rattle.reports.proofs.put_done.Reads as put-done-reads
-use Rattle.reports.proofs.put_refusal.Reads as put-refusal-reads
-use Rattle.stowing.proofs.bring_in.Reads as bring-in-reads
 
 -- src/lib.rt:53:9
 returns : tie.Need-returns

@@ -3,10 +3,6 @@ use Rattle.intake.proofs.TakesIn.{checks-so}
 use borrow.Author.Needs.{needs}
 use Rattle.intake.proofs.check.Statement.{statement}
 use Rattle.intake.proofs.check.Tie as tie
-use Rattle.intake.proofs.check.Reads as reads
-use Rattle.intake.proofs.check.Lts as lts
-use Rattle.reports.proofs.put_checked.Reads as put-checked-reads
-use Rattle.table.proofs.check.Reads as check-reads
 
 -- src/lib.rt:22:9
 check-requires : tie.Need-check-requires

@@ -3,10 +3,6 @@ use Rattle.intake.proofs.TakesIn.{empties-none, empties-so}
 use borrow.Author.Needs.{needs}
 use Rattle.intake.proofs.empty.Statement.{statement}
 use Rattle.intake.proofs.empty.Tie as tie
-use Rattle.intake.proofs.empty.Reads as reads
-use Rattle.intake.proofs.empty.Lts as lts
-use Rattle.bindings.proofs.empty.Reads as empty-reads
-use Rattle.slots.proofs.put_bindings.Reads as put-bindings-reads
 
 -- src/lib.rt:32:9
 returns : tie.Need-returns

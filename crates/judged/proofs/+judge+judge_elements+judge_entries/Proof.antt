@@ -1,33 +1,17 @@
+-- `judged::judge`, `judge_elements` and `judge_entries`, which call each other, meet their contracts: the record's bytes fall. Assumes nothing.
 mod Kit
 mod Judge
 mod JudgeElements
 mod JudgeEntries
-use Prim.Native.Nat.{ℕ, _<_}
-use borrow.Fn.Kinds.{In}
-use borrow.Fn.PlainCycle.{Measures, is, falls, and}
 use Rattle.judged.proofs.judge.Reads as judge
-use Rattle.judged.proofs.judge.Kinds as judge-kinds
 use Rattle.judged.proofs.+judge+judge_elements+judge_entries.Lts-judge as judge-lts
 use Rattle.judged.proofs.judge_elements.Reads as judge-elements
-use Rattle.judged.proofs.judge_elements.Kinds as judge-elements-kinds
 use Rattle.judged.proofs.+judge+judge_elements+judge_entries.Lts-judge_elements as judge-elements-lts
 use Rattle.judged.proofs.judge_entries.Reads as judge-entries
-use Rattle.judged.proofs.judge_entries.Kinds as judge-entries-kinds
 use Rattle.judged.proofs.+judge+judge_elements+judge_entries.Lts-judge_entries as judge-entries-lts
-use Rattle.findings.proofs.deepened.Reads as deepened-reads
-use Rattle.findings.proofs.joined.Reads as joined-reads
-use Rattle.repeats.proofs.key_fault.Reads as key-fault-reads
-use Rattle.findings.proofs.nothing_judged.Reads as nothing-judged-reads
-use Rattle.findings.proofs.with_key.Reads as with-key-reads
-use Rattle.judged.proofs.without_parts.Reads as without-parts-reads
-use Rattle.scalars.proofs.literal_at.Reads as literal-at-reads
-use Rattle.bodies.proofs.count_at.Reads as count-at-reads
-use Rattle.outline.proofs.end_at.Reads as end-at-reads
-use Rattle.outline.proofs.first_operand.Reads as first-operand-reads
-use Rattle.outline.proofs.kind_at.Reads as kind-at-reads
 use Rattle.judged.proofs.+judge+judge_elements+judge_entries.{statement}
 use Rattle.judged.proofs.+judge+judge_elements+judge_entries.Tie.{close}
-use Rattle.judged.proofs.+judge+judge_elements+judge_entries.Proof.Kit.{μ-judge, μ-judge-elements, μ-judge-entries, judge-at, judge-below, judge-elements-at, judge-elements-below, judge-entries-at, judge-entries-below, judge-claims, judge-elements-claims, judge-entries-claims}
+use Rattle.judged.proofs.+judge+judge_elements+judge_entries.Proof.Kit.{μ-judge, μ-judge-elements, μ-judge-entries, judge-at, judge-elements-at, judge-entries-at, judge-claims, judge-elements-claims, judge-entries-claims}
 use Rattle.judged.proofs.+judge+judge_elements+judge_entries.Proof.Judge.{judge-kind-at-requires, judge-first-operand-requires, judge-count-at-requires, judge-judge-elements-requires, judge-deepened-requires, judge-returns, judge-first-operand-requires-2, judge-count-at-requires-2, judge-judge-entries-requires, judge-deepened-requires-2, judge-returns-2, judge-literal-at-requires, judge-without-parts-requires, judge-returns-3}
 use Rattle.judged.proofs.+judge+judge_elements+judge_entries.Proof.JudgeElements.{judge-elements-Inv-loop, judge-elements-μ-loop, judge-elements-nothing-judged-requires, judge-elements-loop-holds, judge-elements-judge-requires, judge-elements-joined-requires, judge-elements-end-at-requires, judge-elements-sub-left, judge-elements-loop-less, judge-elements-loop-again, judge-elements-returns}
 use Rattle.judged.proofs.+judge+judge_elements+judge_entries.Proof.JudgeEntries.{judge-entries-Inv-loop, judge-entries-μ-loop, judge-entries-nothing-judged-requires, judge-entries-loop-holds, judge-entries-end-at-requires, judge-entries-sub-key-fault, judge-entries-key-fault-requires, judge-entries-with-key-requires, judge-entries-judge-requires, judge-entries-joined-requires, judge-entries-judge-requires-2, judge-entries-joined-requires-2, judge-entries-end-at-requires-2, judge-entries-sub-left, judge-entries-loop-less, judge-entries-loop-again, judge-entries-returns}

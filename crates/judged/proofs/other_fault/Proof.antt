@@ -1,9 +1,7 @@
+-- `judged::other_fault` meets its contract. Assumes nothing.
 use borrow.Author.Needs.{needs}
 use Rattle.judged.proofs.other_fault.Statement.{statement}
 use Rattle.judged.proofs.other_fault.Tie as tie
-use Rattle.judged.proofs.other_fault.Reads as reads
-use Rattle.judged.proofs.other_fault.Lts as lts
-use Rattle.fitting.proofs.is_absent.Reads as is-absent-reads
 
 -- src/judging.rt:118:8
 is-absent-requires : tie.Need-is-absent-requires

@@ -1,10 +1,7 @@
+-- `judged::without_parts` meets its contract. Assumes nothing.
 use borrow.Author.Needs.{needs}
 use Rattle.judged.proofs.without_parts.Statement.{statement}
 use Rattle.judged.proofs.without_parts.Tie as tie
-use Rattle.judged.proofs.without_parts.Reads as reads
-use Rattle.judged.proofs.without_parts.Lts as lts
-use Rattle.judged.proofs.other_fault.Reads as other-fault-reads
-use Rattle.scalars.proofs.text_length.Reads as text-length-reads
 
 -- src/judging.rt:128:9
 other-fault-requires : tie.Need-other-fault-requires

@@ -1,8 +1,6 @@
 -- `is_cleared` meets its contract. Assumes nothing.
 use borrow.Author.Needs.{needs}
 use mathlib.Core.Path.{ap, _∙_}
-use native.Mathlib.Omega.{arith}
-use lib.ListN.{length-take}
 use Rattle.lending.specs.Lent.{allAre}
 use Rattle.kept.proofs.Testing.{front, both, not-first}
 use Rattle.kept.proofs.is_cleared.Statement.{statement}

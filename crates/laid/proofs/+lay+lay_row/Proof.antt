@@ -1,27 +1,14 @@
+-- `laid::lay` and `lay_row`, which call each other, meet their contracts: the record's bytes fall. Assumes nothing.
 mod Kit
 mod Lay
 mod LayRow
-use Prim.Native.Nat.{ℕ, _<_}
-use borrow.Fn.Kinds.{In}
-use borrow.Fn.PlainCycle.{Measures, is, falls, and}
 use Rattle.laid.proofs.lay.Reads as lay
-use Rattle.laid.proofs.lay.Kinds as lay-kinds
 use Rattle.laid.proofs.+lay+lay_row.Lts-lay as lay-lts
 use Rattle.laid.proofs.lay_row.Reads as lay-row
-use Rattle.laid.proofs.lay_row.Kinds as lay-row-kinds
 use Rattle.laid.proofs.+lay+lay_row.Lts-lay_row as lay-row-lts
-use Rattle.laid.proofs.lay_literal.Reads as lay-literal-reads
-use Rattle.scalars.proofs.literal_at.Reads as literal-at-reads
-use Rattle.cells.proofs.write_cell.Reads as write-cell-reads
-use Rattle.rooms.proofs.value.nesting_of.Reads as nesting-of-reads
-use Rattle.references.proofs.deeper.Reads as deeper-reads
-use Rattle.bodies.proofs.count_at.Reads as count-at-reads
-use Rattle.outline.proofs.end_at.Reads as end-at-reads
-use Rattle.outline.proofs.first_operand.Reads as first-operand-reads
-use Rattle.outline.proofs.kind_at.Reads as kind-at-reads
 use Rattle.laid.proofs.+lay+lay_row.{statement}
 use Rattle.laid.proofs.+lay+lay_row.Tie.{close}
-use Rattle.laid.proofs.+lay+lay_row.Proof.Kit.{μ-lay, μ-lay-row, lay-at, lay-below, lay-row-at, lay-row-below, lay-claims, lay-row-claims}
+use Rattle.laid.proofs.+lay+lay_row.Proof.Kit.{μ-lay, μ-lay-row, lay-at, lay-row-at, lay-claims, lay-row-claims}
 use Rattle.laid.proofs.+lay+lay_row.Proof.Lay.{lay-kind-at-requires, lay-first-operand-requires, lay-count-at-requires, lay-lay-row-requires, lay-add-t20, lay-cast-t22, lay-cast-t23, lay-same-length, lay-same-length-2, lay-returns, lay-first-operand-requires-2, lay-count-at-requires-2, lay-mul-lay-row, lay-lay-row-requires-2, lay-add-t30, lay-cast-t32, lay-cast-t33, lay-same-length-3, lay-same-length-4, lay-returns-2, lay-literal-at-requires, lay-lay-literal-requires, lay-same-length-5, lay-returns-3}
 use Rattle.laid.proofs.+lay+lay_row.Proof.LayRow.{lay-row-Inv-loop, lay-row-μ-loop, lay-row-add-t15, lay-row-loop-holds, lay-row-lay-requires, lay-row-write-cell-requires, lay-row-nesting-of-requires, lay-row-deeper-requires, lay-row-end-at-requires, lay-row-add-to, lay-row-sub-left, lay-row-loop-less, lay-row-loop-again, lay-row-same-length, lay-row-same-length-2, lay-row-returns}
 

@@ -1,13 +1,7 @@
-use mathlib.Core.Path.{_≡_, sym, _∙_}
+-- `laid::lay_literal` meets its contract. Assumes nothing.
 use borrow.Author.Needs.{needs}
 use Rattle.laid.proofs.lay_literal.Statement.{statement}
 use Rattle.laid.proofs.lay_literal.Tie as tie
-use Rattle.laid.proofs.lay_literal.Reads as reads
-use Rattle.laid.proofs.lay_literal.Lts as lts
-use Rattle.scalars.proofs.moved_to.Reads as moved-to-reads
-use Rattle.scalars.proofs.text_first.Reads as text-first-reads
-use Rattle.scalars.proofs.text_length.Reads as text-length-reads
-use Rattle.copying.proofs.copy_text.Reads as copy-text-reads
 
 -- src/laying.rt:51:9
 text-length-requires : tie.Need-text-length-requires

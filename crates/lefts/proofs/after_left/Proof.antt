@@ -1,4 +1,4 @@
--- `first::after_left` meets its contract. Assumes nothing.
+-- `lefts::after_left` meets its contract. Assumes nothing.
 use borrow.Author.Needs.{needs}
 use Rattle.lefts.proofs.after_left.Statement.{statement}
 use Rattle.lefts.proofs.after_left.Tie as tie

@@ -1,4 +1,4 @@
--- `first::binary_left` meets its contract. Assumes nothing.
+-- `lefts::binary_left` meets its contract. Assumes nothing.
 use borrow.Author.Needs.{needs}
 use Rattle.lefts.proofs.binary_left.Statement.{statement}
 use Rattle.lefts.proofs.binary_left.Tie as tie

@@ -1,4 +1,4 @@
--- `first::index_left` meets its contract. Assumes nothing.
+-- `lefts::index_left` meets its contract. Assumes nothing.
 use borrow.Author.Needs.{needs}
 use Rattle.lefts.proofs.index_left.Statement.{statement}
 use Rattle.lefts.proofs.index_left.Tie as tie

@@ -1,4 +1,4 @@
--- `first::unless_none` meets its contract. Assumes nothing.
+-- `lefts::unless_none` meets its contract. Assumes nothing.
 use borrow.Author.Needs.{needs}
 use Rattle.lefts.proofs.unless_none.Statement.{statement}
 use Rattle.lefts.proofs.unless_none.Tie as tie

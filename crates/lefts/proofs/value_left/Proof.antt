@@ -1,4 +1,4 @@
--- `first::value_left` meets its contract. Assumes nothing.
+-- `lefts::value_left` meets its contract. Assumes nothing.
 use borrow.Author.Needs.{needs}
 use Rattle.lefts.proofs.value_left.Statement.{statement}
 use Rattle.lefts.proofs.value_left.Tie as tie

@@ -1,5 +1,4 @@
 -- `bytes_of` meets its contract. Assumes nothing.
-use borrow.Author.Needs.{needs}
 use native.Mathlib.Omega.{arith}
 use lib.ListN.{length-take}
 use Rattle.lending.proofs.bytes_of.Statement.{statement}

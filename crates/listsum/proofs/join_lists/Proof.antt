@@ -1,6 +1,6 @@
--- `sums::join_lists` meets its contract. Assumes nothing.
+-- `listsum::join_lists` meets its contract. Assumes nothing.
 use borrow.Author.Needs.{needs}
-use mathlib.Core.Path.{_≡_, sym, _∙_, ap}
+use mathlib.Core.Path.{sym, _∙_}
 use native.Mathlib.Omega.{arith}
 use Rattle.outcomes.proofs.Taking.{cells-within}
 use Rattle.listsum.proofs.join_lists.Statement.{statement}

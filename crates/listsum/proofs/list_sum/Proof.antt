@@ -1,4 +1,4 @@
--- `sums::list_sum` meets its contract. Assumes nothing.
+-- `listsum::list_sum` meets its contract. Assumes nothing.
 use borrow.Author.Needs.{needs}
 use Rattle.listsum.proofs.list_sum.Statement.{statement}
 use Rattle.listsum.proofs.list_sum.Tie as tie

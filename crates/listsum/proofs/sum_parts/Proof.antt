@@ -1,4 +1,4 @@
--- `sums::sum_parts` meets its contract. Assumes nothing.
+-- `listsum::sum_parts` meets its contract. Assumes nothing.
 use borrow.Author.Needs.{needs}
 use Rattle.listsum.proofs.sum_parts.Statement.{statement}
 use Rattle.listsum.proofs.sum_parts.Tie as tie

@@ -1,4 +1,4 @@
--- `lookup::optionally` meets its contract. Assumes nothing.
+-- `lookedup::optionally` meets its contract. Assumes nothing.
 use borrow.Author.Needs.{needs}
 use Rattle.lookedup.proofs.optionally.Statement.{statement}
 use Rattle.lookedup.proofs.optionally.Tie as tie

@@ -1,4 +1,4 @@
--- `index::perhaps` meets its contract. Assumes nothing.
+-- `lookedup::perhaps` meets its contract. Assumes nothing.
 use borrow.Author.Needs.{needs}
 use Rattle.lookedup.proofs.perhaps.Statement.{statement}
 use Rattle.lookedup.proofs.perhaps.Tie as tie

@@ -1,4 +1,4 @@
--- `select::select_in_container` meets its contract. Assumes nothing.
+-- `lookedup::select_in_container` meets its contract. Assumes nothing.
 use borrow.Author.Needs.{needs}
 use Rattle.lookedup.proofs.select_in_container.Statement.{statement}
 use Rattle.lookedup.proofs.select_in_container.Tie as tie

@@ -1,4 +1,4 @@
--- `lookup::tells` meets its contract. Assumes nothing.
+-- `lookedup::tells` meets its contract. Assumes nothing.
 use borrow.Author.Needs.{needs}
 use Rattle.lookedup.proofs.tells.Statement.{statement}
 use Rattle.lookedup.proofs.tells.Tie as tie

@@ -1,4 +1,4 @@
--- `lookup::element` meets its contract. Assumes nothing.
+-- `lookups::element` meets its contract. Assumes nothing.
 use borrow.Author.Needs.{needs}
 use Rattle.rooms.specs.Rooms.{cellAt}
 use mathlib.Core.Path.{_∙_, sym}

@@ -1,4 +1,4 @@
--- `lookup::entry` meets its contract. Assumes nothing.
+-- `lookups::entry` meets its contract. Assumes nothing.
 use borrow.Author.Needs.{needs}
 use Rattle.lookups.proofs.entry.Statement.{statement}
 use Rattle.lookups.proofs.entry.Tie as tie

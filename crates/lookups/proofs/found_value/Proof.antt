@@ -1,4 +1,4 @@
--- `lookup::found_value` meets its contract. Assumes nothing.
+-- `lookups::found_value` meets its contract. Assumes nothing.
 use borrow.Author.Needs.{needs}
 use Rattle.rooms.specs.Rooms.{cellAt}
 use Rattle.lookups.proofs.found_value.Statement.{statement}

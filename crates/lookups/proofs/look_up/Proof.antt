@@ -1,4 +1,4 @@
--- `lookup::look_up` meets its contract. Assumes nothing.
+-- `lookups::look_up` meets its contract. Assumes nothing.
 use borrow.Author.Needs.{needs}
 use Rattle.lookups.proofs.look_up.Statement.{statement}
 use Rattle.lookups.proofs.look_up.Tie as tie

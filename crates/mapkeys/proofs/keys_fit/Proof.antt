@@ -1,3 +1,4 @@
+-- `mapkeys::keys_fit` meets its contract. Assumes nothing.
 use borrow.Author.Needs.{needs}
 use mathlib.Core.Path.{_≡_, refl, sym, _∙_}
 use Prim.Native.Nat.{_+_, _*_, _<_}
@@ -7,11 +8,6 @@ use Rattle.mapkeys.specs.Keys.{keysFit}
 use Rattle.mapkeys.proofs.KeySteps.{keys-none, keys-wrong, keys-repeated, keys-on}
 use Rattle.mapkeys.proofs.keys_fit.Statement.{statement}
 use Rattle.mapkeys.proofs.keys_fit.Tie as tie
-use Rattle.mapkeys.proofs.keys_fit.Reads as reads
-use Rattle.mapkeys.proofs.keys_fit.Lts as lts
-use Rattle.cells.proofs.read_cell.Reads as read-cell-reads
-use Rattle.mapkeys.proofs.is_key.Reads as is-key-reads
-use Rattle.mapkeys.proofs.repeated.Reads as repeated-reads
 
 abbrev Inv-loop : tie.InvT-loop
 Inv-loop cells text first length at₀ left₀ at left = (at + 2 * left < 200000) × (keysFit cells text at left ≡ keysFit cells text first length)

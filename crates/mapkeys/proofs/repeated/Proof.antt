@@ -1,3 +1,4 @@
+-- `mapkeys::repeated` meets its contract. Assumes nothing.
 use borrow.Author.Needs.{needs}
 use mathlib.Core.Path.{_≡_, refl, sym, _∙_}
 use Prim.Native.Nat.{_+_, _*_, _<_}
@@ -6,10 +7,6 @@ use Rattle.mapkeys.specs.Keys.{match, repeatedIn}
 use Rattle.mapkeys.proofs.KeySteps.{repeated-none, repeated-found, repeated-on}
 use Rattle.mapkeys.proofs.repeated.Statement.{statement}
 use Rattle.mapkeys.proofs.repeated.Tie as tie
-use Rattle.mapkeys.proofs.repeated.Reads as reads
-use Rattle.mapkeys.proofs.repeated.Lts as lts
-use Rattle.cells.proofs.read_cell.Reads as read-cell-reads
-use Rattle.comparing.proofs.plain.key_equal.Reads as key-equal-reads
 
 abbrev Inv-loop : tie.InvT-loop
 Inv-loop cells text key first count at₀ left₀ t9 t10 at left = (at + 2 * left < 262144) × (repeatedIn cells text key at left ≡ repeatedIn cells text key first count)

@@ -1,4 +1,4 @@
--- `numeric::negate` meets its contract. Assumes nothing.
+-- `negation::negate` meets its contract. Assumes nothing.
 use borrow.Author.Needs.{needs}
 use Rattle.negation.proofs.negate.Statement.{statement}
 use Rattle.negation.proofs.negate.Tie as tie

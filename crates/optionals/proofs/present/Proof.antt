@@ -1,6 +1,6 @@
--- `lookup::present` meets its contract. Assumes nothing.
+-- `optionals::present` meets its contract. Assumes nothing.
 use borrow.Author.Needs.{needs}
-use mathlib.Core.Path.{_≡_, sym, _∙_}
+use mathlib.Core.Path.{sym, _∙_}
 use native.Mathlib.Omega.{arith}
 use borrow.Author.Tests.{le-ltb, lt-ltb}
 use Rattle.outcomes.proofs.Taking.{cells-within}

@@ -4,9 +4,6 @@ use Rattle.overlay.proofs.Laying.{too-few, enough}
 use borrow.Author.Needs.{needs}
 use Rattle.overlay.proofs.hand.Statement.{statement}
 use Rattle.overlay.proofs.hand.Tie as tie
-use Rattle.overlay.proofs.hand.Reads as reads
-use Rattle.overlay.proofs.hand.Lts as lts
-use Rattle.overlay.proofs.lay.Reads as lay-reads
 
 -- src/lib.rt:31:9
 returns : tie.Need-returns

@@ -1,15 +1,13 @@
 -- `overlay::lay`: the words laid so far, over those that were lent. Assumes nothing.
 use borrow.Author.Needs.{needs}
 use Prim.Native.Nat.{ℕ, _-_, _≤_}
-use mathlib.Core.Path.{_≡_, refl, sym, ap, _∙_}
+use mathlib.Core.Path.{_≡_, refl, ap, _∙_}
 use mathlib.Core.List.{List}
 use native.Mathlib.Omega.{arith}
 use lib.ListN.{length, set, getD, length-set}
 use Rattle.overlay.proofs.Laying.{laid, lay-on, laid-all}
 use Rattle.overlay.proofs.lay.Statement.{statement}
 use Rattle.overlay.proofs.lay.Tie as tie
-use Rattle.overlay.proofs.lay.Reads as reads
-use Rattle.overlay.proofs.lay.Lts as lts
 
 abbrev Inv-loop : tie.InvT-loop
 Inv-loop lent₀ words at₀ lent at = (length lent ≡ length lent₀) × (lent ≡ laid words lent₀ at) × (at ≤ length words)

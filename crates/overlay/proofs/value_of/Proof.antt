@@ -4,9 +4,6 @@ use Rattle.overlay.proofs.Laying.{cell-alone}
 use borrow.Author.Needs.{needs}
 use Rattle.overlay.proofs.value_of.Statement.{statement}
 use Rattle.overlay.proofs.value_of.Tie as tie
-use Rattle.overlay.proofs.value_of.Reads as reads
-use Rattle.overlay.proofs.value_of.Lts as lts
-use Rattle.cells.proofs.read_cell.Reads as read-cell-reads
 
 -- src/lib.rt:51:15
 slice-aggregate-read-cell : tie.Need-slice-aggregate-read-cell

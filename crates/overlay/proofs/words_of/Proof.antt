@@ -4,9 +4,6 @@ use Rattle.overlay.proofs.Laying.{written-alone}
 use borrow.Author.Needs.{needs}
 use Rattle.overlay.proofs.words_of.Statement.{statement}
 use Rattle.overlay.proofs.words_of.Tie as tie
-use Rattle.overlay.proofs.words_of.Reads as reads
-use Rattle.overlay.proofs.words_of.Lts as lts
-use Rattle.cells.proofs.write_cell.Reads as write-cell-reads
 
 -- src/lib.rt:42:16
 slice-aggregate-write-cell : tie.Need-slice-aggregate-write-cell

@@ -1,4 +1,4 @@
--- `cells::bare_value` meets its contract. Assumes nothing.
+-- `packing::bare_value` meets its contract. Assumes nothing.
 use borrow.Author.Tests.{eq-eqb, ne-eqb}
 use mir.Syntax.{w64}
 use borrow.Author.Needs.{needs, sfits-of}

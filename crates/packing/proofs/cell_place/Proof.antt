@@ -1,4 +1,4 @@
--- `cells::cell_place` meets its contract. Assumes nothing.
+-- `packing::cell_place` meets its contract. Assumes nothing.
 use borrow.Author.Tests.{eq-eqb, le-ltb, lt-ltb, ne-eqb}
 use Rattle.rooms.specs.Cells.{cellPlace}
 use borrow.Author.Needs.{needs}

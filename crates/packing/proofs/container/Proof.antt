@@ -1,4 +1,4 @@
--- `cells::container` meets its contract. Assumes nothing.
+-- `packing::container` meets its contract. Assumes nothing.
 use borrow.Author.Tests.{eq-eqb, le-ltb, lt-ltb, ne-eqb}
 use Rattle.rooms.specs.Cells.{containerOf}
 use borrow.Author.Needs.{needs}

@@ -1,4 +1,4 @@
--- `cells::head` meets its contract. Assumes nothing.
+-- `packing::head` meets its contract. Assumes nothing.
 use Rattle.rooms.specs.Cells.{packed}
 use borrow.Author.Needs.{needs}
 use Rattle.packing.proofs.head.Statement.{statement}

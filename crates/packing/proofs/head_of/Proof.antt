@@ -1,4 +1,4 @@
--- `cells::head_of` meets its contract. Assumes nothing.
+-- `packing::head_of` meets its contract. Assumes nothing.
 use native.Mathlib.Omega.{arith}
 use Rattle.rooms.proofs.Words.{text-small, cell-small}
 use borrow.Author.Needs.{needs}

@@ -1,4 +1,4 @@
--- `cells::payload_of` meets its contract. Assumes nothing.
+-- `packing::payload_of` meets its contract. Assumes nothing.
 use mathlib.Core.Path.{sym, ap, _∙_}
 use mir.Syntax.{w64}
 use mir.ValLaws.{toZ-ofZ}

@@ -1,4 +1,4 @@
--- `cells::signed_of` meets its contract. Assumes nothing.
+-- `packing::signed_of` meets its contract. Assumes nothing.
 use mathlib.Core.Path.{sym, _∙_}
 use native.Mathlib.Omega.{arith}
 use Prim.Native.Nat.{_-_, _^_, _<_}

@@ -1,4 +1,4 @@
--- `cells::text_place` meets its contract. Assumes nothing.
+-- `packing::text_place` meets its contract. Assumes nothing.
 use borrow.Author.Tests.{eq-eqb, le-ltb, lt-ltb, ne-eqb}
 use Rattle.rooms.specs.Cells.{textPlace}
 use borrow.Author.Needs.{needs}

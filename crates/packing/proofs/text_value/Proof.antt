@@ -1,4 +1,4 @@
--- `cells::text_value` meets its contract. Assumes nothing.
+-- `packing::text_value` meets its contract. Assumes nothing.
 use borrow.Author.Tests.{eq-eqb, ne-eqb}
 use Rattle.rooms.specs.Cells.{textOf}
 use borrow.Author.Needs.{needs}

@@ -1,4 +1,4 @@
--- `cells::word_of` meets its contract. Assumes nothing.
+-- `packing::word_of` meets its contract. Assumes nothing.
 use mathlib.Core.Path.{_≡_, ap, _∙_}
 use mathlib.Core.Bool.{true}
 use native.Mathlib.Omega.{arith}

@@ -7,11 +7,6 @@ use Rattle.readout.proofs.ReadsOut.{part-so}
 use borrow.Author.Needs.{needs}
 use Rattle.readout.proofs.element.Statement.{statement}
 use Rattle.readout.proofs.element.Tie as tie
-use Rattle.readout.proofs.element.Reads as reads
-use Rattle.readout.proofs.element.Lts as lts
-use Rattle.overlay.proofs.value_of.Reads as value-of-reads
-use Rattle.elements.proofs.element_of.Reads as element-of-reads
-use Rattle.shapes.proofs.put_part.Reads as put-part-reads
 
 -- src/lib.rt:120:9
 value-of-requires : tie.Need-value-of-requires

@@ -7,11 +7,6 @@ use Rattle.readout.proofs.ReadsOut.{part-so}
 use borrow.Author.Needs.{needs}
 use Rattle.readout.proofs.key.Statement.{statement}
 use Rattle.readout.proofs.key.Tie as tie
-use Rattle.readout.proofs.key.Reads as reads
-use Rattle.readout.proofs.key.Lts as lts
-use Rattle.overlay.proofs.value_of.Reads as value-of-reads
-use Rattle.entries.proofs.key_of.Reads as key-of-reads
-use Rattle.shapes.proofs.put_part.Reads as put-part-reads
 
 -- src/lib.rt:137:9
 value-of-requires : tie.Need-value-of-requires

@@ -7,11 +7,6 @@ use Rattle.readout.proofs.ReadsOut.{part-so}
 use borrow.Author.Needs.{needs}
 use Rattle.readout.proofs.present.Statement.{statement}
 use Rattle.readout.proofs.present.Tie as tie
-use Rattle.readout.proofs.present.Reads as reads
-use Rattle.readout.proofs.present.Lts as lts
-use Rattle.overlay.proofs.value_of.Reads as value-of-reads
-use Rattle.elements.proofs.present_in.Reads as present-in-reads
-use Rattle.shapes.proofs.put_part.Reads as put-part-reads
 
 -- src/lib.rt:170:9
 value-of-requires : tie.Need-value-of-requires

@@ -3,10 +3,6 @@ use Rattle.readout.proofs.ReadsOut.{reads-so}
 use borrow.Author.Needs.{needs}
 use Rattle.readout.proofs.read.Statement.{statement}
 use Rattle.readout.proofs.read.Tie as tie
-use Rattle.readout.proofs.read.Reads as reads
-use Rattle.readout.proofs.read.Lts as lts
-use Rattle.overlay.proofs.value_of.Reads as value-of-reads
-use Rattle.shapes.proofs.put_shape.Reads as put-shape-reads
 
 -- src/lib.rt:104:9
 value-of-requires : tie.Need-value-of-requires

@@ -1,16 +1,12 @@
+-- `references::deepest` meets its contract. Assumes nothing.
 use borrow.Author.Needs.{needs}
 use mathlib.Core.Path.{_≡_, ap, _∙_}
-use Prim.Native.Nat.{_+_, _*_, _<_, max}
+use Prim.Native.Nat.{_+_, _<_, max}
 use native.Mathlib.Omega.{arith}
 use Rattle.references.specs.Fits.{deepestIn}
 use Rattle.references.proofs.ReferenceSteps.{max-zero, deepest-none, deepest-on}
 use Rattle.references.proofs.deepest.Statement.{statement}
 use Rattle.references.proofs.deepest.Tie as tie
-use Rattle.references.proofs.deepest.Reads as reads
-use Rattle.references.proofs.deepest.Lts as lts
-use Rattle.cells.proofs.read_cell.Reads as read-cell-reads
-use Rattle.rooms.proofs.value.nesting_of.Reads as nesting-of-reads
-use Rattle.references.proofs.deeper.Reads as deeper-reads
 
 abbrev Inv-loop : tie.InvT-loop
 Inv-loop cells first count most₀ at₀ left₀ most at left = (at + left < 262144) × (max most (deepestIn cells at left) ≡ deepestIn cells first count)

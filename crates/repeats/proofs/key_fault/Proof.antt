@@ -1,16 +1,12 @@
-use mathlib.Core.Path.{_≡_, refl, sym, _∙_}
+-- `repeats::key_fault` meets its contract. Assumes nothing.
+use mathlib.Core.Path.{sym, _∙_}
 use native.Mathlib.Omega.{arith}
 use borrow.Author.Tests.{not-true, not-false}
-use Rattle.scalars.proofs.Rows.{Place, sound-place}
+use Rattle.scalars.proofs.Rows.{sound-place}
 use Rattle.repeats.proofs.KeyLaws.{no-key, key-again, key-new}
 use borrow.Author.Needs.{needs}
 use Rattle.repeats.proofs.key_fault.Statement.{statement}
 use Rattle.repeats.proofs.key_fault.Tie as tie
-use Rattle.repeats.proofs.key_fault.Reads as reads
-use Rattle.repeats.proofs.key_fault.Lts as lts
-use Rattle.repeats.proofs.repeated.Reads as repeated-reads
-use Rattle.scalars.proofs.literal_at.Reads as literal-at-reads
-use Rattle.mapkeys.proofs.is_key.Reads as is-key-reads
 
 -- src/judging.rt:161:9
 literal-at-requires : tie.Need-literal-at-requires

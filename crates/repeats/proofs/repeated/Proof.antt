@@ -1,17 +1,13 @@
+-- `repeats::repeated` meets its contract. Assumes nothing.
 use borrow.Author.Needs.{needs}
 use mathlib.Core.Path.{_≡_, refl, sym, _∙_}
 use native.Mathlib.Omega.{arith}
 use Rattle.scalars.specs.Literals.{Entries}
 use Rattle.findings.specs.Judging.{repeatedIn}
-use Rattle.scalars.proofs.Rows.{Place, sound-place, part-place, first-entry}
+use Rattle.scalars.proofs.Rows.{sound-place, part-place, first-entry}
 use Rattle.repeats.proofs.KeySteps.{repeated-none, repeated-found, repeated-on}
 use Rattle.repeats.proofs.repeated.Statement.{statement}
 use Rattle.repeats.proofs.repeated.Tie as tie
-use Rattle.repeats.proofs.repeated.Reads as reads
-use Rattle.repeats.proofs.repeated.Lts as lts
-use Rattle.scalars.proofs.literal_at.Reads as literal-at-reads
-use Rattle.comparing.proofs.plain.key_equal.Reads as key-equal-reads
-use Rattle.outline.proofs.end_at.Reads as end-at-reads
 
 abbrev Inv-loop : tie.InvT-loop
 Inv-loop table literal first count key at₀ left₀ t9 t10 at left = Entries table literal left at × (repeatedIn table literal key left at ≡ repeatedIn table literal key count first)

@@ -3,10 +3,6 @@ use Rattle.reports.proofs.Reporting.{words-as}
 use borrow.Author.Needs.{needs}
 use Rattle.reports.proofs.put.Statement.{statement}
 use Rattle.reports.proofs.put.Tie as tie
-use Rattle.reports.proofs.put.Reads as reads
-use Rattle.reports.proofs.put.Lts as lts
-use Rattle.overlay.proofs.hand.Reads as hand-reads
-use Rattle.overlay.proofs.words_of.Reads as words-of-reads
 
 -- src/lib.rt:47:16
 words-of-requires : tie.Need-words-of-requires

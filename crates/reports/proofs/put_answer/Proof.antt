@@ -4,12 +4,6 @@ use Rattle.reports.proofs.Reporting.{answer-as, number-as}
 use borrow.Author.Needs.{needs}
 use Rattle.reports.proofs.put_answer.Statement.{statement}
 use Rattle.reports.proofs.put_answer.Tie as tie
-use Rattle.reports.proofs.put_answer.Reads as reads
-use Rattle.reports.proofs.put_answer.Lts as lts
-use Rattle.reasons.proofs.error_number.Reads as error-number-reads
-use Rattle.reasons.proofs.limit_number.Reads as limit-number-reads
-use Rattle.reports.proofs.put.Reads as put-reads
-use Rattle.reports.proofs.put_refusal.Reads as put-refusal-reads
 
 -- src/lib.rt:86:25
 enum-known-answer : tie.Need-enum-known-answer

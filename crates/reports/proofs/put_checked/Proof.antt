@@ -4,10 +4,6 @@ use Rattle.reports.proofs.Reporting.{checked-as}
 use borrow.Author.Needs.{needs}
 use Rattle.reports.proofs.put_checked.Statement.{statement}
 use Rattle.reports.proofs.put_checked.Tie as tie
-use Rattle.reports.proofs.put_checked.Reads as reads
-use Rattle.reports.proofs.put_checked.Lts as lts
-use Rattle.reports.proofs.put_done.Reads as put-done-reads
-use Rattle.reports.proofs.put_refusal.Reads as put-refusal-reads
 
 -- src/lib.rt:77:39
 enum-told : tie.Need-enum-told

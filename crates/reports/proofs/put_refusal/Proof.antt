@@ -5,10 +5,6 @@ use Rattle.reports.proofs.Reporting.{used-as}
 use borrow.Author.Needs.{needs}
 use Rattle.reports.proofs.put_refusal.Statement.{statement}
 use Rattle.reports.proofs.put_refusal.Tie as tie
-use Rattle.reports.proofs.put_refusal.Reads as reads
-use Rattle.reports.proofs.put_refusal.Lts as lts
-use Rattle.reports.proofs.nothing.Reads as nothing-reads
-use Rattle.reports.proofs.put.Reads as put-reads
 
 -- src/lib.rt:70:39
 nothing-requires : tie.Need-nothing-requires

@@ -1,5 +1,6 @@
-use mathlib.Core.Path.{_≡_, sym, _∙_}
-use Prim.Native.Nat.{suc, _+_, _≤_}
+-- `scalars::literal_at` meets its contract. Assumes nothing.
+use mathlib.Core.Path.{sym, _∙_}
+use Prim.Native.Nat.{suc, _+_}
 use native.Mathlib.Omega.{arith}
 use Rattle.scalars.specs.Literals.{literalValue}
 use Rattle.scalars.proofs.Heads.{bool-head, int-head, uint-head, double-head, string-head, bytes-head, word-is}
@@ -8,19 +9,10 @@ use mir.Syntax.{w64}
 use mir.ValLaws.{toZ-ofZ}
 use borrow.Author.Needs.{sfits-of}
 use Rattle.layout.proofs.KindLaws.{head-table}
-use Rattle.layout.specs.Layout.{wordAt}
 use Rattle.scalars.proofs.LiteralLaws.{no-literal}
 use borrow.Author.Needs.{needs}
 use Rattle.scalars.proofs.literal_at.Statement.{statement}
 use Rattle.scalars.proofs.literal_at.Tie as tie
-use Rattle.scalars.proofs.literal_at.Reads as reads
-use Rattle.scalars.proofs.literal_at.Lts as lts
-use Rattle.rooms.proofs.value.double_value.Reads as double-value-reads
-use Rattle.longs.proofs.bits_at.Reads as bits-at-reads
-use Rattle.longs.proofs.int_at.Reads as int-at-reads
-use Rattle.outline.proofs.kind_at.Reads as kind-at-reads
-use Rattle.bodies.proofs.number_at.Reads as number-at-reads
-use Rattle.bodies.proofs.span_at.Reads as span-at-reads
 
 -- src/literals.rt:32:11
 kind-at-requires : tie.Need-kind-at-requires

@@ -1,11 +1,10 @@
+-- `scalars::moved_to` meets its contract. Assumes nothing.
 use mir.Syntax.{w64}
 use mir.ValLaws.{toZ-ofZ}
 use borrow.Author.Needs.{needs, sfits-of}
 use borrow.Author.Needs.{needs}
 use Rattle.scalars.proofs.moved_to.Statement.{statement}
 use Rattle.scalars.proofs.moved_to.Tie as tie
-use Rattle.scalars.proofs.moved_to.Reads as reads
-use Rattle.scalars.proofs.moved_to.Lts as lts
 
 -- src/literals.rt:97:24
 enum-told : tie.Need-enum-told

@@ -1,8 +1,7 @@
+-- `scalars::text_first` meets its contract. Assumes nothing.
 use borrow.Author.Needs.{needs}
 use Rattle.scalars.proofs.text_first.Statement.{statement}
 use Rattle.scalars.proofs.text_first.Tie as tie
-use Rattle.scalars.proofs.text_first.Reads as reads
-use Rattle.scalars.proofs.text_first.Lts as lts
 
 -- src/literals.rt:76:24
 enum-told : tie.Need-enum-told

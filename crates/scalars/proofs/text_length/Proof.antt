@@ -1,10 +1,8 @@
+-- `scalars::text_length` meets its contract. Assumes nothing.
 use native.Mathlib.Omega.{arith}
-use mathlib.Core.Path.{refl}
 use borrow.Author.Needs.{needs}
 use Rattle.scalars.proofs.text_length.Statement.{statement}
 use Rattle.scalars.proofs.text_length.Tie as tie
-use Rattle.scalars.proofs.text_length.Reads as reads
-use Rattle.scalars.proofs.text_length.Lts as lts
 
 -- src/literals.rt:55:24
 enum-told : tie.Need-enum-told

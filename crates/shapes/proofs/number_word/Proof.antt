@@ -5,10 +5,6 @@ use Rattle.shapes.proofs.Shaping.{no-number, number-in}
 use borrow.Author.Needs.{needs}
 use Rattle.shapes.proofs.number_word.Statement.{statement}
 use Rattle.shapes.proofs.number_word.Tie as tie
-use Rattle.shapes.proofs.number_word.Reads as reads
-use Rattle.shapes.proofs.number_word.Lts as lts
-use Rattle.overlay.proofs.words_of.Reads as words-of-reads
-use Rattle.reading.proofs.kind_of.Reads as kind-of-reads
 
 -- src/lib.rt:24:17
 words-of-requires : tie.Need-words-of-requires

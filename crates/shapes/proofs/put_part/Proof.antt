@@ -3,11 +3,6 @@ use Rattle.shapes.proofs.Shaping.{part-as}
 use borrow.Author.Needs.{needs}
 use Rattle.shapes.proofs.put_part.Statement.{statement}
 use Rattle.shapes.proofs.put_part.Tie as tie
-use Rattle.shapes.proofs.put_part.Reads as reads
-use Rattle.shapes.proofs.put_part.Lts as lts
-use Rattle.overlay.proofs.hand.Reads as hand-reads
-use Rattle.overlay.proofs.words_of.Reads as words-of-reads
-use Rattle.reading.proofs.kind_of.Reads as kind-of-reads
 
 -- src/lib.rt:66:17
 words-of-requires : tie.Need-words-of-requires

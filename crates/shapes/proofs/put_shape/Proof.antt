@@ -3,14 +3,6 @@ use Rattle.shapes.proofs.Shaping.{shape-as}
 use borrow.Author.Needs.{needs}
 use Rattle.shapes.proofs.put_shape.Statement.{statement}
 use Rattle.shapes.proofs.put_shape.Tie as tie
-use Rattle.shapes.proofs.put_shape.Reads as reads
-use Rattle.shapes.proofs.put_shape.Lts as lts
-use Rattle.overlay.proofs.hand.Reads as hand-reads
-use Rattle.extents.proofs.count_of.Reads as count-of-reads
-use Rattle.reading.proofs.kind_of.Reads as kind-of-reads
-use Rattle.extents.proofs.text_of.Reads as text-of-reads
-use Rattle.shapes.proofs.number_word.Reads as number-word-reads
-use Rattle.shapes.proofs.span_words.Reads as span-words-reads
 
 -- src/lib.rt:54:9
 kind-of-requires : tie.Need-kind-of-requires

@@ -2,9 +2,6 @@
 use borrow.Author.Needs.{needs}
 use Rattle.shapes.proofs.span_words.Statement.{statement}
 use Rattle.shapes.proofs.span_words.Tie as tie
-use Rattle.shapes.proofs.span_words.Reads as reads
-use Rattle.shapes.proofs.span_words.Lts as lts
-use Rattle.shapes.proofs.space_number.Reads as space-number-reads
 
 -- src/lib.rt:45:18
 enum-known-span : tie.Need-enum-known-span

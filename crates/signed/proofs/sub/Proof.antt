@@ -1,7 +1,7 @@
 -- `signed::sub` meets its contract: a difference is the sum with the negation, which -2 ^ 63 alone has not. Assumes nothing.
 use mathlib.Core.Path.{_≡_, sym, ap, _∙_}
 use mathlib.Core.Bool.{true}
-use lib.IntN.{pos, negℤ, _+ℤ_, _-ℤ_, +ℤ-idl}
+use lib.IntN.{pos, negℤ, _-ℤ_, +ℤ-idl}
 use lib.Signed.{ltZ}
 use mir.Syntax.{w64}
 use mir.Val.{SFits}

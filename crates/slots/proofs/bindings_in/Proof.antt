@@ -4,10 +4,6 @@ use Rattle.slots.proofs.Filling.{other-length, other-mark, is-state}
 use borrow.Author.Needs.{needs}
 use Rattle.slots.proofs.bindings_in.Statement.{statement}
 use Rattle.slots.proofs.bindings_in.Tie as tie
-use Rattle.slots.proofs.bindings_in.Reads as reads
-use Rattle.slots.proofs.bindings_in.Lts as lts
-use Rattle.slots.proofs.no_bindings.Reads as no-bindings-reads
-use Rattle.slots.proofs.scope_in.Reads as scope-in-reads
 
 -- src/lib.rt:95:9
 no-bindings-requires : tie.Need-no-bindings-requires

@@ -7,10 +7,6 @@ use Rattle.slots.specs.State.{noBindings}
 use borrow.Author.Needs.{needs}
 use Rattle.slots.proofs.no_bindings.Statement.{statement}
 use Rattle.slots.proofs.no_bindings.Tie as tie
-use Rattle.slots.proofs.no_bindings.Reads as reads
-use Rattle.slots.proofs.no_bindings.Lts as lts
-use Rattle.rooms.proofs.scope.Scope.empty.Reads as empty-reads
-use Rattle.rooms.proofs.scope.Scope.with.Reads as with-reads
 
 -- src/lib.rt:84:28
 empty-requires : tie.Need-empty-requires

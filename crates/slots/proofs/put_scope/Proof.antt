@@ -8,9 +8,6 @@ use Rattle.rooms.proofs.Scopes.{mapped-length}
 use Rattle.slots.proofs.Filling.{slotsOver, over-none, over-on, over-all}
 use Rattle.slots.proofs.put_scope.Statement.{statement}
 use Rattle.slots.proofs.put_scope.Tie as tie
-use Rattle.slots.proofs.put_scope.Reads as reads
-use Rattle.slots.proofs.put_scope.Lts as lts
-use Rattle.cells.proofs.write_cell.Reads as write-cell-reads
 
 abbrev Inv-loop : tie.InvT-loop
 Inv-loop words₀ scope at₀ words at = (length words ≡ length words₀) × (words ≡ slotsOver (scope .slots) words₀ at) × (at ≤ 128)

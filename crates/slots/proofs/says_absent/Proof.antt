@@ -4,8 +4,6 @@ use Rattle.slots.proofs.Filling.{says-two, says-other, says-none}
 use borrow.Author.Needs.{needs}
 use Rattle.slots.proofs.says_absent.Statement.{statement}
 use Rattle.slots.proofs.says_absent.Tie as tie
-use Rattle.slots.proofs.says_absent.Reads as reads
-use Rattle.slots.proofs.says_absent.Lts as lts
 
 -- src/lib.rt:36:18
 mul-if2 : tie.Need-mul-if2

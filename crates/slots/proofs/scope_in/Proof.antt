@@ -9,11 +9,6 @@ use Rattle.rooms.specs.declared.scope.Scope.{Scope}
 use Rattle.slots.proofs.Filling.{slotsSoFar, slot-absent, slot-stored, slot-kept, slots-none, slots-all}
 use Rattle.slots.proofs.scope_in.Statement.{statement}
 use Rattle.slots.proofs.scope_in.Tie as tie
-use Rattle.slots.proofs.scope_in.Reads as reads
-use Rattle.slots.proofs.scope_in.Lts as lts
-use Rattle.rooms.proofs.scope.Scope.empty.Reads as empty-reads
-use Rattle.slots.proofs.says_absent.Reads as says-absent-reads
-use Rattle.slots.proofs.slot_in.Reads as slot-in-reads
 
 abbrev Inv-loop : tie.InvT-loop
 Inv-loop words scope₀ at₀ left₀ scope at left = (at + left ≡ 128) × (scope .slots ≡ slotsSoFar words at left)

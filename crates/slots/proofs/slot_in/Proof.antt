@@ -4,11 +4,6 @@ use Rattle.slots.proofs.Filling.{slot-value, slot-absent, slot-wrong}
 use borrow.Author.Needs.{needs}
 use Rattle.slots.proofs.slot_in.Statement.{statement}
 use Rattle.slots.proofs.slot_in.Tie as tie
-use Rattle.slots.proofs.slot_in.Reads as reads
-use Rattle.slots.proofs.slot_in.Lts as lts
-use Rattle.cells.proofs.read_cell.Reads as read-cell-reads
-use Rattle.slots.proofs.says_absent.Reads as says-absent-reads
-use Rattle.fitting.proofs.is_absent.Reads as is-absent-reads
 
 -- src/lib.rt:48:8
 says-absent-requires : tie.Need-says-absent-requires

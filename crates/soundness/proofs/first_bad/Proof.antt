@@ -1,16 +1,13 @@
+-- `soundness::first_bad` meets its contract. Assumes nothing.
 use borrow.Author.Needs.{needs}
 use mathlib.Core.Path.{_≡_, refl, sym, _∙_}
-use Prim.Native.Nat.{_+_, _*_, _<_}
+use Prim.Native.Nat.{_+_}
 use native.Mathlib.Omega.{arith}
 use borrow.Author.Tests.{not-true, not-false}
 use Rattle.soundness.specs.Sound.{firstBad}
 use Rattle.soundness.proofs.Steps.{bad-none, bad-here, bad-on}
 use Rattle.soundness.proofs.first_bad.Statement.{statement}
 use Rattle.soundness.proofs.first_bad.Tie as tie
-use Rattle.soundness.proofs.first_bad.Reads as reads
-use Rattle.soundness.proofs.first_bad.Lts as lts
-use Rattle.cells.proofs.read_cell.Reads as read-cell-reads
-use Rattle.fitting.proofs.value_fits.Reads as value-fits-reads
 
 abbrev Inv-loop : tie.InvT-loop
 Inv-loop cells text used bytes at₀ left₀ at left = (at + left ≡ used) × (firstBad cells text used bytes at left ≡ firstBad cells text used bytes 0 used)

@@ -1,6 +1,7 @@
+-- `soundness::slots_fit` meets its contract. Assumes nothing.
 use borrow.Author.Needs.{needs}
 use mathlib.Core.Path.{_≡_, refl, sym, _∙_}
-use Prim.Native.Nat.{_+_, _*_, _<_}
+use Prim.Native.Nat.{_+_}
 use native.Mathlib.Omega.{arith}
 use borrow.Author.Tests.{not-true, not-false}
 use Rattle.soundness.specs.Sound.{slotsFit}
@@ -8,9 +9,6 @@ use Rattle.soundness.proofs.Steps.{slots-none, slots-wrong, slots-on}
 use Rattle.rooms.proofs.Scopes.{read-slot, mapped-length}
 use Rattle.soundness.proofs.slots_fit.Statement.{statement}
 use Rattle.soundness.proofs.slots_fit.Tie as tie
-use Rattle.soundness.proofs.slots_fit.Reads as reads
-use Rattle.soundness.proofs.slots_fit.Lts as lts
-use Rattle.fitting.proofs.slot_fits.Reads as slot-fits-reads
 
 abbrev Inv-loop : tie.InvT-loop
 Inv-loop cells text used bytes scope at₀ left₀ at left = (at + left ≡ 128) × (slotsFit cells text used bytes scope at left ≡ slotsFit cells text used bytes scope 0 128)

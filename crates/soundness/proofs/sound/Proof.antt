@@ -1,17 +1,10 @@
-use mathlib.Core.Path.{sym, _∙_, ap}
+-- `soundness::sound` meets its contract. Assumes nothing.
+use mathlib.Core.Path.{_∙_, ap}
 use Prim.Native.Nat.{min}
-use native.Mathlib.Omega.{arith}
 use Rattle.soundness.proofs.Steps.{room-bad, room-cells, room-bytes, room-slots}
 use borrow.Author.Needs.{needs}
 use Rattle.soundness.proofs.sound.Statement.{statement}
 use Rattle.soundness.proofs.sound.Tie as tie
-use Rattle.soundness.proofs.sound.Reads as reads
-use Rattle.soundness.proofs.sound.Lts as lts
-use Rattle.building.proofs.cell_room.Reads as cell-room-reads
-use Rattle.building.proofs.text_room.Reads as text-room-reads
-use Rattle.soundness.proofs.first_bad.Reads as first-bad-reads
-use Rattle.soundness.proofs.lesser.Reads as lesser-reads
-use Rattle.soundness.proofs.slots_fit.Reads as slots-fit-reads
 
 -- src/lib.rt:69:39
 cell-room-requires : tie.Need-cell-room-requires

@@ -5,11 +5,6 @@ use Rattle.stowing.proofs.Stows.{stows-so}
 use borrow.Author.Needs.{needs}
 use Rattle.stowing.proofs.bring_in.Statement.{statement}
 use Rattle.stowing.proofs.bring_in.Tie as tie
-use Rattle.stowing.proofs.bring_in.Reads as reads
-use Rattle.stowing.proofs.bring_in.Lts as lts
-use Rattle.bindings.proofs.bring_in.Reads as bring-in-reads
-use Rattle.slots.proofs.bindings_in.Reads as bindings-in-reads
-use Rattle.slots.proofs.put_bindings.Reads as put-bindings-reads
 
 -- src/lib.rt:18:9
 bindings-in-requires : tie.Need-bindings-in-requires

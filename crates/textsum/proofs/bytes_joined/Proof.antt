@@ -1,4 +1,4 @@
--- `sums::bytes_joined` meets its contract. Assumes nothing.
+-- `textsum::bytes_joined` meets its contract. Assumes nothing.
 use borrow.Author.Needs.{needs}
 use Rattle.textsum.proofs.bytes_joined.Statement.{statement}
 use Rattle.textsum.proofs.bytes_joined.Tie as tie

@@ -1,7 +1,5 @@
--- `sums::bytes_sum` meets its contract. Assumes nothing.
+-- `textsum::bytes_sum` meets its contract. Assumes nothing.
 use borrow.Author.Needs.{needs}
-use mathlib.Core.Path.{_≡_, sym, _∙_, ap}
-use Rattle.rooms.specs.declared.value.Value.{Value}
 use Rattle.rooms.specs.declared.value.Value.the-variants as Value
 use Rattle.rooms.specs.declared.value.TextSpace.the-variants as Text
 use Rattle.textsum.proofs.JoinedTexts.{text-sum}

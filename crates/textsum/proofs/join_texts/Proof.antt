@@ -1,6 +1,6 @@
--- `sums::join_texts` meets its contract. Assumes nothing.
+-- `textsum::join_texts` meets its contract. Assumes nothing.
 use borrow.Author.Needs.{needs}
-use mathlib.Core.Path.{_≡_, sym, _∙_, ap}
+use mathlib.Core.Path.{sym, _∙_}
 use native.Mathlib.Omega.{arith}
 use Rattle.outcomes.proofs.Taking.{text-within}
 use Rattle.textsum.proofs.join_texts.Statement.{statement}

@@ -1,4 +1,4 @@
--- `sums::string_joined` meets its contract. Assumes nothing.
+-- `textsum::string_joined` meets its contract. Assumes nothing.
 use borrow.Author.Needs.{needs}
 use Rattle.textsum.proofs.string_joined.Statement.{statement}
 use Rattle.textsum.proofs.string_joined.Tie as tie

@@ -1,6 +1,6 @@
--- `both::after_right` meets its contract. Assumes nothing.
+-- `twovalues::after_right` meets its contract. Assumes nothing.
 use borrow.Author.Needs.{needs}
-use mathlib.Core.Path.{_≡_, _∙_}
+use mathlib.Core.Path.{_∙_}
 use Rattle.rooms.specs.Rooms.{rooms}
 use Rattle.outcomes.specs.Seen.{binarySeen}
 use Rattle.twovalues.proofs.ValueCuts.{of-values, right-values}

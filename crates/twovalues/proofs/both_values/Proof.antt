@@ -1,4 +1,4 @@
--- `both::both_values` meets its contract. Assumes nothing.
+-- `twovalues::both_values` meets its contract. Assumes nothing.
 use borrow.Author.Needs.{needs}
 use Rattle.twovalues.proofs.both_values.Statement.{statement}
 use Rattle.twovalues.proofs.both_values.Tie as tie

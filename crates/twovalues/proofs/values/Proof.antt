@@ -1,4 +1,4 @@
--- `both::values` meets its contract. Assumes nothing.
+-- `twovalues::values` meets its contract. Assumes nothing.
 use borrow.Author.Needs.{needs}
 use Rattle.twovalues.proofs.values.Statement.{statement}
 use Rattle.twovalues.proofs.values.Tie as tie

@@ -1,4 +1,4 @@
--- `first::negate_outcome` meets its contract. Assumes nothing.
+-- `unaries::negate_outcome` meets its contract. Assumes nothing.
 use borrow.Author.Needs.{needs}
 use Rattle.unaries.proofs.negate_outcome.Statement.{statement}
 use Rattle.unaries.proofs.negate_outcome.Tie as tie

@@ -1,4 +1,4 @@
--- `first::not_outcome` meets its contract. Assumes nothing.
+-- `unaries::not_outcome` meets its contract. Assumes nothing.
 use borrow.Author.Needs.{needs}
 use Rattle.unaries.proofs.not_outcome.Statement.{statement}
 use Rattle.unaries.proofs.not_outcome.Tie as tie

@@ -1,4 +1,4 @@
--- `first::unary` meets its contract. Assumes nothing.
+-- `unaries::unary` meets its contract. Assumes nothing.
 use borrow.Author.Needs.{needs}
 use Rattle.unaries.proofs.unary.Statement.{statement}
 use Rattle.unaries.proofs.unary.Tie as tie

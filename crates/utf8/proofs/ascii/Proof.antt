@@ -1,8 +1,7 @@
 -- `utf8::ascii` meets its contract: the bytes seen so far are joined. Assumes nothing.
 use Prim.Native.Nat.{_-_, _≤_}
 use Rattle.utf8.specs.Passing.{joined}
-use lib.Dec.{ltb}
-use mathlib.Core.Path.{_≡_, refl, ap}
+use mathlib.Core.Path.{_≡_, refl}
 use native.Mathlib.Numerals.{add-one}
 use native.Mathlib.Omega.{arith}
 use borrow.Author.Needs.{needs}

@@ -4,7 +4,6 @@ use Prim.Native.Nat.{_-_}
 use Rattle.utf8.proofs.Utf8Steps.{passes-start, passes-sequence, passes-nowhere}
 use Rattle.utf8.specs.Passing.{Passes}
 use native.Mathlib.Omega.{arith}
-use borrow.Author.Needs.{needs}
 use Rattle.utf8.proofs.sequences.Statement.{statement}
 use Rattle.utf8.proofs.sequences.Tie as tie
 

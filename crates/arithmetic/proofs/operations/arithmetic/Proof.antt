@@ -1,6 +1,6 @@
 -- `operations::arithmetic` meets its contract. Assumes nothing.
 use borrow.Author.Needs.{needs}
-use mathlib.Core.Path.{_≡_, _∙_}
+use mathlib.Core.Path.{_∙_}
 use Rattle.rooms.specs.Rooms.{rooms}
 use Rattle.outcomes.specs.Seen.{arithSeen}
 use Rattle.arithmetic.proofs.NoNumber.{not-number}

@@ -1,33 +1,16 @@
--- What the contract of `equality::elements` leaves. Assumes nothing.
+-- What the contract of `equals::elements` leaves. Assumes nothing.
 use borrow.Author.Needs.{needs}
-use Prim.Native.Nat.{_+_, _-_, _*_, _≤_}
-use mathlib.Core.Path.{_≡_, refl, sym, ap, _∙_}
+use Prim.Native.Nat.{_+_, _≤_}
+use mathlib.Core.Path.{_≡_, refl, _∙_}
 use native.Mathlib.Omega.{arith}
 use Rattle.rooms.specs.declared.value.Value.{Value}
 use Rattle.rooms.specs.Rooms.{rooms, cellAt}
-use Rattle.comparing.specs.Seen.{seenIn}
-use Rattle.comparing.specs.LookUp.{findIn}
-use Rattle.equality.specs.Equality.{elementsEqual, entriesEqual, equalIn}
-use Rattle.equals.proofs.EqualitySteps.{elements-none, elements-on, elements-unlike, elements-out, entries-none, entries-on, entries-unlike, entries-out, entries-missing, entries-unfound}
-use Rattle.equals.proofs.PairSteps.{pair-bottom, pair-out, lists-unlike, lists-uneven, lists-even, maps-unlike, maps-uneven, maps-even, presents-unlike, presents-parts, plains}
-use Prim.Native.Nat.{ℕ, _<_}
-use borrow.Fn.Kinds.{In}
-use borrow.Fn.PlainCycle.{Measures, is, falls, and}
+use Rattle.equality.specs.Equality.{elementsEqual, equalIn}
+use Rattle.equals.proofs.EqualitySteps.{elements-none, elements-on, elements-unlike, elements-out}
+use Prim.Native.Nat.{ℕ}
 use Rattle.equals.proofs.elements.Reads as elements
-use Rattle.equals.proofs.elements.Kinds as elements-kinds
 use Rattle.equals.proofs.+elements+entries+pair.Lts-elements as elements-lts
-use Rattle.equals.proofs.entries.Reads as entries
-use Rattle.equals.proofs.entries.Kinds as entries-kinds
-use Rattle.equals.proofs.+elements+entries+pair.Lts-entries as entries-lts
-use Rattle.equals.proofs.pair.Reads as pair
-use Rattle.equals.proofs.pair.Kinds as pair-kinds
-use Rattle.equals.proofs.+elements+entries+pair.Lts-pair as pair-lts
-use Rattle.cells.proofs.cell_at.Reads as cell-at-reads
-use Rattle.comparing.proofs.lookup.find.Reads as find-reads
-use Rattle.comparing.proofs.plain.plain_equal.Reads as plain-equal-reads
-use Rattle.equals.proofs.verdict.Reads as verdict-reads
-use Rattle.rooms.proofs.value.parts_of.Reads as parts-of-reads
-use Rattle.equals.proofs.+elements+entries+pair.Proof.Kit.{elements-claims, μ-elements, μ-entries, μ-pair, elements-at, elements-below, entries-at, entries-below, pair-at, pair-below}
+use Rattle.equals.proofs.+elements+entries+pair.Proof.Kit.{elements-claims, elements-at}
 
 abbrev pub elements-Inv-loop : elements-lts.InvT-loop
 elements-Inv-loop literal binding-cells binding-text cells text limit depth space first there from length steps at₀ other₀ left₀ pairs₀ at other left pairs = (at + left ≤ 200000) × (other + left ≤ 200000) × (elementsEqual (λ v w j. equalIn depth limit (rooms literal binding-cells binding-text cells text) v w j) (rooms literal binding-cells binding-text cells text) space at there other left pairs ≡ elementsEqual (λ v w j. equalIn depth limit (rooms literal binding-cells binding-text cells text) v w j) (rooms literal binding-cells binding-text cells text) space first there from length steps)

@@ -1,14 +1,5 @@
 -- The measures of the cycle: twice the depth, and one more for a loop.
-use Prim.Native.Nat.{_+_, _-_, _*_, _≤_}
-use mathlib.Core.Path.{_≡_, refl, sym, ap, _∙_}
-use native.Mathlib.Omega.{arith}
-use Rattle.rooms.specs.declared.value.Value.{Value}
-use Rattle.rooms.specs.Rooms.{rooms, cellAt}
-use Rattle.comparing.specs.Seen.{seenIn}
-use Rattle.comparing.specs.LookUp.{findIn}
-use Rattle.equality.specs.Equality.{elementsEqual, entriesEqual, equalIn}
-use Rattle.equals.proofs.EqualitySteps.{elements-none, elements-on, elements-unlike, elements-out, entries-none, entries-on, entries-unlike, entries-out, entries-missing, entries-unfound}
-use Rattle.equals.proofs.PairSteps.{pair-bottom, pair-out, lists-unlike, lists-uneven, lists-even, maps-unlike, maps-uneven, maps-even, presents-unlike, presents-parts, plains}
+use Prim.Native.Nat.{_+_, _*_}
 use Prim.Native.Nat.{ℕ, _<_}
 use borrow.Fn.Kinds.{In}
 use borrow.Fn.PlainCycle.{Measures, is, falls, and}

@@ -1,33 +1,16 @@
--- What the contract of `equality::pair` leaves. Assumes nothing.
+-- What the contract of `equals::pair` leaves. Assumes nothing.
 use borrow.Author.Needs.{needs}
-use Prim.Native.Nat.{_+_, _-_, _*_, _≤_}
-use mathlib.Core.Path.{_≡_, refl, sym, ap, _∙_}
+use Prim.Native.Nat.{_+_, _-_}
+use mathlib.Core.Path.{refl, sym, _∙_}
 use native.Mathlib.Omega.{arith}
-use Rattle.rooms.specs.declared.value.Value.{Value}
 use Rattle.rooms.specs.Rooms.{rooms, cellAt}
 use Rattle.comparing.specs.Seen.{seenIn}
-use Rattle.comparing.specs.LookUp.{findIn}
-use Rattle.equality.specs.Equality.{elementsEqual, entriesEqual, equalIn}
-use Rattle.equals.proofs.EqualitySteps.{elements-none, elements-on, elements-unlike, elements-out, entries-none, entries-on, entries-unlike, entries-out, entries-missing, entries-unfound}
+use Rattle.equality.specs.Equality.{equalIn}
 use Rattle.equals.proofs.PairSteps.{pair-bottom, pair-out, lists-unlike, lists-uneven, lists-even, maps-unlike, maps-uneven, maps-even, presents-unlike, presents-parts, plains}
-use Prim.Native.Nat.{ℕ, _<_}
-use borrow.Fn.Kinds.{In}
-use borrow.Fn.PlainCycle.{Measures, is, falls, and}
-use Rattle.equals.proofs.elements.Reads as elements
-use Rattle.equals.proofs.elements.Kinds as elements-kinds
-use Rattle.equals.proofs.+elements+entries+pair.Lts-elements as elements-lts
-use Rattle.equals.proofs.entries.Reads as entries
-use Rattle.equals.proofs.entries.Kinds as entries-kinds
-use Rattle.equals.proofs.+elements+entries+pair.Lts-entries as entries-lts
+use Prim.Native.Nat.{ℕ}
 use Rattle.equals.proofs.pair.Reads as pair
-use Rattle.equals.proofs.pair.Kinds as pair-kinds
 use Rattle.equals.proofs.+elements+entries+pair.Lts-pair as pair-lts
-use Rattle.cells.proofs.cell_at.Reads as cell-at-reads
-use Rattle.comparing.proofs.lookup.find.Reads as find-reads
-use Rattle.comparing.proofs.plain.plain_equal.Reads as plain-equal-reads
-use Rattle.equals.proofs.verdict.Reads as verdict-reads
-use Rattle.rooms.proofs.value.parts_of.Reads as parts-of-reads
-use Rattle.equals.proofs.+elements+entries+pair.Proof.Kit.{pair-claims, μ-elements, μ-entries, μ-pair, elements-at, elements-below, entries-at, entries-below, pair-at, pair-below}
+use Rattle.equals.proofs.+elements+entries+pair.Proof.Kit.{pair-claims, pair-at}
 
 pub pair-returns : (t : ℕ) → pair-lts.Need-returns (pair-claims t) (pair-at t) pair.Post
 pair-returns t c = pair-bottom (c .before .before .before .before .before .before .args .depth) (c .before .before .before .before .before .before .args .limit) (rooms (c .before .before .before .before .before .before .args .literal .now) (c .before .before .before .before .before .before .args .binding-cells .now) (c .before .before .before .before .before .before .args .binding-text .now) (c .before .before .before .before .before .before .args .cells .now) (c .before .before .before .before .before .before .args .text .now)) (c .before .before .before .before .before .before .args .left) (c .before .before .before .before .before .before .args .right) (c .before .before .before .before .before .before .args .steps) (c .if1 .taken)

@@ -1,6 +1,5 @@
 -- `both::after_both` meets its contract. Assumes nothing.
 use borrow.Author.Needs.{needs}
-use mathlib.Core.Path.{_≡_, sym, _∙_, ap}
 use Rattle.rooms.specs.Rooms.{rooms}
 use Rattle.joins.proofs.Cuts.{error-joined, exhausted-joined}
 use Rattle.joins.proofs.both.after_both.Statement.{statement}

@@ -1,37 +1,13 @@
+-- What the contract of `judged::judge_entries` leaves. Assumes nothing.
 use borrow.Author.Needs.{needs}
-use mathlib.Core.Path.{_≡_, refl, sym, _∙_}
-use Prim.Native.Nat.{_+_, _*_, _-_, _≤_}
 use native.Mathlib.Omega.{arith}
-use Rattle.layout.specs.Layout.{wordAt}
-use Rattle.scalars.specs.Literals.{rowBytes, entryBytes}
-use Rattle.scalars.proofs.Rows.{Place, sound-place, part-place}
+use Rattle.scalars.proofs.Rows.{sound-place, part-place}
 use Rattle.scalars.proofs.PartLaws.{bare-part}
-use Rattle.judged.proofs.JudgingSteps.{ElementsLeft, elements-start, elements-here, elements-less, elements-fit, elements-again, elements-done, EntriesLeft, entries-start, entries-key, entries-value, entries-before, entries-less, entries-fit, entries-fit-value, entries-again, entries-done}
-use Rattle.judged.proofs.JudgeSteps.{list-row, list-less, list-whole, map-row, map-less, map-whole, list-body, map-body, leaf-whole}
-use Prim.Native.Nat.{ℕ, _<_}
-use borrow.Fn.Kinds.{In}
-use borrow.Fn.PlainCycle.{Measures, is, falls, and}
-use Rattle.judged.proofs.judge.Reads as judge
-use Rattle.judged.proofs.judge.Kinds as judge-kinds
-use Rattle.judged.proofs.+judge+judge_elements+judge_entries.Lts-judge as judge-lts
-use Rattle.judged.proofs.judge_elements.Reads as judge-elements
-use Rattle.judged.proofs.judge_elements.Kinds as judge-elements-kinds
-use Rattle.judged.proofs.+judge+judge_elements+judge_entries.Lts-judge_elements as judge-elements-lts
+use Rattle.judged.proofs.JudgingSteps.{EntriesLeft, entries-start, entries-key, entries-value, entries-before, entries-less, entries-fit, entries-fit-value, entries-again, entries-done}
+use Prim.Native.Nat.{ℕ}
 use Rattle.judged.proofs.judge_entries.Reads as judge-entries
-use Rattle.judged.proofs.judge_entries.Kinds as judge-entries-kinds
 use Rattle.judged.proofs.+judge+judge_elements+judge_entries.Lts-judge_entries as judge-entries-lts
-use Rattle.findings.proofs.deepened.Reads as deepened-reads
-use Rattle.findings.proofs.joined.Reads as joined-reads
-use Rattle.repeats.proofs.key_fault.Reads as key-fault-reads
-use Rattle.findings.proofs.nothing_judged.Reads as nothing-judged-reads
-use Rattle.findings.proofs.with_key.Reads as with-key-reads
-use Rattle.judged.proofs.without_parts.Reads as without-parts-reads
-use Rattle.scalars.proofs.literal_at.Reads as literal-at-reads
-use Rattle.bodies.proofs.count_at.Reads as count-at-reads
-use Rattle.outline.proofs.end_at.Reads as end-at-reads
-use Rattle.outline.proofs.first_operand.Reads as first-operand-reads
-use Rattle.outline.proofs.kind_at.Reads as kind-at-reads
-use Rattle.judged.proofs.+judge+judge_elements+judge_entries.Proof.Kit.{μ-judge, μ-judge-elements, μ-judge-entries, judge-at, judge-below, judge-elements-at, judge-elements-below, judge-entries-at, judge-entries-below, judge-claims, judge-elements-claims, judge-entries-claims}
+use Rattle.judged.proofs.+judge+judge_elements+judge_entries.Proof.Kit.{judge-entries-at, judge-entries-claims}
 
 abbrev pub judge-entries-Inv-loop : judge-entries-lts.InvT-loop
 judge-entries-Inv-loop table literal first count sum₀ at₀ left₀ sum at left = EntriesLeft table literal first count sum at left

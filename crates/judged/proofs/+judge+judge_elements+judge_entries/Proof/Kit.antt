@@ -1,12 +1,7 @@
-use mathlib.Core.Path.{_≡_, refl, sym, _∙_}
-use Prim.Native.Nat.{_+_, _*_, _-_, _≤_}
-use native.Mathlib.Omega.{arith}
+-- The measures of the cycle: twice the bytes of a record, and of a row of them one more.
+use Prim.Native.Nat.{_+_, _*_}
 use Rattle.layout.specs.Layout.{wordAt}
 use Rattle.scalars.specs.Literals.{rowBytes, entryBytes}
-use Rattle.scalars.proofs.Rows.{Place, sound-place, part-place}
-use Rattle.scalars.proofs.PartLaws.{bare-part}
-use Rattle.judged.proofs.JudgingSteps.{ElementsLeft, elements-start, elements-here, elements-less, elements-fit, elements-again, elements-done, EntriesLeft, entries-start, entries-key, entries-value, entries-before, entries-less, entries-fit, entries-fit-value, entries-again, entries-done}
-use Rattle.judged.proofs.JudgeSteps.{list-row, list-less, list-whole, map-row, map-less, map-whole, list-body, map-body, leaf-whole}
 use Prim.Native.Nat.{ℕ, _<_}
 use borrow.Fn.Kinds.{In}
 use borrow.Fn.PlainCycle.{Measures, is, falls, and}

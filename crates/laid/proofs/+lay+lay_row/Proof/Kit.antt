@@ -1,12 +1,7 @@
-use mathlib.Core.Path.{_≡_, refl, sym, _∙_}
-use Prim.Native.Nat.{_+_, _*_, _-_, _≤_}
-use native.Mathlib.Omega.{arith}
+-- The measures of the cycle: twice the bytes of a record, and of a row of them one more.
+use Prim.Native.Nat.{_+_, _*_}
 use Rattle.layout.specs.Layout.{wordAt}
 use Rattle.scalars.specs.Literals.{rowBytes}
-use Rattle.scalars.proofs.Rows.{Place, part-place}
-use Rattle.judged.proofs.JudgeSteps.{list-body, map-body}
-use Rattle.laid.proofs.LayLaws.{count-cells}
-use Rattle.laid.proofs.LaySteps.{leaf-bytes, leaf-laid, list-fits, list-falls, list-laid, map-fits, map-falls, map-laid, RowLeft, row-start, row-done, row-here, row-falls, row-fits, row-again}
 use Prim.Native.Nat.{ℕ, _<_}
 use borrow.Fn.Kinds.{In}
 use borrow.Fn.PlainCycle.{Measures, is, falls, and}

@@ -1,32 +1,12 @@
-use borrow.Author.Needs.{needs}
-use mathlib.Core.Path.{_≡_, refl, sym, _∙_}
-use Prim.Native.Nat.{_+_, _*_, _-_, _≤_}
+-- What the contract of `laid::lay` leaves. Assumes nothing.
 use native.Mathlib.Omega.{arith}
-use Rattle.layout.specs.Layout.{wordAt}
-use Rattle.scalars.specs.Literals.{rowBytes}
-use Rattle.scalars.proofs.Rows.{Place, part-place}
+use Rattle.scalars.proofs.Rows.{part-place}
 use Rattle.judged.proofs.JudgeSteps.{list-body, map-body}
-use Rattle.laid.proofs.LayLaws.{count-cells}
-use Rattle.laid.proofs.LaySteps.{leaf-bytes, leaf-laid, list-fits, list-falls, list-laid, map-fits, map-falls, map-laid, RowLeft, row-start, row-done, row-here, row-falls, row-fits, row-again}
-use Prim.Native.Nat.{ℕ, _<_}
-use borrow.Fn.Kinds.{In}
-use borrow.Fn.PlainCycle.{Measures, is, falls, and}
+use Rattle.laid.proofs.LaySteps.{leaf-bytes, leaf-laid, list-fits, list-falls, list-laid, map-fits, map-falls, map-laid}
+use Prim.Native.Nat.{ℕ}
 use Rattle.laid.proofs.lay.Reads as lay
-use Rattle.laid.proofs.lay.Kinds as lay-kinds
 use Rattle.laid.proofs.+lay+lay_row.Lts-lay as lay-lts
-use Rattle.laid.proofs.lay_row.Reads as lay-row
-use Rattle.laid.proofs.lay_row.Kinds as lay-row-kinds
-use Rattle.laid.proofs.+lay+lay_row.Lts-lay_row as lay-row-lts
-use Rattle.laid.proofs.lay_literal.Reads as lay-literal-reads
-use Rattle.scalars.proofs.literal_at.Reads as literal-at-reads
-use Rattle.cells.proofs.write_cell.Reads as write-cell-reads
-use Rattle.rooms.proofs.value.nesting_of.Reads as nesting-of-reads
-use Rattle.references.proofs.deeper.Reads as deeper-reads
-use Rattle.bodies.proofs.count_at.Reads as count-at-reads
-use Rattle.outline.proofs.end_at.Reads as end-at-reads
-use Rattle.outline.proofs.first_operand.Reads as first-operand-reads
-use Rattle.outline.proofs.kind_at.Reads as kind-at-reads
-use Rattle.laid.proofs.+lay+lay_row.Proof.Kit.{μ-lay, μ-lay-row, lay-at, lay-below, lay-row-at, lay-row-below, lay-claims, lay-row-claims}
+use Rattle.laid.proofs.+lay+lay_row.Proof.Kit.{lay-at, lay-claims}
 
 -- src/laying.rt:81:9
 pub lay-kind-at-requires : (t : ℕ) → lay-lts.Need-kind-at-requires (lay-claims t) (lay-at t) lay.Post

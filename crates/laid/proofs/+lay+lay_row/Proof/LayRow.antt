@@ -1,32 +1,13 @@
+-- What the contract of `laid::lay_row` leaves. Assumes nothing.
 use borrow.Author.Needs.{needs}
-use mathlib.Core.Path.{_≡_, refl, sym, _∙_}
-use Prim.Native.Nat.{_+_, _*_, _-_, _≤_}
 use native.Mathlib.Omega.{arith}
-use Rattle.layout.specs.Layout.{wordAt}
-use Rattle.scalars.specs.Literals.{rowBytes}
-use Rattle.scalars.proofs.Rows.{Place, part-place}
-use Rattle.judged.proofs.JudgeSteps.{list-body, map-body}
+use Rattle.scalars.proofs.Rows.{part-place}
 use Rattle.laid.proofs.LayLaws.{count-cells}
-use Rattle.laid.proofs.LaySteps.{leaf-bytes, leaf-laid, list-fits, list-falls, list-laid, map-fits, map-falls, map-laid, RowLeft, row-start, row-done, row-here, row-falls, row-fits, row-again}
-use Prim.Native.Nat.{ℕ, _<_}
-use borrow.Fn.Kinds.{In}
-use borrow.Fn.PlainCycle.{Measures, is, falls, and}
-use Rattle.laid.proofs.lay.Reads as lay
-use Rattle.laid.proofs.lay.Kinds as lay-kinds
-use Rattle.laid.proofs.+lay+lay_row.Lts-lay as lay-lts
+use Rattle.laid.proofs.LaySteps.{RowLeft, row-start, row-done, row-here, row-falls, row-fits, row-again}
+use Prim.Native.Nat.{ℕ}
 use Rattle.laid.proofs.lay_row.Reads as lay-row
-use Rattle.laid.proofs.lay_row.Kinds as lay-row-kinds
 use Rattle.laid.proofs.+lay+lay_row.Lts-lay_row as lay-row-lts
-use Rattle.laid.proofs.lay_literal.Reads as lay-literal-reads
-use Rattle.scalars.proofs.literal_at.Reads as literal-at-reads
-use Rattle.cells.proofs.write_cell.Reads as write-cell-reads
-use Rattle.rooms.proofs.value.nesting_of.Reads as nesting-of-reads
-use Rattle.references.proofs.deeper.Reads as deeper-reads
-use Rattle.bodies.proofs.count_at.Reads as count-at-reads
-use Rattle.outline.proofs.end_at.Reads as end-at-reads
-use Rattle.outline.proofs.first_operand.Reads as first-operand-reads
-use Rattle.outline.proofs.kind_at.Reads as kind-at-reads
-use Rattle.laid.proofs.+lay+lay_row.Proof.Kit.{μ-lay, μ-lay-row, lay-at, lay-below, lay-row-at, lay-row-below, lay-claims, lay-row-claims}
+use Rattle.laid.proofs.+lay+lay_row.Proof.Kit.{lay-row-at, lay-row-claims}
 
 abbrev pub lay-row-Inv-loop : lay-row-lts.InvT-loop
 lay-row-Inv-loop table literal cells₀ text₀ first count used bytes at₀ left₀ to₀ row₀ cells text at left to row = RowLeft table literal first count used bytes cells₀ text₀ cells text (row .nesting) (row .cells) (row .bytes) at left to

@@ -1,8 +1,8 @@
 -- `select::select_field` meets its contract. Assumes nothing.
 use borrow.Author.Needs.{needs}
 use Rattle.rooms.specs.Rooms.{cellAt}
-use mathlib.Core.Path.{_≡_, sym, _∙_, ap}
-use Rattle.rooms.specs.Rooms.{Rooms, rooms}
+use mathlib.Core.Path.{sym, _∙_, ap}
+use Rattle.rooms.specs.Rooms.{rooms}
 use Rattle.machine.specs.Outcomes.{Res}
 use Rattle.machine.specs.declared.outcome.Outcome.{Outcome}
 use Rattle.machine.specs.Selection.{selectParts, selectInMap}

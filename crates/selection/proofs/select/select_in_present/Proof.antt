@@ -1,6 +1,6 @@
 -- `select::select_in_present` meets its contract. Assumes nothing.
 use borrow.Author.Needs.{needs}
-use mathlib.Core.Path.{_≡_, sym, _∙_, ap}
+use mathlib.Core.Path.{sym, _∙_, ap}
 use Rattle.rooms.specs.Rooms.{rooms}
 use Rattle.machine.specs.Selection.{selectInPresent}
 use Rattle.selection.proofs.select.select_in_present.Statement.{statement}

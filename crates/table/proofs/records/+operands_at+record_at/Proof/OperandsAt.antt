@@ -1,7 +1,7 @@
 -- `records::operands_at`: what is left of the row says what the whole row says. Assumes nothing.
 use borrow.Author.Needs.{needs}
 use mathlib.Core.Path.{_≡_, refl, _∙_}
-use Prim.Native.Nat.{ℕ, _-_}
+use Prim.Native.Nat.{ℕ}
 use native.Mathlib.Omega.{arith}
 use Rattle.table.specs.Reading.{readOf, operandsOf}
 use Rattle.table.proofs.RecordLaws.{operands-stop, operands-again, operands-met, operands-unmet}

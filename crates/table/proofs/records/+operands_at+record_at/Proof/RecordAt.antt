@@ -1,7 +1,7 @@
 -- `records::record_at`: a law of `RecordLaws` for each answer. Assumes nothing.
 use borrow.Author.Needs.{needs}
 use mathlib.Core.Path.{sym, _∙_}
-use Prim.Native.Nat.{ℕ, _-_}
+use Prim.Native.Nat.{ℕ}
 use native.Mathlib.Omega.{arith}
 use Rattle.heads.proofs.HeadLaws.{found}
 use Rattle.table.proofs.RecordLaws.{refused-head, faulty, level-left, leaf-ends, goes-on}
