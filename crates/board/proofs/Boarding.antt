@@ -11,7 +11,7 @@ use Rattle.answers.specs.Meant.{Says, meant, Evaluates}
 use Rattle.overlay.specs.Over.{noRoom, handed}
 use Rattle.slots.specs.State.{bindingsIn}
 use Rattle.reports.specs.Report.{whichAnswer, reportAnswer}
-use Rattle.board.specs.Board.{answeredInto, evaluates, EvaluatesInto}
+use Rattle.reports.specs.Evaluation.{answeredInto, evaluates, EvaluatesInto}
 
 module _ (table state : List ℕ) (steps : ℕ) (lent : Rooms) (answer : List ℕ) where
   pub evaluates-none : length answer < 8 → EvaluatesInto table state steps lent answer noRoom answer lent

@@ -12,7 +12,7 @@ ghost use Rattle.slots.specs.State.{bindingsIn};
 ghost use Rattle.stowing.specs.Stowing.{BindingRoom, bindingRoom};
 ghost use Rattle.intake.specs.Intake.{checks, empties, brings};
 ghost use Rattle.readout.specs.ReadOut.{reads, readsPart};
-ghost use Rattle.board.specs.Board.{EvaluatesInto};
+ghost use Rattle.reports.specs.Evaluation.{EvaluatesInto};
 use answers::Answer;
 use overlay::NO_ROOM;
 use reports::ANSWER_WORDS;

@@ -47,7 +47,7 @@ use Rattle.stowing.specs.Stowing.{bindingRoom}
 use Rattle.reports.specs.Report as Report
 use Rattle.reports.specs.Report.{report, whichDone, whichValue, whichError, whichExhausted, whichAnswer, reportAnswer}
 use Rattle.intake.specs.Intake.{empties}
-use Rattle.board.specs.Board.{answeredInto, evaluates, EvaluatesInto}
+use Rattle.reports.specs.Evaluation.{answeredInto, evaluates, EvaluatesInto}
 use Rattle.states.specs.Called.{Stands, LentTo, AnswersAs, EvaluatesAs}
 use Rattle.states.proofs.SettledValues.{settled-reading}
 use Rattle.states.proofs.SettledAnswers.{each-fits, settled-stands}

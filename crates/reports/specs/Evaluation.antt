@@ -1,4 +1,4 @@
--- What an evaluation returns and leaves in lent memory, from what the crates below say.
+-- What an evaluation over a state's words returns and leaves in lent memory: the contract of `ombravelik_evaluate`.
 use Prim.Native.Nat.{ℕ, _≤_}
 use mathlib.Core.Path.{_≡_}
 use mathlib.Core.List.{List}
