@@ -15,7 +15,7 @@ from typing import Iterator, NamedTuple
 HERE = Path(__file__).resolve().parent
 sys.path[:0] = [str(HERE.parent / "tools"), str(HERE.parent / "tools" / "rules")]
 
-from assemble import assemble, comprehension, listing, name, plus, true
+from assemble import Node, assemble, comprehension, equals, listing, mapping, name, null, plus, true
 from constants import header_numbers, source
 from stack import RECORDS, SHAPES, VALUES, nested
 
@@ -25,6 +25,8 @@ AMPLE = 8 << 20
 APPENDED = lambda inner: comprehension(1, 2, listing(true), listing(), true, plus(name(1), listing(inner)), name(1))
 # an evaluation goes down to the last record also where the value would nest deeper than values may
 RULES = {**{words: (RECORDS, around) for words, (_, around) in SHAPES.items()}, "append path": (22, APPENDED)}
+# seconds, of which a call takes far less than one
+PATIENCE = 60
 # the same number of KiB in all of them
 PROMISES = {
     "include/ombravelik.h": r"A call takes up to ([0-9,]+) KiB of the calling thread's stack",
@@ -79,6 +81,20 @@ def rules() -> "Iterator[Case]":
         yield Case(words, "evaluate", table, 0, levels)
 
 
+def compared(levels: int) -> Node:
+    """Two Maps that nest as deep as values may, made item by item, and compared below the results of so many comprehensions."""
+    rule = equals(name(3), name(3))
+    for _ in range(levels):
+        rule = SHAPES["result of a comprehension"][1](rule)
+    return comprehension(3, 4, listing(*[true] * VALUES), null, true, mapping((true, name(3))), rule)
+
+
+def comparisons() -> "Iterator[Case]":
+    """A comparison as deep in values as one can be, as deep in records as it can stand."""
+    levels = RECORDS - 3
+    yield Case(f"equality of maps, {VALUES} deep, below {levels} results", "evaluate", assemble(compared(levels)).table, 0, levels + 5 * VALUES)
+
+
 def literals(header: "dict[str, int]") -> "Iterator[Case]":
     """Literals that nest as deep as a binding may, as a table may, and one record deeper, checked and brought in."""
     unsound, too_deep = header["REFUSAL_UNSOUND_BINDING"], header["REFUSAL_RECORD_NESTING"]
@@ -91,7 +107,7 @@ def literals(header: "dict[str, int]") -> "Iterator[Case]":
 
 def run(program: str, case: Case, stack: int) -> Ran:
     """A case on a stack of that size."""
-    ran = subprocess.run([program, case.call, str(stack)], input=case.table, capture_output=True)
+    ran = subprocess.run([program, case.call, str(stack)], input=case.table, capture_output=True, timeout=PATIENCE)
     if ran.returncode != 0:
         sys.exit(f"{case.call} of {case.words} on a stack of {stack} bytes ended with status {ran.returncode}")
     return Ran(*map(int, ran.stdout.split()))
@@ -115,7 +131,7 @@ def main() -> None:
         sys.exit(f"the header says {most} bytes of stack, and the Rust crate sees to {kept}")
     header = header_numbers(source("include/ombravelik.h"))
     calls = {"check": 0, "bring_in": 0, "evaluate": 0}
-    for case in (*rules(), *literals(header)):
+    for case in (*rules(), *comparisons(), *literals(header)):
         calls[case.call] = max(calls[case.call], taken(sys.argv[1], case, header["REFUSED"], most))
     measured = ", ".join(f"{call} {many}" for call, many in calls.items())
     print(f"stack: the deepest tables take {measured} bytes, and run on a stack of the {most} that the header says; the Rust crate sees to {kept}")

@@ -81,7 +81,7 @@ guardAt false guard = none
 abbrev pub appendAt : (t x : List ℕ) (limit : ℕ) → Bool → (guard list : ℕ) → AppendStep
 appendAt t x limit guarded g l = record { guard = guardAt guarded (machine t limit (exprOf t x g)); items = machine t limit (exprOf t x l) }
 
--- they are records inside the step
+-- accepted records, together shorter than the step
 abbrev pub PathIn : (t x : List ℕ) → (step : ℕ) → Path → Type 0
 PathIn t x p (Path.Plain l) = Sound t x l × (wordAt t (l + 1) < wordAt t (p + 1))
 PathIn t x p (Path.Guarded g l) = Sound t x g × Sound t x l × (wordAt t (g + 1) + wordAt t (l + 1) < wordAt t (p + 1))
