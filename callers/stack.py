@@ -21,12 +21,12 @@ from stack import RECORDS, SHAPES, VALUES, nested
 
 # more than any call takes
 AMPLE = 8 << 20
+# seconds that a call may take
+PATIENCE = 60
 # an element of the list that the append path adds: three records a level
 APPENDED = lambda inner: comprehension(1, 2, listing(true), listing(), true, plus(name(1), listing(inner)), name(1))
 # an evaluation goes down to the last record also where the value would nest deeper than values may
 RULES = {**{words: (RECORDS, around) for words, (_, around) in SHAPES.items()}, "append path": (22, APPENDED)}
-# seconds, of which a call takes far less than one
-PATIENCE = 60
 # the same number of KiB in all of them
 PROMISES = {
     "include/ombravelik.h": r"A call takes up to ([0-9,]+) KiB of the calling thread's stack",
@@ -107,7 +107,10 @@ def literals(header: "dict[str, int]") -> "Iterator[Case]":
 
 def run(program: str, case: Case, stack: int) -> Ran:
     """A case on a stack of that size."""
-    ran = subprocess.run([program, case.call, str(stack)], input=case.table, capture_output=True, timeout=PATIENCE)
+    try:
+        ran = subprocess.run([program, case.call, str(stack)], input=case.table, capture_output=True, timeout=PATIENCE)
+    except subprocess.TimeoutExpired:
+        sys.exit(f"{case.call} of {case.words} on a stack of {stack} bytes did not end within {PATIENCE} seconds")
     if ran.returncode != 0:
         sys.exit(f"{case.call} of {case.words} on a stack of {stack} bytes ended with status {ran.returncode}")
     return Ran(*map(int, ran.stdout.split()))

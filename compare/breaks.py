@@ -15,10 +15,12 @@ from __future__ import annotations
 
 import argparse
 import re
+import shlex
 import shutil
 import subprocess
 import sys
 import tempfile
+from itertools import zip_longest
 from pathlib import Path
 from typing import NamedTuple
 
@@ -58,7 +60,8 @@ def edited(folder: Path, pattern: str, edit: "tuple[str, str]") -> Path:
 def broken_model(number: int, room: Path) -> str:
     copy = room / "rules"
     shutil.copytree(RULES, copy, ignore=shutil.ignore_patterns("__pycache__"))
-    edited(copy, "model/*.py", BREAKS[number].model)
+    if number >= 0:
+        edited(copy, "model/*.py", BREAKS[number].model)
     return f"{sys.executable} {copy / 'replay.py'}"
 
 
@@ -67,7 +70,8 @@ def broken_code(number: int, room: Path, repository: Path) -> str:
     copy.mkdir()
     shutil.copytree(repository / "crates", copy / "crates")
     shutil.copy(repository / "crates.txt", copy)
-    edited(copy, "crates/*/src/**/*.rt", BREAKS[number].code)
+    if number >= 0:
+        edited(copy, "crates/*/src/**/*.rt", BREAKS[number].code)
     subprocess.run([str(HERE / "unproved"), str(copy), str(room / "out")], check=True, stdout=subprocess.DEVNULL)
     return str(room / "out" / "replay")
 
@@ -82,11 +86,25 @@ def tried(number: int, arguments: argparse.Namespace) -> bool:
         run = subprocess.run(command, stdout=subprocess.PIPE, stderr=subprocess.DEVNULL, text=True)
     found = re.search(r"(\d+) answers in \d+ seconds, (\d+) different", run.stdout)
     of, different = (int(found[1]), int(found[2])) if found else (0, 0)
-    print(f"{number + 1:2} {'found' if different else 'NOT FOUND'}, {different} of {of} answers: {BREAKS[number].says}", flush=True)
+    print(f"{number + 1:2} {'found' if different else 'NOT FOUND'}, {different} of {of} answers: {BREAKS[number].says if number >= 0 else 'as it is'}", flush=True)
     return different > 0
 
 
+def stored(number: int) -> bool:
+    """Whether the stored list of `replay` finds the edit of the model."""
+    folder = HERE.parent / "crates" / "replay"
+    with tempfile.TemporaryDirectory() as name, (folder / "stdin").open() as given, (folder / "stdout").open() as wanted:
+        run = subprocess.Popen(shlex.split(broken_model(number, Path(name))), stdin=given, stdout=subprocess.PIPE, text=True)
+        found = any(said != want for said, want in zip_longest(run.stdout, wanted))
+        run.kill()
+        run.wait()
+    print(f"{number + 1:2} {'found' if found else 'NOT FOUND'}: {BREAKS[number].says}", flush=True)
+    return found
+
+
 def main() -> None:
+    if sys.argv[1:] == ["stored"]:
+        sys.exit(not all([stored(number) for number, one in enumerate(BREAKS) if one.model]))
     if sys.argv[1:] == ["list"]:
         for number, one in enumerate(BREAKS, 1):
             print(f"{number:2} {one.says}")
@@ -105,6 +123,8 @@ def main() -> None:
     arguments = parser.parse_args()
     wanted = range(len(BREAKS)) if arguments.only is None else [arguments.only - 1]
     numbers = [number for number in wanted if BREAKS[number].model or not arguments.model]
+    if tried(-1, arguments):
+        sys.exit("the evaluator as it is differs too, so that no finding tells anything")
     missed = [number for number in numbers if not tried(number, arguments)]
     print(f"{len(numbers)} tried, {len(missed)} not found")
     if not numbers:

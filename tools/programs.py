@@ -26,6 +26,7 @@ from replay import LINE, outcome_line
 
 LITERAL_MAX = 65_535  # bytes of literal text that a length of two bytes can say
 PIECE = 65_536  # bytes that `replay` reads at once from a file
+PATIENCE = 120  # seconds that a run may take, on an emulator too
 NO_LENGTH = "The input ends before the length of its text."
 NO_TEXT = "The input ends before its text does."
 
@@ -175,12 +176,12 @@ def from_file(command: "list[str]", given: bytes) -> "tuple[int, bytes]":
     with tempfile.TemporaryFile() as file:
         file.write(given)
         file.seek(0)
-        run = subprocess.run(command, stdin=file, stdout=subprocess.PIPE)
+        run = subprocess.run(command, stdin=file, stdout=subprocess.PIPE, timeout=PATIENCE)
     return run.returncode, run.stdout
 
 
 def through_pipe(command: "list[str]", given: bytes) -> "tuple[int, bytes]":
-    run = subprocess.run(command, input=given, stdout=subprocess.PIPE)
+    run = subprocess.run(command, input=given, stdout=subprocess.PIPE, timeout=PATIENCE)
     return run.returncode, run.stdout
 
 
@@ -195,10 +196,16 @@ WAYS = {"from a file": from_file, "through a pipe": through_pipe}
 
 
 def wrong(run: str) -> Iterator[str]:
+    for program in ("ask", "replay"):  # built if they are not there, however long that takes
+        subprocess.run([run, program], stdin=subprocess.DEVNULL, stdout=subprocess.DEVNULL)
     for case in [*asks(), *replays()]:
         wanted = "".join(line + "\n" for line in case.wanted).encode()
         for way, told in WAYS.items():
-            status, found = told([run, case.program], case.given)
+            try:
+                status, found = told([run, case.program], case.given)
+            except subprocess.TimeoutExpired:
+                yield f"{case.program}, {case.says}, {way}: no end within {PATIENCE} seconds"
+                continue
             if status != 0:
                 yield f"{case.program}, {case.says}, {way}: ended with {status}"
             if found != wanted:

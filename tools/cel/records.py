@@ -217,6 +217,8 @@ def node_of(words: "list[str]", below: list, number: int, text: bytes) -> Node:
 
 def take_fields(node: Node, words: "list[str]", text: bytes) -> None:
     kind = node.kind
+    if kind in (K_BOOL, K_INT, K_UINT, K_DOUBLE) and len(words) > 1:
+        raise ValueError(f"{WORDS[kind]} has no field {words[1]}")
     if kind in (K_STRING, K_BYTES):
         take_span(node, b"", words, text)
     elif kind == K_SELECT:
@@ -243,10 +245,12 @@ def take_fields(node: Node, words: "list[str]", text: bytes) -> None:
 
 def take_span(node: Node, before: bytes, words: "list[str]", text: bytes) -> None:
     """A span by offset and length, with its text for the reader, or by its text alone."""
+    if len(words) > (1 if words[0].startswith('"') else 2):
+        raise ValueError(f"a span has no field {words[-1]}")
     if words[0].startswith('"'):
         node.fields, node.span = before, unquoted(words[0])
         return
     offset, length = map(int, words[0].split("+"))
     if words[1:] and text[offset:offset + length] != unquoted(words[1]):
         raise ValueError(f"the text has {quoted(text[offset:offset + length])} there")
-    node.fields = before + u16(offset) + u16(length)
+    node.fields = before + struct.pack("<HH", offset, length)

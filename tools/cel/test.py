@@ -7,6 +7,8 @@ families of tools/rules, damaged tables included.
 
 from __future__ import annotations
 
+import re
+import struct
 import sys
 
 import paths
@@ -93,7 +95,7 @@ RECORDS = (
 )
 
 UNREADABLE = ("nul", "bool maybe", "int", "int 9223372036854775808", "string 0", 'text "a"\nstring 0+1 "b"', "null 4", "text a", "name 256",
-              "comprehension 1", "raw 0", "binary foo", "conditional true")
+              "comprehension 1", "int 5 6", "bool true false", 'string "a" "b"', 'string 0+0 "" 1', "string 70000+3", "raw 0", "binary foo", "conditional true")
 
 
 def rows_by_hand() -> None:
@@ -113,6 +115,10 @@ def rows_by_hand() -> None:
             check(lines, assembled(lines.split("\n")), "an error")
         except RecordsError as wrong:
             check(lines, str(wrong).startswith("line "), True)
+    try:
+        check("a text of 65,536 bytes", compiled("'" + "a" * 65_536 + "'"), "an error")
+    except struct.error:
+        pass
     names = Names(["b", "a"])
     parse("a + c + b.map(x, x)", names)
     check("names", str(names), "b=0 a=1 c=2 x=3 @result=127")
@@ -165,6 +171,15 @@ def stored_tables() -> None:
             round_trip(*map(spelled_out, words))
 
 
+def stored_lines() -> None:
+    """Every table of crates/replay/stdin, each once, as records."""
+    digits = re.compile("(?:bind|eval) .* (-|(?:[0-9a-f]{2})+) ((?:[0-9a-f]{2})+)")
+    lines = (paths.ROOT / "crates" / "replay" / "stdin").read_text().splitlines()
+    for text, table in sorted({found.groups() for found in map(digits.fullmatch, lines) if found}):
+        given = bytes.fromhex(table), bytes.fromhex(text.strip("-"))
+        check(f"records of {table[:60]}", assembled(disassemble(*given)) == given, True)
+
+
 def families() -> None:
     for make in (*FAMILIES.values(), *more(77, 500).values()):
         for number, case in enumerate(make()):
@@ -179,6 +194,7 @@ def families() -> None:
 def main() -> None:
     rows_by_hand()
     stored_tables()
+    stored_lines()
     families()
     print(*failures[:40], sep="\n", end="\n" if failures else "")
     print(f"{checks} checks, {len(failures)} failed")

@@ -250,7 +250,7 @@ def assemble(root: Node, text: bytes = b"") -> Assembled:
             if offset < 0:
                 offset = len(pool)
                 pool.extend(node.span)
-            fields += u16(offset) + u16(len(node.span))
+            fields += struct.pack("<HH", offset, len(node.span))
         parts, inside = [], at + len(fields) + (0 if node.kind == RAW else 3)
         for operand in node.operands:
             parts.append(place(operand, inside))
