@@ -13,7 +13,7 @@ use Rattle.text.specs.Utf8.{wellFormed}
 use Rattle.meaning.specs.Errors.{WrongField}
 use Rattle.meaning.specs.Expr.{notOp, equals}
 use Rattle.meaning.specs.Kinds.{ExprKind, nullKind, boolKind, intKind, uintKind, doubleKind, stringKind, bytesKind, nameKind, unaryKind, binaryKind, conditionalKind, selectKind, listKind, mapKind, comprehensionKind, functionKind, expr, kinds, Called, toOne, toNone, toTwo, flags, nameOf}
-use Rattle.meaning.specs.Heads.{Got, got, _>>=_, _>>_, demand, orRefuse, Head, fieldBytes, bytesOf, numbersAt, headAt}
+use Rattle.meaning.specs.Heads.{Got, got, _>>=_, _>>_, demand, orRefuse, Head, fieldBytes, fieldsBytes, numbersAt, headAt}
 use Rattle.meaning.specs.Table.{elementsFrom, pairsFrom, span, utf8, filled, calledAt, bodyAt, asExpr, asPart, exprAt, partAt, wordBytes}
 use Rattle.table.specs.declared.records.Read.the-variants.{Ends}
 use Rattle.faults.specs.declared.Marks.the-variants.{Nowhere, Anywhere, Values}
@@ -162,7 +162,7 @@ module _ (t x : List ℕ) (p : ℕ) where
   row-is functionKind = refl
 
   head-is : (k : ExprKind) → headBytes (kindByte k) ≡ headOfKind k
-  unfolding headBytes rowOf kinds bytesOf fieldBytes
+  unfolding headBytes rowOf kinds fieldsBytes fieldBytes
   head-is nullKind = refl
   head-is boolKind = refl
   head-is intKind = refl
@@ -190,7 +190,7 @@ module _ (t x : List ℕ) (p : ℕ) where
   both-on = omega arith
 
   numbers-are : (k : ExprKind) → numbersOf t p (kindByte k) ≡ numbersIn t x p k
-  unfolding numbersOf rowOf kinds numbersAt bytesOf fieldBytes wordAt
+  unfolding numbersOf rowOf kinds numbersAt fieldsBytes fieldBytes wordAt
   numbers-are nullKind = refl
   numbers-are boolKind = rw (byte-is t (p + fieldsAt))
   numbers-are intKind = refl

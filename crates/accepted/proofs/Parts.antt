@@ -7,7 +7,7 @@ use native.Mathlib.Omega.{arith}
 use lib.ListN.{length, getD}
 use Rattle.meaning.specs.Expr.{Expr}
 use Rattle.meaning.specs.Kinds.{ExprKind, nullKind, boolKind, intKind, uintKind, doubleKind, stringKind, bytesKind, nameKind, unaryKind, binaryKind, conditionalKind, selectKind, listKind, mapKind, comprehensionKind, functionKind, Kind, mark, kinds}
-use Rattle.meaning.specs.Heads.{Got, got, refused, _>>=_, Head, fieldBytes, bytesOf, numbersAt, headAt}
+use Rattle.meaning.specs.Heads.{Got, got, refused, _>>=_, Head, fieldBytes, fieldsBytes, numbersAt, headAt}
 use Rattle.meaning.specs.Table.{Part, Reader, bare, marked, bodyAt, asExpr, asPart, exprAt, partAt, wordBytes}
 use Rattle.faults.specs.declared.Marks.{Marks}
 use Rattle.faults.specs.declared.Marks.the-variants.{Nowhere, Anywhere, Values}
@@ -65,7 +65,7 @@ module _ (t x : List ℕ) (p : ℕ) (s : SoundPart t x p) where
     markHead = record { kind = mark; numbers = []; operandsAt = p + fieldsAt; end = after t p }
 
     mark-bytes : headBytes 14 ≡ 3
-    unfolding headBytes rowOf kinds bytesOf fieldBytes
+    unfolding headBytes rowOf kinds fieldsBytes fieldBytes
     mark-bytes = refl
 
     mark-numbers : numbersOf t p 14 ≡ []

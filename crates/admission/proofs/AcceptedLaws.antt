@@ -30,13 +30,13 @@ use Rattle.soundness.specs.declared.Bindings.{Bindings}
 use Rattle.soundness.specs.declared.Soundness.{Soundness}
 use Rattle.soundness.specs.declared.Soundness.the-variants as Soundness
 use Rattle.references.specs.Fits.{isAbsent}
-use Rattle.soundness.specs.Sound.{soundOf}
+use Rattle.soundness.specs.Sound.{soundOf, ifSound}
 use Rattle.admission.specs.declared.Answer.{Answer}
 use Rattle.admission.specs.declared.Answer.the-variants.{Done, Refused}
 use Rattle.scalars.specs.Literals.{literalIn, partLiteral}
 use Rattle.findings.specs.Judging.{cellsFor, bytesFor}
 use Rattle.scalars.specs.Laying.{Room, room, laid}
-use Rattle.admission.specs.Bringing.{literalFor, ifSound, accepted, said, Outcome, bound, after, outcomeOf}
+use Rattle.admission.specs.Bringing.{literalFor, accepted, said, Outcome, bound, after, outcomeOf}
 use Rattle.scalars.proofs.PartLaws.{bare-part}
 use Rattle.judged.proofs.SpelledLaws.{literal-in, Spells, spelled-spells, spells-cells, spells-bytes}
 

@@ -3,7 +3,7 @@ use Prim.Native.Nat.{ℕ, _+_}
 use mathlib.Core.List.{List}
 use mathlib.Core.Bool.{_&&_}
 use lib.Dec.{leb}
-use Rattle.meaning.specs.Errors.{WrongField, UnsoundBinding, BindingRoomFull, NameBound, refusalNumber}
+use Rattle.meaning.specs.Errors.{WrongField, BindingRoomFull, NameBound, refusalNumber}
 use Rattle.meaning.specs.Expr.{Expr}
 use Rattle.meaning.specs.Kinds.{nameOf}
 use Rattle.meaning.specs.Heads.{Got, got, refused, _>>=_, _>>_, demand, orRefuse, start}
@@ -14,10 +14,8 @@ use Rattle.rooms.specs.declared.value.Value.{Value}
 use Rattle.building.specs.Building.{cellRoom, textRoom}
 use Rattle.rooms.specs.Scope.{emptySlots, slotOf, stored}
 use Rattle.soundness.specs.declared.Bindings.{Bindings}
-use Rattle.soundness.specs.declared.Soundness.{Soundness}
-use Rattle.soundness.specs.declared.Soundness.the-variants.{Sound, Unsound}
 use Rattle.references.specs.Fits.{isAbsent}
-use Rattle.soundness.specs.Sound.{soundOf}
+use Rattle.soundness.specs.Sound.{soundOf, ifSound}
 use Rattle.admission.specs.declared.Answer.{Answer}
 use Rattle.admission.specs.declared.Answer.the-variants.{Done, Refused}
 use Rattle.admission.specs.declared.Brought.{Brought}
@@ -31,12 +29,7 @@ literalFor roomCells roomBytes cells bytes e = do
   demand (leb (cells + cellsOf v) roomCells && leb (bytes + bytesOf v) roomBytes) BindingRoomFull start
   got l
 
--- first the room
-abbrev pub ifSound : {A : Type 0} → Soundness → Got A → Got A
-ifSound Sound g = g
-ifSound (Unsound p) g = refused UnsoundBinding p
-
--- then the name, the table, and what it spells
+-- first the room; then the name, the table, and what it spells
 unfoldable pub accepted : (words text : List ℕ) → Bindings → (name : ℕ) → (table literal : List ℕ) → Got Literal
 accepted w t b name table literal =
     ifSound (soundOf w t b) do

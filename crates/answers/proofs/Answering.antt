@@ -23,7 +23,7 @@ use Rattle.rooms.specs.Stands.{Alive}
 use Rattle.soundness.specs.declared.Bindings.{Bindings}
 use Rattle.soundness.specs.declared.Soundness.{Soundness}
 use Rattle.soundness.specs.declared.Soundness.the-variants.{Sound, Unsound}
-use Rattle.soundness.specs.Sound.{soundOf}
+use Rattle.soundness.specs.Sound.{soundOf, ifSound}
 use Rattle.held.specs.Held.{aliveBelow}
 use Rattle.held.proofs.SoundScope.{sound-scope, room-scope}
 use Rattle.machine.specs.declared.outcome.Outcome.{Outcome}
@@ -34,7 +34,7 @@ use Rattle.machine.proofs.AnyCells.{words-fit}
 use Rattle.machine.proofs.Answering.{table-answers}
 use Rattle.reasons.specs.Numbers.{errorMeant, limitMeant}
 use Rattle.answers.specs.declared.Answer.{Answer}
-use Rattle.answers.specs.Evaluated.{ifSound, asAnswer, accepted, after, evaluated}
+use Rattle.answers.specs.Evaluated.{asAnswer, accepted, after, evaluated}
 use Rattle.answers.specs.Meant.{Told, told, toldBy, Says, limits, bound, meant, Evaluates}
 use Rattle.answers.specs.Promised.{Lent}
 
@@ -85,7 +85,8 @@ answers-say lent left o t end a =
 
 -- ---- what is accepted
 
-was-accepted : (g : Got Expr) (s : Soundness) (e : Expr) → _>>=_ g (λ x. ifSound s x) ≡ got e → (g ≡ got e) × (s ≡ Sound)
+-- a rule that is accepted was read, and its binding room is sound
+pub was-accepted : (g : Got Expr) (s : Soundness) (e : Expr) → _>>=_ g (λ x. ifSound s (got x)) ≡ got e → (g ≡ got e) × (s ≡ Sound)
 unfolding _>>=_
 was-accepted (got x) Sound e h = (h, refl)
 was-accepted (got x) (Unsound p) e h = let z : _≡_ {A = ℕ} 0 1 = cc in absurd (omega arith)

@@ -46,14 +46,15 @@ use Rattle.soundness.specs.declared.Soundness.the-variants.{Sound, Unsound}
 use Rattle.soundness.specs.Sound.{soundOf}
 use Rattle.held.specs.Held.{roomOf}
 use Rattle.machine.specs.declared.outcome.Used.{Used}
-use Rattle.machine.specs.Refines.{countsOf}
+use Rattle.laws.specs.Charges.{countsOf}
+use Rattle.laws.specs.Answers.{countsIn}
 use Rattle.machine.specs.Answer.{CellsHave}
 use Rattle.readable.specs.Shown.{Shows}
 use Rattle.readable.proofs.Showing.{shows}
 use Rattle.answers.specs.declared.Answer.{Answer}
 use Rattle.answers.specs.declared.Answer.the-variants as Answer
 use Rattle.answers.specs.Evaluated.{accepted}
-use Rattle.answers.specs.Meant.{Told, told, toldBy, counted, countsIn, countsTold, Says, limits, bound, meant, Evaluates}
+use Rattle.answers.specs.Meant.{Told, told, toldBy, countsUsed, countsTold, Says, limits, bound, meant, Evaluates}
 use Rattle.answers.specs.Alike.{Alike}
 use Rattle.answers.specs.Promised.{AgreeWhereNamed, AgreeWhereMet, WithoutValue}
 
@@ -93,7 +94,7 @@ one-answer table bindings steps lent answer other left leftOther h k = h .exactl
 same-text : (n : ℕ) (s t : List ℕ) → take n s ≡ take n t → drop n s ≡ drop n t → s ≡ t
 same-text n s t e f = sym (take-append-drop n s) ∙ (rw (e, f) (take-append-drop n t))
 
-counted-told : (a : Meaning.Answer) → countsTold (toldBy a) ≡ counted a
+counted-told : (a : Meaning.Answer) → countsTold (toldBy a) ≡ countsIn a
 counted-told (refusal why place) = refl
 counted-told (ran (Limited.value v c)) = refl
 counted-told (ran (Limited.error e c)) = refl
@@ -113,7 +114,7 @@ says-alike m lent lentOther answer other left leftOther e f h k =
       cellsOther = k .cells;
       cellsAbove = rw (h .cellsCounted) (h .cellsAbove ∙ (rw e (sym (k .cellsAbove))));
       bytes =
-          same-text (counted (m .answer) .bytes) (left .text) (leftOther .text) (h .bytes ∙ sym (k .bytes))
+          same-text (countsIn (m .answer) .bytes) (left .text) (leftOther .text) (h .bytes ∙ sym (k .bytes))
           (h .bytesAbove ∙ (rw f (sym (k .bytesAbove))));
     }
 
@@ -196,7 +197,7 @@ module _ (table : List ℕ) (bindings : Bindings) (steps : ℕ) (lent : Rooms) (
 
 -- ---- a refusal, an error, exhaustion
 
-told-refused : (a : Meaning.Answer) (number place : ℕ) → toldBy a ≡ Told.refused number place → counted a ≡ record { steps = 0; cells = 0; bytes = 0 }
+told-refused : (a : Meaning.Answer) (number place : ℕ) → toldBy a ≡ Told.refused number place → countsIn a ≡ record { steps = 0; cells = 0; bytes = 0 }
 told-refused (refusal why p) number place h = refl
 told-refused (ran (Limited.value v d)) number place h = let z : _≡_ {A = ℕ} 0 1 = cc in absurd (omega arith)
 told-refused (ran (Limited.error e d)) number place h = let z : _≡_ {A = ℕ} 0 1 = cc in absurd (omega arith)
@@ -257,7 +258,7 @@ module _ (table : List ℕ) (bindings : Bindings) (steps : ℕ) (lent : Rooms) (
   charged-cleared c w =
       let o = told-counts (meant table bindings steps lent .answer) c (subst (λ t. WithoutValue t c) (h .says .tells) w) in
       let m = meant-cleared (o .0) (o .1) (o .2) in
-      let same : counted (meant table bindings steps lent .answer) ≡ c = ap counted (o .1) ∙ o .3 in
+      let same : countsIn (meant table bindings steps lent .answer) ≡ c = ap countsIn (o .1) ∙ o .3 in
       let cells = (rw (m, o .3) at (h .says .cells)) in (
         λ i l. zero-words left (c .cells) 0 i cells (omega arith) (omega arith),
         ap (λ (d : Counts). take (d .bytes) (left .text)) (sym same)
@@ -274,7 +275,7 @@ pub value-shown : (m : Answered) (lent left : Rooms) (x : Machine.Value) (u : Us
 unfolding reading
 value-shown m lent left x u h = by-answer (m .answer) (h .tells)
   where
-    by-answer : (a : Meaning.Answer) → Told.value (reading left x) (countsIn u) ≡ toldBy a → (v : Value) × (c : Counts) × (a ≡ ran (Limited.value v c)) × Shows (nestingOf x) left x v
+    by-answer : (a : Meaning.Answer) → Told.value (reading left x) (countsUsed u) ≡ toldBy a → (v : Value) × (c : Counts) × (a ≡ ran (Limited.value v c)) × Shows (nestingOf x) left x v
     by-answer (refusal why place) e = let z : _≡_ {A = ℕ} 0 1 = cc in absurd (omega arith)
     by-answer (ran (Limited.value v c)) e = let read : reading left x ≡ some v = cc in (v, c, refl, shows (nestingOf x) left x v read)
     by-answer (ran (Limited.error v c)) e = let z : _≡_ {A = ℕ} 0 1 = cc in absurd (omega arith)

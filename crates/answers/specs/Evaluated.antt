@@ -3,26 +3,20 @@
 use Prim.Native.Nat.{ℕ, min}
 use mathlib.Core.List.{List}
 use Rattle.meaning.specs.Limits.{mostSteps}
-use Rattle.meaning.specs.Errors.{UnsoundBinding, refusalNumber}
+use Rattle.meaning.specs.Errors.{refusalNumber}
 use Rattle.meaning.specs.Expr.{Expr}
 use Rattle.meaning.specs.Heads.{Got, got, refused, _>>=_}
 use Rattle.meaning.specs.Table.{readTable}
 use Rattle.rooms.specs.Rooms.{Rooms}
 use Rattle.building.specs.Building.{cellsCleared, bytesCleared}
 use Rattle.soundness.specs.declared.Bindings.{Bindings}
-use Rattle.soundness.specs.declared.Soundness.{Soundness}
-use Rattle.soundness.specs.declared.Soundness.the-variants.{Sound, Unsound}
-use Rattle.soundness.specs.Sound.{soundOf}
+use Rattle.soundness.specs.Sound.{soundOf, ifSound}
 use Rattle.machine.specs.declared.outcome.Outcome.{Outcome}
 use Rattle.machine.specs.declared.outcome.Outcome.the-variants as Outcome
 use Rattle.machine.specs.Outcomes.{Res}
 use Rattle.machine.specs.Answer.{answered}
 use Rattle.answers.specs.declared.Answer.{Answer}
 use Rattle.answers.specs.declared.Answer.the-variants as Answer
-
-abbrev pub ifSound : {A : Type 0} → Soundness → A → Got A
-ifSound Sound a = got a
-ifSound (Unsound p) a = refused UnsoundBinding p
 
 abbrev pub asAnswer : Outcome → Answer
 asAnswer (Outcome.Value v u) = Answer.Value v u
@@ -49,7 +43,7 @@ module _ (table : List ℕ) (bindings : Bindings) (steps : ℕ) (lent : Rooms) w
   unfoldable pub accepted : Got Expr
   accepted = do
     e ← readTable table (lent .literal)
-    ifSound (soundOf (lent .bindingCells) (lent .bindingText) bindings) e
+    ifSound (soundOf (lent .bindingCells) (lent .bindingText) bindings) (got e)
 
   -- a refusal changes nothing
   abbrev pub after : Got Expr → Answer × Rooms

@@ -16,7 +16,7 @@ use Rattle.rooms.specs.Reading.{reading}
 use Rattle.soundness.specs.declared.Bindings.{Bindings}
 use Rattle.held.specs.Held.{roomOf}
 use Rattle.machine.specs.declared.outcome.Used.{Used}
-use Rattle.machine.specs.Refines.{countsOf}
+use Rattle.laws.specs.Answers.{countsIn}
 use Rattle.machine.specs.Answer.{CellsHave}
 use Rattle.reasons.specs.Numbers.{errorMeant, limitMeant}
 use Rattle.answers.specs.declared.Answer.{Answer}
@@ -32,14 +32,14 @@ pub data Told : Type 0 where
   error : (number place : ℕ) → Counts → Told
   exhausted : Exhausted → Counts → Told
 
-abbrev pub countsIn : Used → Counts
-countsIn u = record { steps = u .steps; cells = u .cells; bytes = u .bytes }
+abbrev pub countsUsed : Used → Counts
+countsUsed u = record { steps = u .steps; cells = u .cells; bytes = u .bytes }
 
 abbrev pub told : Rooms → Answer → Told
 told left (Answer.Refused number place) = refused number place
-told left (Answer.Value v u) = value (reading left v) (countsIn u)
-told left (Answer.Error e place u) = error (errorNumber (errorMeant e)) place (countsIn u)
-told left (Answer.Exhausted x u) = exhausted (limitMeant x) (countsIn u)
+told left (Answer.Value v u) = value (reading left v) (countsUsed u)
+told left (Answer.Error e place u) = error (errorNumber (errorMeant e)) place (countsUsed u)
+told left (Answer.Exhausted x u) = exhausted (limitMeant x) (countsUsed u)
 
 -- the counts that are told; a refusal counts nothing
 abbrev pub countsTold : Told → Counts
@@ -55,10 +55,6 @@ toldBy (ran (Limited.value v c)) = value (some v) c
 toldBy (ran (Limited.error e c)) = error (errorNumber (e .error)) (e .place) c
 toldBy (ran (Limited.exhausted x c)) = exhausted x c
 
-abbrev pub counted : Meaning.Answer → Counts
-counted (refusal why place) = nothingYet
-counted (ran o) = countsOf o
-
 -- ---- what an answer and the rooms that it leaves say
 
 pub record Says (m : Answered) (lent : Rooms) (answer : Answer) (left : Rooms) : Type 0 where
@@ -66,11 +62,11 @@ pub record Says (m : Answered) (lent : Rooms) (answer : Answer) (left : Rooms) :
   pub tells : told left answer ≡ toldBy (m .answer)
   -- below the counts: what was built, or zeros
   pub cells : CellsHave left 0 (m .rooms .cells)
-  pub cellsCounted : length (m .rooms .cells) ≡ counted (m .answer) .cells
-  pub bytes : take (counted (m .answer) .bytes) (left .text) ≡ m .rooms .bytes
+  pub cellsCounted : length (m .rooms .cells) ≡ countsIn (m .answer) .cells
+  pub bytes : take (countsIn (m .answer) .bytes) (left .text) ≡ m .rooms .bytes
   -- above them: as lent
-  pub cellsAbove : drop (counted (m .answer) .cells * 2) (left .cells) ≡ drop (counted (m .answer) .cells * 2) (lent .cells)
-  pub bytesAbove : drop (counted (m .answer) .bytes) (left .text) ≡ drop (counted (m .answer) .bytes) (lent .text)
+  pub cellsAbove : drop (countsIn (m .answer) .cells * 2) (left .cells) ≡ drop (countsIn (m .answer) .cells * 2) (lent .cells)
+  pub bytesAbove : drop (countsIn (m .answer) .bytes) (left .text) ≡ drop (countsIn (m .answer) .bytes) (lent .text)
   pub cellsLent : length (left .cells) ≡ length (lent .cells)
   pub bytesLent : length (left .text) ≡ length (lent .text)
   -- what is lent for reading only
@@ -80,10 +76,13 @@ pub record Says (m : Answered) (lent : Rooms) (answer : Answer) (left : Rooms) :
 
 -- ---- the definition's answer
 
+-- what lent rooms and a step limit lend; a cell is two words
+abbrev pub lentBy : (steps : ℕ) → Rooms → Counts
+lentBy steps lent = record { steps = steps; cells = length (lent .cells) / 2; bytes = length (lent .text) }
+
 module _ (table : List ℕ) (bindings : Bindings) (steps : ℕ) (lent : Rooms) where
-  -- a cell is two words
   abbrev pub limits : Counts
-  limits = cut (record { steps = steps; cells = length (lent .cells) / 2; bytes = length (lent .text) })
+  limits = cut (lentBy steps lent)
 
   -- the bindings that the lent binding room holds
   abbrev pub bound : BindingRoom

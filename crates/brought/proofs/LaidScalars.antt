@@ -1,21 +1,18 @@
 -- A scalar laid down: it fits the room, it stands for the scalar of the table, and a cell gives it back. And the keys of a Map, which do
 -- not match. Assumes nothing.
-use Prim.Native.Nat.{ℕ, suc, _+_, _^_, _≤_, _<_}
+use Prim.Native.Nat.{ℕ, suc, _+_, _≤_}
 use mathlib.Core.Path.{_≡_, refl, ap, ap₂, _∙_}
 use mathlib.Core.Logic.{inl}
 use mathlib.Core.List.{List, [], _∷_}
 use mathlib.Core.Option.{none}
 use mathlib.Core.Bool.{true, false, not}
 use native.Mathlib.Omega.{arith}
-use lib.IntN.{ℤ, pos, negsuc}
-use lib.Signed.{mag}
-use lib.ListN.{length, getD, set, take, length-set}
-use lib.Seq.{getD-set-same, drop-cons}
-use borrow.Author.Tests.{ltb-true}
+use lib.ListN.{length, set, take, length-set}
+use lib.Seq.{getD-set-same}
 use Rattle.numbers.specs.declared.double.Double.{Double}
 use Rattle.numbers.specs.declared.double.Double.the-variants as Double
 use Rattle.numbers.specs.Double.{bitsOf, doubleOf}
-use Rattle.numbers.specs.Int.{inRange}
+use Rattle.numbers.proofs.IntLaws.{range-small}
 use Rattle.numbers.proofs.DoubleLaws.{bits-back}
 use Rattle.text.specs.Utf8.{wellFormed}
 use Rattle.meaning.specs.Value as Meaning
@@ -39,13 +36,11 @@ use Rattle.mapkeys.specs.Keys.{isKey, repeatedIn, keysFit}
 use Rattle.references.specs.Fits.{valueFits}
 use Rattle.held.specs.Held.{aliveBelow}
 use Rattle.scalars.specs.Laying.{Room, typed, laidScalar}
+use Rattle.rooms.proofs.Frame.{part-first}
 use Rattle.brought.proofs.Later.{typed-long, typed-away}
 use Rattle.brought.proofs.Older.{all-true, span-fits, string-fits}
 
 -- ---- text
-
-part-first : (t : List ℕ) (a n : ℕ) → a < length t → part t a (suc n) ≡ getD t a 0 ∷ part t (suc a) n
-part-first t a n h = ap (take (suc n)) (drop-cons t a 0 h)
 
 typed-part : (t : List ℕ) (to : ℕ) (s : List ℕ) → to + length s ≤ length t → part (typed t to s) to (length s) ≡ s
 unfolding typed
@@ -58,11 +53,7 @@ typed-part t to (b ∷ s) h =
 
 -- ---- numbers
 
-int-small : (z : ℤ) → inRange z ≡ true → mag z < 2 ^ 63
-int-small (pos n) e = ltb-true n (2 ^ 63) e
-int-small (negsuc n) e = ltb-true n (2 ^ 63) e
-
-double-settled : (x : Double) → settled (doubleValue x) ≡ doubleValue (doubleOf (bitsOf x))
+pub double-settled : (x : Double) → settled (doubleValue x) ≡ doubleValue (doubleOf (bitsOf x))
 double-settled (Double.Plain x) = refl
 double-settled (Double.Nan b) = refl
 
@@ -100,7 +91,7 @@ module _ (w t : List ℕ) (used bytes : ℕ) where
     unfolding laidScalar Stands StandsScalar
     scalar-laid null f h i k = record { fits = refl; stands = λ l e x. refl; small = tt; same = refl }
     scalar-laid (bool b) f h i k = record { fits = refl; stands = λ l e x. refl; small = tt; same = refl }
-    scalar-laid (int z) f h i k = record { fits = refl; stands = λ l e x. refl; small = int-small z f; same = refl }
+    scalar-laid (int z) f h i k = record { fits = refl; stands = λ l e x. refl; small = range-small z f; same = refl }
     scalar-laid (uint n) f h i k = record { fits = refl; stands = λ l e x. refl; small = tt; same = refl }
     scalar-laid (double d) f h i k =
         record {

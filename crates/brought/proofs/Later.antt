@@ -1,20 +1,18 @@
 -- What laying literals down keeps: the words of all cells but those that it fills or takes, and all bytes but those that it takes.
 -- Assumes nothing.
-use Prim.Native.Nat.{ℕ, zero, suc, _+_, _-_, _*_, _/_, _≤_, _<_}
+use Prim.Native.Nat.{ℕ, zero, suc, _+_, _-_, _*_, _≤_, _<_}
 use mathlib.Core.Path.{_≡_, refl, sym, ap, _∙_}
 use mathlib.Core.Logic.{_⊎_, inl, inr}
 use mathlib.Core.List.{List, [], _∷_}
 use mathlib.Core.Bool.{Bool, true, false, cond}
 use native.Mathlib.Omega.{arith}
-use lib.Dec.{ltb}
 use lib.ListN.{length, getD, set, take, drop, length-set, length-drop}
 use lib.Seq.{getD-set-other, getD-drop, ext-getD}
 use Rattle.meaning.specs.Value.{Scalar, null, bool, int, uint, double, string, bytes}
 use Rattle.meaning.specs.Spelling.{Literal, scalarAt, listAt, mapAt, Literals, noLiterals, literals, LiteralPairs, noLiteralPairs, literalPairs}
 use Rattle.rooms.specs.declared.value.Value.{Value}
-use Rattle.rooms.specs.declared.value.Value.the-variants as Value
-use Rattle.rooms.specs.Cells.{cellOf, headOf, payloadOf, hasCell, cellIn, writtenIn}
-use Rattle.rooms.proofs.CellLaws.{written-length}
+use Rattle.rooms.specs.Cells.{headOf, payloadOf, hasCell, cellIn, writtenIn}
+use Rattle.rooms.proofs.CellLaws.{written-length, cell-same}
 use Rattle.scalars.specs.Laying.{Room, typed, withText, taking, put, laidScalar, countLiterals, countPairs, laid, laidRow, laidPairs}
 
 -- ---- lists by their elements
@@ -30,12 +28,6 @@ pub drop-same : (n : ℕ) (l m : List ℕ) → length l ≡ length m → ((k : �
 drop-same n l m e h =
     ext-getD 0 (drop n l) (drop n m) (length-drop n l ∙ (ap (λ k. k - n) e ∙ sym (length-drop n m)))
     (λ i b. getD-drop n l i 0 ∙ (h (n + i) (omega arith) ∙ sym (getD-drop n m i 0)))
-
--- a cell by its two words
-pub cell-same : (w u : List ℕ) (i : ℕ) → length w ≡ length u → getD w (i * 2) 0 ≡ getD u (i * 2) 0 → getD w (i * 2 + 1) 0 ≡ getD u (i * 2 + 1) 0 →
-    cellIn w i ≡ cellIn u i
-unfolding cellIn
-cell-same w u i e p q = λ k. cond (ltb i (e k / 2)) (cellOf (p k) (q k)) Value.Absent
 
 -- ---- a room that has become another
 

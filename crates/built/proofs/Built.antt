@@ -5,7 +5,7 @@ use mathlib.Core.Path.{_≡_, refl, sym, ap, ap₂, _∙_, subst}
 use mathlib.Core.Bool.{Bool, true, false, cond}
 use mathlib.Core.List.{List}
 use native.Mathlib.Omega.{arith}
-use lib.Dec.{leb, ltb}
+use lib.Dec.{leb}
 use lib.Ieee.{binary64}
 use lib.Ieee.Bits.{toBits-lt}
 use lib.ListN.{length, getD}
@@ -26,7 +26,7 @@ use Rattle.rooms.specs.Rooms.{Rooms, cellAt, withWords}
 use Rattle.building.specs.Building.{cellRoom, zeroed, cellsTaken}
 use Rattle.rooms.specs.Stands.{Alive, StandsScalar, Stands, Agrees}
 use Rattle.building.proofs.BuildingSteps.{cells-taken}
-use Rattle.rooms.proofs.CellLaws.{written-same, written-other}
+use Rattle.rooms.proofs.CellLaws.{written-same, written-other, cell-same}
 use Rattle.built.proofs.Zeroed.{zeroed-length, zeroed-below, zeroed-at}
 use Rattle.rooms.proofs.Frame.{frame}
 
@@ -48,10 +48,6 @@ words-cell : (w : List ℕ) (i h x : ℕ) → i < length w / 2 → getD w (i * 2
 unfolding cellIn
 words-cell w i h x l p q = rw (lt-ltb i (length w / 2) l) (ap₂ cellOf p q)
 
-words-same : (w u : List ℕ) (i : ℕ) → length w ≡ length u → getD w (i * 2) 0 ≡ getD u (i * 2) 0 → getD w (i * 2 + 1) 0 ≡ getD u (i * 2 + 1) 0 → cellIn w i ≡ cellIn u i
-unfolding cellIn
-words-same w u i e p q = λ k. cond (ltb i (e k / 2)) (cellOf (p k) (q k)) Value.Absent
-
 -- The cells that are taken are Null.
 pub taken-null : (w : List ℕ) (used count i : ℕ) → used + count ≤ cellRoom w → used ≤ i → i < used + count → cellIn (cellsTaken w used count) i ≡ Value.Null
 unfolding cellOf valueOf bareOf
@@ -66,7 +62,7 @@ unfolding cellsTaken
 taken-below w used count i h = go (leb (used + count) (cellRoom w))
   where
     go : (b : Bool) → cellIn (cond b (zeroed w (used * 2) (count * 2)) w) i ≡ cellIn w i
-    go true = words-same (zeroed w (used * 2) (count * 2)) w i (zeroed-length w (used * 2) (count * 2)) (zeroed-below w (used * 2) (count * 2) (i * 2) (omega arith)) (zeroed-below w (used * 2) (count * 2) (i * 2 + 1) (omega arith))
+    go true = cell-same (zeroed w (used * 2) (count * 2)) w i (zeroed-length w (used * 2) (count * 2)) (zeroed-below w (used * 2) (count * 2) (i * 2) (omega arith)) (zeroed-below w (used * 2) (count * 2) (i * 2 + 1) (omega arith))
     go false = refl
 
 -- Taking cells leaves every value as it was, where none reaches a cell above those in use.

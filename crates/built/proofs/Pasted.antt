@@ -4,13 +4,13 @@ use mathlib.Core.Path.{_≡_, refl, sym, ap, ap₂, _∙_, subst}
 use mathlib.Core.List.{List, [], _∷_, _++_}
 use native.Mathlib.Omega.{arith}
 use lib.ListN.{length, getD, set, take, drop, length-set, length-append, length-take, length-drop}
-use lib.Seq.{getD-set-same, take-set-le, drop-cons, getD-take, take-add, drop-drop}
+use lib.Seq.{getD-set-same, take-set-le, getD-take, take-add, drop-drop}
 use Rattle.rooms.specs.declared.value.TextSpace.{TextSpace}
 use Rattle.rooms.specs.declared.value.TextSpace.the-variants as Text
 use Rattle.rooms.specs.Rooms.{Rooms, cellAt, textOf, part, withText}
 use Rattle.building.specs.Building.{pasted}
 use Rattle.rooms.specs.Stands.{Alive, Within, TextAt, Agrees}
-use Rattle.rooms.proofs.Frame.{part-same}
+use Rattle.rooms.proofs.Frame.{part-same, part-first}
 
 -- the bytes up to `end` of a space are none of those from `to` on that are written
 abbrev pub Ahead : TextSpace → (end to : ℕ) → Type 0
@@ -33,21 +33,17 @@ source-length l b t Text.Literal to x = refl
 source-length l b t Text.Binding to x = refl
 source-length l b t Text.Evaluation to x = length-set t to x
 
-pasted-below : (l b : List ℕ) (s : TextSpace) (t : List ℕ) (a to n k : ℕ) → k ≤ to → take k (pasted l b s t a to n) ≡ take k t
+pub pasted-below : (l b : List ℕ) (s : TextSpace) (t : List ℕ) (a to n k : ℕ) → k ≤ to → take k (pasted l b s t a to n) ≡ take k t
 unfolding pasted
 pasted-below l b s t a to zero k h = refl
 pasted-below l b s t a to (suc n) k h = pasted-below l b s (set t to (getD (textOf l b t s) a 0)) (suc a) (suc to) n k (omega arith) ∙ take-set-le k t to (getD (textOf l b t s) a 0) h
 
-pasted-length : (l b : List ℕ) (s : TextSpace) (t : List ℕ) (a to n : ℕ) → length (pasted l b s t a to n) ≡ length t
+pub pasted-length : (l b : List ℕ) (s : TextSpace) (t : List ℕ) (a to n : ℕ) → length (pasted l b s t a to n) ≡ length t
 unfolding pasted
 pasted-length l b s t a to zero = refl
 pasted-length l b s t a to (suc n) = pasted-length l b s (set t to (getD (textOf l b t s) a 0)) (suc a) (suc to) n ∙ length-set t to (getD (textOf l b t s) a 0)
 
--- the first byte of a part, and the rest
-part-first : (t : List ℕ) (a n : ℕ) → a < length t → part t a (suc n) ≡ getD t a 0 ∷ part t (suc a) n
-part-first t a n h = ap (take (suc n)) (drop-cons t a 0 h)
-
-pasted-part : (l b : List ℕ) (s : TextSpace) (t : List ℕ) (a to n : ℕ) → to + n ≤ length t → a + n ≤ length (textOf l b t s) → Ahead s (a + n) to → part (pasted l b s t a to n) to n ≡ part (textOf l b t s) a n
+pub pasted-part : (l b : List ℕ) (s : TextSpace) (t : List ℕ) (a to n : ℕ) → to + n ≤ length t → a + n ≤ length (textOf l b t s) → Ahead s (a + n) to → part (pasted l b s t a to n) to n ≡ part (textOf l b t s) a n
 unfolding pasted
 pasted-part l b s t a to zero f g h = refl
 pasted-part l b s t a to (suc n) f g h =

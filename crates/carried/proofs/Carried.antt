@@ -10,9 +10,9 @@ use Rattle.rooms.specs.Rooms.{Rooms}
 use Rattle.soundness.specs.declared.Bindings.{Bindings}
 use Rattle.held.proofs.SoundScope.{room-scope}
 use Rattle.answers.specs.declared.Answer.{Answer}
-use Rattle.answers.specs.Meant.{Told, told, toldBy, Says, meant, Evaluates}
+use Rattle.answers.specs.Meant.{lentBy, Told, told, toldBy, Says, meant, Evaluates}
 use Rattle.answers.proofs.Promises.{meant-sound}
-use Rattle.carried.specs.HoldsScope.{HoldsScope, lentBy}
+use Rattle.carried.specs.HoldsScope.{HoldsScope}
 
 module _ (table : List ℕ) (bindings : Bindings) (steps : ℕ) (lent : Rooms) (room : BindingRoom)
     (holds : HoldsScope (lent .bindingCells) (lent .bindingText) bindings (scopeOf room)) where

@@ -9,7 +9,7 @@ use Rattle.meaning.specs.Value.{Value}
 use Rattle.meaning.specs.Limited as Limited
 use Rattle.meaning.specs.Bindings.{scopeOf}
 use Rattle.meaning.specs.Answer.{Answer, refusal, ran, Answered, answerOf}
-use Rattle.meaning.specs.Rows.{Row, Shown, gives, fails, exhausts, refuses, Seen, expected, answerShown, cellsIn, textIn, seen, roomOf, answered, Hold}
+use Rattle.meaning.specs.Rows.{Row, Shown, gives, fails, exhausts, refuses, Seen, expected, answerShown, cellsExpected, textIn, seen, roomOf, answered, Hold}
 use Rattle.meaning.proofs.Examples.{examples, examples-hold}
 use Rattle.meaning.proofs.Refusals.{refusals, refusals-hold}
 use Rattle.meaning.proofs.Corners.{corners, corners-hold}
@@ -19,9 +19,10 @@ use Rattle.meaning.proofs.Loops.{loops, loops-hold}
 use Rattle.rooms.specs.Rooms.{Rooms}
 use Rattle.soundness.specs.declared.Bindings.{Bindings}
 use Rattle.machine.specs.Answer.{CellsHave}
+use Rattle.laws.specs.Answers.{countsIn}
 use Rattle.answers.specs.declared.Answer as Answers
-use Rattle.answers.specs.Meant.{toldBy, counted, Says}
-use Rattle.carried.specs.Rows.{Evaluation, toldIn, countsIn, Comes, Evaluated}
+use Rattle.answers.specs.Meant.{toldBy, Says}
+use Rattle.carried.specs.Rows.{Evaluation, toldIn, countsShown, Comes, Evaluated}
 use Rattle.carried.proofs.Carried.{says-over}
 
 -- ---- one row
@@ -39,7 +40,7 @@ shown-told cells text (ran (Limited.value v c)) = refl
 shown-told cells text (ran (Limited.error e c)) = refl
 shown-told cells text (ran (Limited.exhausted x c)) = refl
 
-shown-counts : (cells : List Value) (text : List ℕ) (a : Answer) → counted a ≡ countsIn (answerShown cells text a)
+shown-counts : (cells : List Value) (text : List ℕ) (a : Answer) → countsIn a ≡ countsShown (answerShown cells text a)
 shown-counts cells text (refusal why place) = refl
 shown-counts cells text (ran (Limited.value v c)) = refl
 shown-counts cells text (ran (Limited.error e c)) = refl
@@ -48,13 +49,13 @@ shown-counts cells text (ran (Limited.exhausted x c)) = refl
 -- an answer that says what the definition says, where that is what is shown
 says-shown : (s : Shown) (m : Answered) → seen s m ≡ expected s → (lent : Rooms) (answer : Answers.Answer) (left : Rooms) → Says m lent answer left → Comes s answer left
 says-shown s m e lent answer left h =
-    let shown : answerShown (cellsIn s) (textIn s) (m .answer) ≡ s = ap (λ (x : Seen). x .shown) e ∙ shown-itself s in
+    let shown : answerShown (cellsExpected s) (textIn s) (m .answer) ≡ s = ap (λ (x : Seen). x .shown) e ∙ shown-itself s in
     let rooms : m .rooms ≡ expected s .rooms = ap (λ (x : Seen). x .rooms) e in
     record {
-      tells = h .tells ∙ shown-told (cellsIn s) (textIn s) (m .answer) ∙ ap toldIn shown;
+      tells = h .tells ∙ shown-told (cellsExpected s) (textIn s) (m .answer) ∙ ap toldIn shown;
       cells = subst (λ (q : Limited.Rooms). CellsHave left 0 (q .cells)) rooms (h .cells);
       bytes =
-          ap (λ (c : Counts). take (c .bytes) (left .text)) (sym (shown-counts (cellsIn s) (textIn s) (m .answer) ∙ ap countsIn shown))
+          ap (λ (c : Counts). take (c .bytes) (left .text)) (sym (shown-counts (cellsExpected s) (textIn s) (m .answer) ∙ ap countsShown shown))
           ∙ h .bytes
           ∙ ap (λ (q : Limited.Rooms). q .bytes) rooms;
     }

@@ -35,7 +35,7 @@ use Rattle.machine.proofs.Refine.{refines}
 use Rattle.answers.specs.declared.Answer.the-variants as Answer
 use Rattle.answers.specs.Evaluated.{asAnswer, accepted, after, evaluated}
 use Rattle.answers.specs.Promised.{Lent}
-use Rattle.carried.proofs.FormedAnswers.{was-accepted}
+use Rattle.answers.proofs.Answering.{was-accepted}
 
 -- a value among the outcomes
 value-is : (o : Outcome) (m : Value) (u : Used) → asAnswer o ≡ Answer.Value m u → o ≡ Outcome.Value m u

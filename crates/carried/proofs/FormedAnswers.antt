@@ -15,7 +15,7 @@ use Rattle.meaning.specs.Run.{Result, Eval}
 use Rattle.meaning.specs.Meaning.{run}
 use Rattle.meaning.specs.Limited as Limited
 use Rattle.meaning.specs.Limited.{Spent, through, stopped, spend, ended, outcome, limited}
-use Rattle.meaning.specs.Heads.{Got, got, refused, _>>=_}
+use Rattle.meaning.specs.Heads.{Got, got, refused}
 use Rattle.meaning.specs.Table.{readTable}
 use Rattle.meaning.specs.Bindings.{textBytes, scopeOf}
 use Rattle.meaning.specs.Answer as Answers
@@ -35,7 +35,6 @@ use Rattle.rooms.specs.Rooms.{Rooms, cellAt}
 use Rattle.rooms.specs.Stands.{Alive, StandsScalar, Stands, StandsCells, StandsEntries}
 use Rattle.rooms.specs.Scope.{slotOf, StandsSlot}
 use Rattle.soundness.specs.declared.Bindings.{Bindings}
-use Rattle.soundness.specs.declared.Soundness.{Soundness}
 use Rattle.soundness.specs.declared.Soundness.the-variants as Soundness
 use Rattle.soundness.specs.Sound.{soundOf}
 use Rattle.held.specs.Held.{bindingRooms, heldScope, aliveBelow}
@@ -45,7 +44,8 @@ use Rattle.machine.proofs.AnyCells.{words-fit}
 use Rattle.verdicts.specs.Verdicts.{Lent}
 use Rattle.verdicts.proofs.Verdicts.{sound-formed}
 use Rattle.answers.specs.declared.Answer.{Answer}
-use Rattle.answers.specs.Evaluated.{ifSound, accepted}
+use Rattle.answers.specs.Evaluated.{accepted}
+use Rattle.answers.proofs.Answering.{was-accepted}
 use Rattle.answers.specs.Meant.{Told, told, toldBy, Says, limits, bound, meant, Evaluates}
 
 -- ---- what stands in words is fine
@@ -121,13 +121,6 @@ told-value (refusal why place) v c h = let z : _≡_ {A = ℕ} 0 1 = cc in absur
 told-value (ran (Limited.value u d)) v c h = cc
 told-value (ran (Limited.error e d)) v c h = let z : _≡_ {A = ℕ} 0 1 = cc in absurd (omega arith)
 told-value (ran (Limited.exhausted y d)) v c h = let z : _≡_ {A = ℕ} 0 1 = cc in absurd (omega arith)
-
--- a rule that is accepted was read, and its binding room is sound
-pub was-accepted : (g : Got Expr) (s : Soundness) (e : Expr) → _>>=_ g (ifSound s) ≡ got e → (g ≡ got e) × (s ≡ Soundness.Sound)
-unfolding _>>=_
-was-accepted (refused why p) s e h = let z : _≡_ {A = ℕ} 0 1 = cc in absurd (omega arith)
-was-accepted (got x) Soundness.Sound e h = (h, refl)
-was-accepted (got x) (Soundness.Unsound p) e h = let z : _≡_ {A = ℕ} 0 1 = cc in absurd (omega arith)
 
 module _ (table : List ℕ) (bindings : Bindings) (steps : ℕ) (lent : Rooms) (tableBytes : AllBytes table) (literalBytes : AllBytes (lent .literal))
     (room : Lent (lent .bindingCells) (lent .bindingText) bindings) where

@@ -21,8 +21,7 @@ use Rattle.rooms.specs.Rooms.{Rooms, rooms}
 use Rattle.soundness.specs.declared.Bindings.{Bindings}
 use Rattle.answers.specs.declared.Answer as Answers
 use Rattle.answers.specs.Evaluated.{accepted}
-use Rattle.answers.specs.Meant.{Told, told, toldBy, bound, meant, Evaluates, countsTold}
-use Rattle.carried.specs.HoldsScope.{lentBy}
+use Rattle.answers.specs.Meant.{lentBy, Told, told, toldBy, bound, meant, Evaluates, countsTold}
 use Rattle.carried.specs.UnderLimits.{NotExhausted}
 
 -- ---- counts

@@ -1,11 +1,10 @@
--- A binding room that holds what a scope of the definition has; and the limits that lent rooms give.
-use Prim.Native.Nat.{ℕ, _/_}
+-- A binding room that holds what a scope of the definition has.
+use Prim.Native.Nat.{ℕ}
 use mathlib.Core.Path.{_≡_}
 use mathlib.Core.List.{List}
 use lib.ListN.{length}
-use Rattle.meaning.specs.Limits.{Counts, names}
+use Rattle.meaning.specs.Limits.{names}
 use Rattle.meaning.specs.Comprehension.{Scope}
-use Rattle.rooms.specs.Rooms.{Rooms}
 use Rattle.soundness.specs.declared.Bindings.{Bindings}
 use Rattle.soundness.specs.declared.Soundness.the-variants.{Sound}
 use Rattle.soundness.specs.Sound.{soundOf}
@@ -16,7 +15,3 @@ pub record HoldsScope (words text : List ℕ) (b : Bindings) (s : Scope) : Type 
   pub slots : length (b .scope .slots) ≡ names
   pub sound : soundOf words text b ≡ Sound
   pub scope : (n : ℕ) → heldScope words text b n ≡ s n
-
--- a cell is two words
-abbrev pub lentBy : (steps : ℕ) → Rooms → Counts
-lentBy steps lent = record { steps = steps; cells = length (lent .cells) / 2; bytes = length (lent .text) }

@@ -10,9 +10,9 @@ use Rattle.rooms.specs.Rooms.{Rooms}
 use Rattle.soundness.specs.declared.Bindings.{Bindings}
 use Rattle.machine.specs.Answer.{CellsHave}
 use Rattle.answers.specs.declared.Answer.{Answer}
-use Rattle.answers.specs.Meant.{Told, told, Evaluates}
+use Rattle.answers.specs.Meant.{lentBy, Told, told, Evaluates}
 use Rattle.laws.specs.Each.{Each}
-use Rattle.carried.specs.HoldsScope.{HoldsScope, lentBy}
+use Rattle.carried.specs.HoldsScope.{HoldsScope}
 
 -- the row's table, text and limits, over a binding room that holds what the row binds
 pub record Evaluation (r : Row) (bindings : Bindings) (lent : Rooms) (answer : Answer) (left : Rooms) : Type 0 where
@@ -27,17 +27,17 @@ toldIn (fails n p c) = Told.error n p c
 toldIn (exhausts x c) = Told.exhausted x c
 toldIn (refuses n p) = Told.refused n p
 
-abbrev pub countsIn : Shown → Counts
-countsIn (gives v c cells text) = c
-countsIn (fails n p c) = c
-countsIn (exhausts x c) = c
-countsIn (refuses n p) = nothingYet
+abbrev pub countsShown : Shown → Counts
+countsShown (gives v c cells text) = c
+countsShown (fails n p c) = c
+countsShown (exhausts x c) = c
+countsShown (refuses n p) = nothingYet
 
 -- the answer is the one that the row says, and so is what the rooms hold below the counts
 pub record Comes (s : Shown) (answer : Answer) (left : Rooms) : Type 0 where
   pub tells : told left answer ≡ toldIn s
   pub cells : CellsHave left 0 (expected s .rooms .cells)
-  pub bytes : take (countsIn s .bytes) (left .text) ≡ expected s .rooms .bytes
+  pub bytes : take (countsShown s .bytes) (left .text) ≡ expected s .rooms .bytes
 
 -- every evaluation of each row comes to what the row says
 abbrev pub Evaluated : List Row → Type 0

@@ -1,17 +1,22 @@
 -- Equality of scalars, as the code decides it, is the definition's. Assumes nothing.
 use Prim.Native.Nat.{ℕ}
-use mathlib.Core.Path.{_≡_, refl, sym, ap}
-use mathlib.Core.Bool.{Bool, true, false, not, cond}
+use mathlib.Core.Path.{_≡_, refl, sym, ap, _∙_, subst}
+use mathlib.Core.Logic.{_↔_}
+use mathlib.Core.Bool.{Bool, true, false, not, cond, true≢false}
 use mathlib.Core.List.{List}
+use native.Mathlib.Omega.{arith}
 use lib.Dec.{eqb}
 use Rattle.numbers.specs.declared.order.Order.{Order}
 use Rattle.numbers.specs.declared.order.Order.the-variants as Order
 use Rattle.numbers.specs.declared.order.Number.{Number}
 use Rattle.numbers.specs.declared.order.Number.the-variants as Number
-use Rattle.numbers.specs.Order.{orderOf, isEqual, numberPoint, sizeOrder, signedOrder, wholePoint}
+use Rattle.numbers.specs.Double.{Point, pointOf, bitsOf}
+use Rattle.numbers.specs.Order.{orderOf, isEqual, numberPoint}
+use Rattle.points.proofs.WholeLaws.{int-uint-equal, uint-less, uint-greater}
+use Rattle.text.specs.declared.bytes.TextOrder.{TextOrder}
 use Rattle.text.specs.declared.bytes.TextOrder.the-variants as TextOrder
 use Rattle.text.specs.Bytes as Bytes
-use Rattle.meaning.specs.Value.{Scalar, null, bool, string, bytes}
+use Rattle.meaning.specs.Value.{Scalar, null, bool, int, uint, double, string, bytes}
 use Rattle.meaning.specs.Comparison.{rank, textOrder, thenText, rankOrder, sameClass, scalarEqual}
 use Rattle.comparing.specs.Seen.{numberScalar}
 
@@ -52,20 +57,20 @@ pub apart-number : (x : Scalar) (y : Number) → eqb (rank x .class) 2 ≡ false
 apart-number x y e = apart x (numberScalar y) (rw (number-class y) e)
 
 pub null-same : true ≡ scalarEqual null null
-unfolding scalarEqual sameClass rankOrder rank Bytes.orderOf orderOf signedOrder sizeOrder wholePoint thenText textOrder
-null-same = refl
+unfolding scalarEqual sameClass rankOrder rank Bytes.orderOf thenText textOrder
+null-same = rw (int-uint-equal 0) refl
 
 pub bool-same : (x y : Bool) → cond x y (not y) ≡ scalarEqual (bool x) (bool y)
-unfolding scalarEqual sameClass rankOrder rank Bytes.orderOf orderOf signedOrder sizeOrder wholePoint thenText textOrder
-bool-same true true = refl
-bool-same true false = refl
-bool-same false true = refl
-bool-same false false = refl
+unfolding scalarEqual sameClass rankOrder rank Bytes.orderOf thenText textOrder
+bool-same true true = rw (int-uint-equal 1) refl
+bool-same true false = rw (uint-greater 1 0 (omega arith)) refl
+bool-same false true = rw (uint-less 0 1 (omega arith)) refl
+bool-same false false = rw (int-uint-equal 0) refl
 
 pub string-same : (s t : List ℕ) → isEqual (textOrder (Bytes.orderOf s t)) ≡ scalarEqual (string s) (string t)
-unfolding scalarEqual sameClass rankOrder rank orderOf signedOrder sizeOrder wholePoint thenText
-string-same s t = refl
+unfolding scalarEqual sameClass rankOrder rank thenText
+string-same s t = rw (int-uint-equal 0) refl
 
 pub bytes-same : (s t : List ℕ) → isEqual (textOrder (Bytes.orderOf s t)) ≡ scalarEqual (bytes s) (bytes t)
-unfolding scalarEqual sameClass rankOrder rank orderOf signedOrder sizeOrder wholePoint thenText
-bytes-same s t = refl
+unfolding scalarEqual sameClass rankOrder rank thenText
+bytes-same s t = rw (int-uint-equal 0) refl

@@ -29,9 +29,14 @@ use Rattle.containers.specs.declared.Begun.the-variants as Begun
 use Rattle.containers.specs.declared.Ready.{Ready}
 use Rattle.containers.specs.declared.Key.{Key}
 use Rattle.containers.specs.declared.Entry.{Entry}
-use Rattle.containers.specs.Filling.{begunTo, begunOf, BegunIn, onBegun, addedOf, AddedIn, keyedIf, keyedOf, onKey, insertedIf, enteredOf, EntryIn, onEntry}
+use Rattle.containers.specs.Filling.{begunTo, begunOf, BegunIn, addedOf, AddedIn, keyedIf, keyedOf, onKey, insertedIf, enteredOf, EntryIn, onEntry}
 
 -- ---- the cells
+
+-- goes on with the cells; Full is exhaustion
+abbrev pub onBegun : Begun → Used → Rooms → (Used → Rooms → Res) → Res
+onBegun (Begun.At first n w) u r k = k w r
+onBegun Begun.Full u r k = (Outcome.Exhausted Limit.Cells u, r)
 
 module _ (n : ℕ) (u : Used) (q : Rooms) (k : Used → Rooms → Res) where
   by-taken : (t : Taken) → onTaken t (λ end. k (withCells u end) q) (Outcome.Exhausted Limit.Cells u, q) ≡ onBegun (begunTo t n u) u q k

@@ -51,11 +51,6 @@ begunOf n count u w = (begunTo (takenOf (cellRoom w) (u .cells) count) n u, cell
 abbrev pub BegunIn : Begun → List ℕ → Begun × List ℕ → Type 0
 BegunIn b w m = _≡_ {A = Begun × List ℕ} (b, w) m
 
--- goes on with the cells; Full is exhaustion
-abbrev pub onBegun : Begun → Used → Rooms → (Used → Rooms → Res) → Res
-onBegun (Begun.At first n w) u r k = k w r
-onBegun Begun.Full u r k = (Outcome.Exhausted Limit.Cells u, r)
-
 -- ---- an element
 
 abbrev pub grown : Ready → Value → Ready

@@ -11,7 +11,7 @@ use borrow.Author.Tests.{le-leb, lt-leb, leb-true, ltb-true}
 use Rattle.text.specs.Utf8.{wellFormed}
 use Rattle.meaning.specs.Kinds.{numbered, flags, nameOf, kinds, unaries, binaries, functions}
 use Rattle.meaning.specs.Table.{span, utf8, wordBytes}
-use Rattle.meaning.specs.Heads.{fieldBytes, bytesOf, numbersAt}
+use Rattle.meaning.specs.Heads.{fieldBytes, fieldsBytes, numbersAt}
 use Rattle.layout.specs.Layout.{rowOf, wordAt, fieldsAt}
 use Rattle.meaning.specs.Limits.{names}
 use Rattle.heads.specs.Shapes.{numbersOf}
@@ -83,36 +83,36 @@ name-below n e = ltb-true _ _ (sym (name-is n) ∙ e)
 
 module _ (x t : List ℕ) (p : ℕ) where
   pub bool-fits : leb (getD t (p + fieldsAt) 0) 1 ≡ fieldsFit x (rowOf 1 .kind) (numbersOf t p 1)
-  unfolding rowOf kinds fieldsFit numbersOf numbersAt fieldBytes bytesOf wordAt
+  unfolding rowOf kinds fieldsFit numbersOf numbersAt fieldBytes fieldsBytes wordAt
   bool-fits = rw (byte-is t (p + fieldsAt), flag-is)
 
   pub string-fits : {a b : ℕ} → a ≡ wordAt t (p + fieldsAt) → b ≡ wordAt t (p + fieldsAt + wordBytes) → isSome (utf8 (span x a b)) ≡ fieldsFit x (rowOf 5 .kind) (numbersOf t p 5)
-  unfolding rowOf kinds fieldsFit numbersOf numbersAt fieldBytes bytesOf wordAt
+  unfolding rowOf kinds fieldsFit numbersOf numbersAt fieldBytes fieldsBytes wordAt
   string-fits = λ e f. rw (e, f)
 
   pub bytes-fits : {a b : ℕ} → a ≡ wordAt t (p + fieldsAt) → b ≡ wordAt t (p + fieldsAt + wordBytes) → isSome (span x a b) ≡ fieldsFit x (rowOf 6 .kind) (numbersOf t p 6)
-  unfolding rowOf kinds fieldsFit numbersOf numbersAt fieldBytes bytesOf wordAt
+  unfolding rowOf kinds fieldsFit numbersOf numbersAt fieldBytes fieldsBytes wordAt
   bytes-fits = λ e f. rw (e, f)
 
   pub name-fits : ltb (getD t (p + fieldsAt) 0) 128 ≡ fieldsFit x (rowOf 7 .kind) (numbersOf t p 7)
-  unfolding rowOf kinds fieldsFit numbersOf numbersAt fieldBytes bytesOf wordAt
+  unfolding rowOf kinds fieldsFit numbersOf numbersAt fieldBytes fieldsBytes wordAt
   name-fits = rw (byte-is t (p + fieldsAt), name-is)
 
   pub unary-fits : (leb 1 (getD t (p + fieldsAt) 0) && leb (getD t (p + fieldsAt) 0) 3) ≡ fieldsFit x (rowOf 8 .kind) (numbersOf t p 8)
-  unfolding rowOf kinds fieldsFit numbersOf numbersAt fieldBytes bytesOf wordAt unaries
+  unfolding rowOf kinds fieldsFit numbersOf numbersAt fieldBytes fieldsBytes wordAt unaries
   unary-fits = rw (byte-is t (p + fieldsAt)) (sym (numbered-is unaries (getD t (p + fieldsAt) 0)))
 
   pub binary-fits : (leb 1 (getD t (p + fieldsAt) 0) && leb (getD t (p + fieldsAt) 0) 17) ≡ fieldsFit x (rowOf 9 .kind) (numbersOf t p 9)
-  unfolding rowOf kinds fieldsFit numbersOf numbersAt fieldBytes bytesOf wordAt binaries
+  unfolding rowOf kinds fieldsFit numbersOf numbersAt fieldBytes fieldsBytes wordAt binaries
   binary-fits = rw (byte-is t (p + fieldsAt)) (sym (numbered-is binaries (getD t (p + fieldsAt) 0)))
 
   pub select-is : (isSome (getElem? flags (getD t (p + fieldsAt) 0)) && isSome (utf8 (span x (wordAt t (p + fieldsAt + 1)) (wordAt t (p + fieldsAt + 1 + wordBytes))))) ≡ fieldsFit x
       (rowOf 11 .kind) (numbersOf t p 11)
-  unfolding rowOf kinds fieldsFit numbersOf numbersAt fieldBytes bytesOf wordAt
+  unfolding rowOf kinds fieldsFit numbersOf numbersAt fieldBytes fieldsBytes wordAt
   select-is = rw (byte-is t (p + fieldsAt))
 
   names-fit : (ltb (getD t (p + fieldsAt) 0) 128 && ltb (getD t (p + fieldsAt + 1) 0) 128) ≡ fieldsFit x (rowOf 15 .kind) (numbersOf t p 15)
-  unfolding rowOf kinds fieldsFit numbersOf numbersAt fieldBytes bytesOf wordAt
+  unfolding rowOf kinds fieldsFit numbersOf numbersAt fieldBytes fieldsBytes wordAt
   names-fit = rw (byte-is t (p + fieldsAt), byte-is t (p + fieldsAt + 1), name-is (getD t (p + fieldsAt) 0), name-is (getD t (p + fieldsAt + 1) 0))
 
   pub names-second : ltb (getD t (p + fieldsAt) 0) 128 ≡ true → ltb (getD t (p + fieldsAt + 1) 0) 128 ≡ fieldsFit x (rowOf 15 .kind) (numbersOf t p 15)
@@ -122,7 +122,7 @@ module _ (x t : List ℕ) (p : ℕ) where
   names-first e = e ∙ (rw e at names-fit)
 
   pub function-fits : (leb 1 (getD t (p + fieldsAt) 0) && leb (getD t (p + fieldsAt) 0) 6) ≡ fieldsFit x (rowOf 16 .kind) (numbersOf t p 16)
-  unfolding rowOf kinds fieldsFit numbersOf numbersAt fieldBytes bytesOf wordAt functions
+  unfolding rowOf kinds fieldsFit numbersOf numbersAt fieldBytes fieldsBytes wordAt functions
   function-fits = rw (byte-is t (p + fieldsAt)) (sym (numbered-is functions (getD t (p + fieldsAt) 0)))
 
 -- ---- kinds without fields that could be wrong

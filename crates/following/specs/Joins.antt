@@ -46,7 +46,3 @@ joinOf limit p Fixed.Conditional x y r = (y, r)
 joinOf limit p (Fixed.Select b) x y r = (y, r)
 joinOf limit p (Fixed.Call f) x y r = (y, r)
 joinOf limit p Fixed.OrValue x y r = withValue y r (λ v u q. (withDefault p x v u q, q))
-
-abbrev pub onNext : Next → Rooms → (ℕ → Used → Rooms → Res) → Res
-onNext (Next.At q u) r k = k q u r
-onNext (Next.Stop o) r k = (o, r)

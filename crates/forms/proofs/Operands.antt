@@ -10,6 +10,7 @@ use lib.Dec.{eqb}
 use lib.ListN.{length, getD}
 use Rattle.meaning.specs.Expr as Expr
 use Rattle.meaning.specs.Kinds.{unaryKind, selectKind, functionKind, Called, toOne, toNone, toTwo, numbered, functions}
+use Rattle.rooms.specs.declared.value.Value.{Value}
 use Rattle.rooms.specs.declared.scope.Scope.{Scope}
 use Rattle.rooms.specs.Rooms.{Rooms}
 use Rattle.layout.specs.Layout.{headBytes, wordAt, after}
@@ -36,7 +37,8 @@ use Rattle.following.specs.declared.Fixed.{Fixed}
 use Rattle.following.specs.declared.Fixed.the-variants as Fixed
 use Rattle.following.specs.declared.Next.{Next}
 use Rattle.following.specs.declared.Next.the-variants as Next
-use Rattle.following.specs.Joins.{goNext, askNext, valueNext, joinOf, onNext}
+use Rattle.following.specs.Joins.{goNext, askNext, valueNext, joinOf}
+use Rattle.forms.specs.declared.Shape.{Shape}
 use Rattle.forms.specs.declared.Shape.the-variants as Shape
 use Rattle.forms.specs.Records.{unaryShape, binaryShape, functionShape, shapeOf, firstAt, nextOf}
 use Rattle.forms.proofs.ShapeLaws.{unary-back, binary-back, function-back, shape-byte}
@@ -50,6 +52,11 @@ headOf Fixed.Conditional = 3
 headOf (Fixed.Select y) = 8
 headOf (Fixed.Call f) = 4
 headOf Fixed.OrValue = 4
+
+-- goes on with the other operand, or stops with an outcome
+abbrev pub onNext : Next → Rooms → (ℕ → Used → Rooms → Res) → Res
+onNext (Next.At q u) r k = k q u r
+onNext (Next.Stop o) r k = (o, r)
 
 -- one operand, what follows it, and the other one
 abbrev pub fixedDoes : (t x : List ℕ) (limit p : ℕ) → Fixed → Scope → Used → Rooms → Res

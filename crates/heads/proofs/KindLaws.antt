@@ -8,7 +8,7 @@ use lib.Dec.{eqb}
 use lib.ListN.{length, getD, getElem?}
 use borrow.Author.Tests.{ne-eqb}
 use Rattle.meaning.specs.Kinds.{byte, word, Called, toOne, toNone, toTwo, numbered, functions, kinds, isLeaf, calledWithout}
-use Rattle.meaning.specs.Heads.{first, bytesOf, fieldBytes}
+use Rattle.meaning.specs.Heads.{first, fieldsBytes}
 use Rattle.meaning.specs.Table.{wordBytes}
 use Rattle.layout.specs.Layout.{rowOf, headBytes}
 use Rattle.heads.specs.Shapes.{numbersOf, calledCount, countOf}
@@ -16,11 +16,9 @@ use Rattle.layout.proofs.KindLaws.{every-kind}
 
 -- ---- heads
 
-pub head-width : (t : List ℕ) (k : ℕ) → k < 17 → bytesOf wordBytes t (byte ∷ word ∷ rowOf k .fields) ≡ headBytes k
-unfolding headBytes rowOf kinds bytesOf fieldBytes
-head-width t =
-    every-kind (λ k. bytesOf wordBytes t (byte ∷ word ∷ rowOf k .fields) ≡ headBytes k) refl refl refl refl refl refl refl refl refl refl refl refl refl refl
-    refl refl refl
+pub head-width : (k : ℕ) → fieldsBytes wordBytes (byte ∷ word ∷ rowOf k .fields) ≡ headBytes k
+unfolding headBytes
+head-width k = refl
 
 -- ---- operands
 

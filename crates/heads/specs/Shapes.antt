@@ -7,7 +7,7 @@ use lib.Dec.{eqb, leb}
 use lib.ListN.{getD}
 use Rattle.meaning.specs.Errors.{refusalNumber}
 use Rattle.meaning.specs.Kinds.{ExprKind, nullKind, boolKind, intKind, uintKind, doubleKind, stringKind, bytesKind, nameKind, unaryKind, binaryKind, conditionalKind, selectKind, listKind, mapKind, comprehensionKind, functionKind, Kind, mark, expr, byte, word, numbered, Called, toOne, toNone, toTwo, functions}
-use Rattle.meaning.specs.Heads.{Got, got, refused, first, bytesOf, numbersAt, headAt}
+use Rattle.meaning.specs.Heads.{Got, got, refused, first, fieldsBytes, numbersAt, headAt}
 use Rattle.meaning.specs.Heads as heads
 use Rattle.meaning.specs.Table.{wordBytes}
 use Rattle.layout.specs.Layout.{rowOf}
@@ -16,7 +16,7 @@ use Rattle.heads.specs.declared.Head.the-variants.{Whole, Refused}
 
 -- the numbers in the fields of the record at a place, by its kind byte
 unfoldable pub numbersOf : List ℕ → ℕ → ℕ → List ℕ
-numbersOf t p b = numbersAt wordBytes t (rowOf b .fields) (p + bytesOf wordBytes t (byte ∷ word ∷ []))
+numbersOf t p b = numbersAt wordBytes t (rowOf b .fields) (p + fieldsBytes wordBytes (byte ∷ word ∷ []))
 
 -- ---- operands
 

@@ -29,7 +29,7 @@ use Rattle.scalars.proofs.PartLaws.{ListAt, MapAt}
 
 -- ---- the first fault
 
-fault-map : {A B : Type 0} (g : Got A) (f : A → B) → faultIn (_>>=_ g (λ a. got (f a))) ≡ faultIn g
+pub fault-map : {A B : Type 0} (g : Got A) (f : A → B) → faultIn (_>>=_ g (λ a. got (f a))) ≡ faultIn g
 unfolding _>>=_
 fault-map (got a) f = refl
 fault-map (refused r p) f = refl

@@ -22,6 +22,7 @@ use Rattle.findings.specs.declared.Fault.{Fault}
 use Rattle.findings.specs.declared.Fault.the-variants.{At, Nowhere}
 use Rattle.scalars.specs.Literals.{literalIn, literalsIn, literalPairsIn}
 use Rattle.findings.specs.Judging.{firstOf, faultIn, matches, isAmong, keyFault, keysIn, keysAmong, keysOver, cellsFor, cellsAmong, cellsOver, bytesFor, bytesAmong, bytesOver}
+use Rattle.judged.proofs.JudgeLaws.{fault-map}
 
 -- ---- a table of literals is what its records are
 
@@ -144,11 +145,6 @@ unfolding _>>=_
 fault-bind (got a) k f h e i = rw (← e) (i a refl)
 fault-bind (refused r p) k f h e i = rw (← e)
 
-fault-got : {A B : Type 0} (g : Got A) (k : A → B) → faultIn (_>>=_ g (λ a. got (k a))) ≡ faultIn g
-unfolding _>>=_
-fault-got (got a) k = refl
-fault-got (refused r p) k = refl
-
 nothing : (x : Scalar) → isAmong x [] ≡ isFound (find x empty .1)
 unfolding isAmong find isFound
 nothing x = refl
@@ -158,13 +154,13 @@ mutual
 
   pub spelled-fault : (l : Literal) → faultIn (spelled l) ≡ keysIn l
   spelled-fault (scalarAt p x) = refl
-  spelled-fault (listAt p ls) = fault-got (spelledElements ls) (λ vs. list vs) ∙ elements-fault ls
-  spelled-fault (mapAt p ls) = fault-got (spelledEntries ls empty) (λ es. map es) ∙ entries-fault ls [] empty (λ x. nothing x)
+  spelled-fault (listAt p ls) = fault-map (spelledElements ls) (λ vs. list vs) ∙ elements-fault ls
+  spelled-fault (mapAt p ls) = fault-map (spelledEntries ls empty) (λ es. map es) ∙ entries-fault ls [] empty (λ x. nothing x)
 
   elements-fault : (ls : Literals) → faultIn (spelledElements ls) ≡ keysAmong ls
   elements-fault noLiterals = refl
   elements-fault (literals l ls) =
-      fault-bind (spelled l) _ (keysIn l) (keysAmong ls) (spelled-fault l) (λ v e. fault-got (spelledElements ls) (λ vs. cons v vs) ∙ elements-fault ls)
+      fault-bind (spelled l) _ (keysIn l) (keysAmong ls) (spelled-fault l) (λ v e. fault-map (spelledElements ls) (λ vs. cons v vs) ∙ elements-fault ls)
 
   entries-fault : (ls : LiteralPairs) (before : List Literal) (es : Entries) → Matching before es → faultIn (spelledEntries ls es) ≡ keysOver before ls
   entries-fault noLiteralPairs before es m = refl

@@ -13,7 +13,7 @@ use Rattle.meaning.specs.Expr.{Expr}
 use Rattle.meaning.specs.Run.{step, cells, text, nest, Trace, Result, Eval}
 use Rattle.meaning.specs.Comprehension.{Scope}
 use Rattle.meaning.specs.Meaning.{run}
-use Rattle.meaning.specs.Limited.{Spent, through, stopped, spend, value, ended, outcome, limited, zeroCell, holding, cellsBuilt, textBuilt, built, cleared, roomsAfter}
+use Rattle.meaning.specs.Limited.{Spent, through, stopped, spend, value, error, ended, outcome, limited, zeroCell, holding, cellsBuilt, textBuilt, roomsBuilt, cleared, roomsAfter}
 use Rattle.meaning.specs.Heads.{Got, got, refused}
 use Rattle.meaning.specs.Table.{readTable}
 use Rattle.meaning.specs.Bindings.{BindingRoom, scopeOf}
@@ -72,8 +72,8 @@ zero-bytes : (n : ℕ) → AllBytes (replicate n 0)
 zero-bytes zero = tt
 zero-bytes (suc n) = (omega arith, zero-bytes n)
 
-built-formed : (t : Trace) → Each Holding t → FormedRooms (built t)
-unfolding built
+built-formed : (t : Trace) → Each Holding t → FormedRooms (roomsBuilt t)
+unfolding roomsBuilt
 built-formed t h = record { cellsFormed = cells-formed (cellsBuilt t) (built-cells t h); bytesFormed = built-bytes t h }
 
 cleared-formed : (c : Counts) → FormedRooms (cleared c)

@@ -67,12 +67,13 @@ module _ (a i : ℕ) (fold : Option LogicalFold) (path : Option AppendStep) (ran
 
 -- ---- the append path
 
--- an items list in the append path: the list's own charges, and the list's elements
+-- an items list in the append path: the list's own charges, and the list's elements, which come of no other value
 pub record ItemsList (items : Expr) (m : Scope → Eval Values) : Type 0 where
   pub charges : (s : Scope) → m s .0 ≡ run items s .0
   pub elements : (s : Scope) (vs : Values) → run items s .1 ≡ value (list vs) → m s .1 ≡ value vs
+  pub whole : (s : Scope) (vs : Values) → m s .1 ≡ value vs → run items s .1 ≡ value (list vs)
 
-abbrev guardOf : Option Expr → Option Meaning
+abbrev pub guardOf : Option Expr → Option Meaning
 guardOf none = none
 guardOf (some g) = some (λ t. run g t)
 
@@ -157,25 +158,35 @@ into-list p made vs e = go (made .1) e
     go (error (byRule f)) q = absurd (let z : _≡_ {A = ℕ} 0 1 = cc in omega arith)
     go (error (byOperand f)) q = absurd (let z : _≡_ {A = ℕ} 0 1 = cc in omega arith)
 
+into-whole : (p : ℕ) (made : Rule Values) (vs : Values) → placed p (made .1) ≡ value vs → placed p (into list made .1) ≡ value (list vs)
+unfolding into _>>=_ after charged onValue pure placed
+into-whole p made vs e = go (made .1) e
+  where
+    go : (x : Result Raised Values) → placed p x ≡ value vs → placed p (onValue (λ a. pure (list a)) x .1) ≡ value (list vs)
+    go (value ws) q = let k : ws ≡ vs = cc in ap (λ us. value (list us)) k
+    go (error (byRule f)) q = absurd (let z : _≡_ {A = ℕ} 0 1 = cc in omega arith)
+    go (error (byOperand f)) q = absurd (let z : _≡_ {A = ℕ} 0 1 = cc in omega arith)
+
 list-items : (p : ℕ) (es : Elements) → ItemsList (listOf p es) (λ t. begin p (listRule (countElements es) (runElements es t nil)))
 unfolding run begin charged here
 list-items p es =
     record {
       charges = λ s. ap (step ∷_) (sym (into-charges list (listRule (countElements es) (runElements es s nil))));
       elements = λ s. into-list p (listRule (countElements es) (runElements es s nil));
+      whole = λ s. into-whole p (listRule (countElements es) (runElements es s nil));
     }
 
 -- what the comprehension sees of such a step
-record Seen (a : ℕ) (next : Expr) (guard : Option Expr) (items : Expr) : Type 0 where
-  m : Scope → Eval Values
-  sees : ofName a (look next .appends) ≡ some (record { guard = guardOf guard; items = m })
-  lists : ItemsList items m
+pub record Seen (a : ℕ) (next : Expr) (guard : Option Expr) (items : Expr) : Type 0 where
+  pub m : Scope → Eval Values
+  pub sees : ofName a (look next .appends) ≡ some (record { guard = guardOf guard; items = m })
+  pub lists : ItemsList items m
 
 of-its-name : {A : Type 0} (a : ℕ) (x : A) → ofName a (some (a, x)) ≡ some x
 unfolding ofName
 of-its-name a x = ap (λ b. cond b (some x) none) (same-name a)
 
-seen : {a : ℕ} {next : Expr} {guard : Option Expr} {items : Expr} → Appends a next guard items → Seen a next guard items
+pub seen : {a : ℕ} {next : Expr} {guard : Option Expr} {items : Expr} → Appends a next guard items → Seen a next guard items
 unfolding look binaryLook arithLook aSum aConditional guardedBy
 seen {a} (always {r = r} {es = es}) =
     let m : Scope → Eval Values = λ t. begin r (listRule (countElements es) (runElements es t nil)) in
@@ -190,7 +201,7 @@ seen {a} (guarded {r = r} {guard = g} {es = es}) =
     }
 
 -- so its append path is open where the condition is a literal and the result the accumulator
-path-open : {a : ℕ} {next : Expr} {guard : Option Expr} {items : Expr} (q n : ℕ) (x : Scalar) (k : Seen a next guard items) →
+pub path-open : {a : ℕ} {next : Expr} {guard : Option Expr} {items : Expr} (q n : ℕ) (x : Scalar) (k : Seen a next guard items) →
     appendStep a (look (literal q x)) (look next) (look (name n a)) ≡ some (record { guard = guardOf guard; items = k .m })
 unfolding look appendStep named
 path-open {a} {next} q n x k = ap (λ b. cond b (ofName a (look next .appends)) none) (same-name a) ∙ k .sees

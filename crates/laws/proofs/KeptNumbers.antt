@@ -22,7 +22,8 @@ use Rattle.meaning.specs.Numbers.{intIn, uintIn, doubleIn, bytesIn, intArith, i
 use Rattle.meaning.specs.Comparison.{rank, scalarOrder, holds, ordered, compareValues, compareRule, equal, equalRule}
 use Rattle.meaning.specs.Bindings.{textBytes}
 use Rattle.meaning.specs.WellFormed.{AllBytes}
-use Rattle.laws.proofs.SoundNumbers.{IntInRange, UintInRange, DoubleInRange, int-in-range, negated-in-range, uint-in-range, double-in-range, negated-double-in-range}
+use Rattle.numbers.proofs.RangeLaws.{IntInRange, UintInRange, int-neg}
+use Rattle.laws.proofs.SoundNumbers.{DoubleInRange, int-in-range, uint-in-range, double-in-range, negated-double-in-range}
 use Rattle.laws.proofs.Fine.{FineScalar, Fine, FineElements, Perhaps, join-fine}
 use Rattle.laws.proofs.Kept.{Any, KeepsRule, keeps-pure, keeps-charged, keeps-bind, keeps-fail, keeps-orFail, keeps-anything, keeps-truth, keeps-compared, keeps-built}
 
@@ -145,7 +146,7 @@ scalarNegate-kept : (x : Scalar) → FineScalar x → KeepsRule Fine (scalarNega
 unfolding scalarNegate textBytes
 scalarNegate-kept null f = keeps-fail _
 scalarNegate-kept (bool b) f = keeps-fail _
-scalarNegate-kept (int z) f = intRule-kept (Int.negOf z) (negated-in-range z)
+scalarNegate-kept (int z) f = intRule-kept (Int.negOf z) (int-neg z)
 scalarNegate-kept (uint n) f = keeps-fail _
 scalarNegate-kept (double d) f = keeps-pure _ (negated-double-in-range d, omega arith)
 scalarNegate-kept (string s) f = keeps-fail _

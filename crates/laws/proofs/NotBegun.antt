@@ -29,7 +29,7 @@ bind-alike {E} {A} r k l h = go (r .1) refl
     go (value a) e = ap (charged (r .0)) (h a e)
     go (error f) e = refl
 
-operand-value : (x : Result ErrorAt Value) (v : Value) → fromOperand x ≡ value v → x ≡ value v
+pub operand-value : (x : Result ErrorAt Value) (v : Value) → fromOperand x ≡ value v → x ≡ value v
 unfolding fromOperand
 operand-value (value w) v e = cc
 operand-value (error f) v e = absurd (let z : _≡_ {A = ℕ} 0 1 = cc in omega arith)

@@ -4,26 +4,22 @@ use Prim.Native.Nat.{ℕ}
 use mathlib.Core.Path.{_≡_, refl, sym, _∙_, ap, subst}
 use mathlib.Core.Logic.{_⊎_, inl, inr}
 use mathlib.Core.List.{List, [], _∷_, _++_, append-assoc}
-use mathlib.Core.Option.{Option, none, some, Option·map}
-use mathlib.Core.Bool.{Bool, true, false, cond}
+use mathlib.Core.Option.{Option, none, some}
 use native.Mathlib.Omega.{arith}
-use lib.Dec.{T, eqb, eqb-refl}
-use Rattle.meaning.specs.Value.{Scalar, Value, list, Values, nil}
-use Rattle.meaning.specs.Expr.{LogicalFold, Expr, literal, name, unary, binary, conditional, select, listOf, mapOf, comprehension, call, noneCall, orValue, Elements, countElements}
-use Rattle.meaning.specs.Run.{step, Trace, Result, value, error, Raised, byRule, byOperand, Eval, Rule, pure, charged, after, onValue, _>>=_, placed, here, begin, choose}
-use Rattle.meaning.specs.Containers.{listRule, into}
+use Rattle.meaning.specs.Value.{Scalar, Value, list, nil}
+use Rattle.meaning.specs.Expr.{LogicalFold, Expr, literal, name, unary, binary, conditional, select, listOf, mapOf, comprehension, call, noneCall, orValue}
+use Rattle.meaning.specs.Run.{step, Trace, value, choose}
 use Rattle.meaning.specs.Comprehension.{Scope, store, itemsOf, AppendStep, Comprehension, isEmptyList, loopFrom}
-use Rattle.meaning.specs.Look.{aSum, arithLook, binaryLook, ofName, guardedBy, aConditional, named, appendStep}
-use Rattle.meaning.specs.Meaning.{run, runElements, look}
+use Rattle.meaning.specs.Look.{ofName, appendStep}
+use Rattle.meaning.specs.Meaning.{run, look}
 use Rattle.laws.specs.Begins.{TakesLoop, Appends, always, guarded, InAppend, Begins, initOf, rangeOf, loopOf, appendOf}
 use Rattle.laws.specs.Steps.{StepOf}
-use Rattle.laws.proofs.BegunParts.{into-charges}
-use Rattle.laws.proofs.BegunItems.{partsOf, takes-loop}
+use Rattle.laws.proofs.BegunItems.{partsOf, takes-loop, guardOf, Seen, seen, path-open}
 use Rattle.laws.proofs.LookWritten.{WrittenAppend}
 use Rattle.laws.proofs.BegunCovers.{takes-either}
 use Rattle.laws.proofs.CoveredSteps.{Covered}
 use Rattle.laws.proofs.StepOrigins.{Accounted, of-operand, Behind, begun-accounted, operand-steps}
-use Rattle.laws.proofs.StepItems.{ListsItems, asked, loop-accounted, append-accounted, rule-accounted}
+use Rattle.laws.proofs.StepItems.{loop-accounted, append-accounted, rule-accounted}
 
 -- ---- a step that appends
 
@@ -59,60 +55,11 @@ items-list-accounted guarded c = c .1
 
 -- ---- what the comprehension sees of it
 
-into-whole : (p : ℕ) (made : Rule Values) (vs : Values) → placed p (made .1) ≡ value vs → placed p (into list made .1) ≡ value (list vs)
-unfolding into _>>=_ after charged onValue pure placed
-into-whole p made vs e = go (made .1) e
-  where
-    go : (x : Result Raised Values) → placed p x ≡ value vs → placed p (onValue (λ a. pure (list a)) x .1) ≡ value (list vs)
-    go (value ws) q = let k : ws ≡ vs = cc in ap (λ us. value (list us)) k
-    go (error (byRule f)) q = absurd (let z : _≡_ {A = ℕ} 0 1 = cc in omega arith)
-    go (error (byOperand f)) q = absurd (let z : _≡_ {A = ℕ} 0 1 = cc in omega arith)
-
-lists-items : (p : ℕ) (es : Elements) → ListsItems (listOf p es) (λ t. begin p (listRule (countElements es) (runElements es t nil)))
-unfolding run begin charged here
-lists-items p es =
-    record {
-      charges = λ s. ap (step ∷_) (sym (into-charges list (listRule (countElements es) (runElements es s nil))));
-      whole = λ s. into-whole p (listRule (countElements es) (runElements es s nil));
-    }
-
-record Seen (a : ℕ) (next : Expr) (guard : Option Expr) (items : Expr) : Type 0 where
-  m : Scope → Eval Values
-  sees : ofName a (look next .appends) ≡ some (record { guard = asked guard; items = m })
-  lists : ListsItems items m
-
-same-name : (n : ℕ) → eqb n n ≡ true
-same-name n = go (eqb n n) (eqb-refl n)
-  where
-    go : (b : Bool) → T b → b ≡ true
-    go true h = refl
-    go false h = absurd h
-
-of-its-name : {A : Type 0} (a : ℕ) (x : A) → ofName a (some (a, x)) ≡ some x
-unfolding ofName
-of-its-name a x = ap (λ b. cond b (some x) none) (same-name a)
-
-seen : {a : ℕ} {next : Expr} {guard : Option Expr} {items : Expr} → Appends a next guard items → Seen a next guard items
-unfolding look binaryLook arithLook aSum aConditional guardedBy
-seen {a} (always {r = r} {es = es}) =
-    let m : Scope → Eval Values = λ t. begin r (listRule (countElements es) (runElements es t nil)) in
-    record { m = m; sees = of-its-name {A = AppendStep} a (record { guard = none; items = m }); lists = lists-items r es }
-seen {a} (guarded {r = r} {guard = g} {es = es}) =
-    let m : Scope → Eval Values = λ t. begin r (listRule (countElements es) (runElements es t nil)) in
-    record {
-      m = m;
-      sees = ap (λ o. ofName a (Option·map (guardedBy (λ t. run g t) a) o)) (of-its-name a m) ∙
-          of-its-name {A = AppendStep} a (record { guard = some (λ t. run g t); items = m });
-      lists = lists-items r es;
-    }
-
-path-open : {a : ℕ} {next guard items : _} {condition result : Expr} (q n : ℕ) (x : Scalar) → condition ≡ literal q x → result ≡ name n a →
+way-open : {a : ℕ} {next guard items : _} {condition result : Expr} (q n : ℕ) (x : Scalar) → condition ≡ literal q x → result ≡ name n a →
     (k : Seen a next guard items) →
-    appendStep a (look condition) (look next) (look result) ≡ some (record { guard = asked guard; items = k .m })
-unfolding look appendStep named
-path-open {a} {next} {result} q n x c r k =
-    ap (λ e. appendStep a (look e) (look next) (look result)) c ∙ ap (λ e. appendStep a (look (literal q x)) (look next) (look e)) r ∙
-    ap (λ b. cond b (ofName a (look next .appends)) none) (same-name a) ∙ k .sees
+    appendStep a (look condition) (look next) (look result) ≡ some (record { guard = guardOf guard; items = k .m })
+way-open {a} {next} {result} q n x c r k =
+    ap (λ e. appendStep a (look e) (look next) (look result)) c ∙ ap (λ e. appendStep a (look (literal q x)) (look next) (look e)) r ∙ path-open q n x k
 
 -- ---- the record
 
@@ -165,7 +112,7 @@ module _ (p a i : ℕ) (range init condition next result : Expr) where
       go v w xs e f q (inr k) =
           let ways = k .0 in
           let sight = seen (ways .appends) in
-          let seenSo = path-open (ways .conditionPlace) (ways .resultPlace) (ways .constant) (ways .conditionIs) (ways .resultIs) sight in
+          let seenSo = way-open (ways .conditionPlace) (ways .resultPlace) (ways .constant) (ways .conditionIs) (ways .resultIs) sight in
           subst (λ u. Covered (AtItems s) (loopFrom parts path u xs s .0)) (sym (k .1))
           (subst (λ o. Covered (AtItems s) (loopFrom parts o (list nil) xs s .0)) (sym seenSo)
           (append-accounted a i fold path range init condition next result (ways .guard) (sight .lists) ofCondition

@@ -10,11 +10,11 @@ use Rattle.meaning.specs.Value.{Value, list, Values, join, boolOf}
 use Rattle.meaning.specs.Expr.{LogicalFold, Expr}
 use Rattle.meaning.specs.Run.{cells, Trace, Result, value, error, Eval, charged, operand, choose}
 use Rattle.meaning.specs.Logic.{absorbs}
-use Rattle.meaning.specs.Comprehension.{Scope, store, Meaning, AppendStep, Comprehension, Pending, Onward, finish, foldStep, afterStep, turn, loop, Gathering, appendItems, appendTurn, appendLoop, loopFrom, comprehensionRule}
+use Rattle.meaning.specs.Comprehension.{Scope, store, AppendStep, Comprehension, Pending, Onward, finish, foldStep, afterStep, turn, loop, Gathering, appendItems, appendTurn, appendLoop, loopFrom, comprehensionRule}
 use Rattle.meaning.specs.Meaning.{run}
 use Rattle.laws.specs.Begins.{GaveValue, GaveBool, GoesOn, plain, folded, cleared, stillHeld, held, InLoop, resultAtEnd, resultAtFalse, stepOfItem, laterItem, LetsIn, unguarded, guardHolds, InAppend, guardOfItem, itemsOfItem, afterItems, afterNoItems}
 use Rattle.laws.specs.Steps.{StepOf}
-use Rattle.laws.proofs.BegunItems.{partsOf}
+use Rattle.laws.proofs.BegunItems.{partsOf, ItemsList, guardOf}
 use Rattle.laws.proofs.CoveredSteps.{Covered, nothing, silent-any, covered-map, covered-after, covered-operand, covered-choice, covered-orFail}
 use Rattle.laws.proofs.OwnSteps.{built-silent}
 use Rattle.laws.proofs.StepOrigins.{Accounted}
@@ -67,16 +67,7 @@ module _ (a i : ℕ) (fold : Option LogicalFold) (path : Option AppendStep) (ran
 
 -- ---- the append path
 
--- an items list in the append path: the list's own charges, and its elements come of no other value
-pub record ListsItems (items : Expr) (m : Scope → Eval Values) : Type 0 where
-  pub charges : (s : Scope) → m s .0 ≡ run items s .0
-  pub whole : (s : Scope) (vs : Values) → m s .1 ≡ value vs → run items s .1 ≡ value (list vs)
-
-abbrev pub asked : Option Expr → Option Meaning
-asked none = none
-asked (some g) = some (λ t. run g t)
-
-items-accounted : {P : Trace → Type 0} {items : Expr} {m : Scope → Eval Values} → ListsItems items m → (rest : Gathering) (s : Scope) (out : Values) →
+items-accounted : {P : Trace → Type 0} {items : Expr} {m : Scope → Eval Values} → ItemsList items m → (rest : Gathering) (s : Scope) (out : Values) →
     Covered P (run items s .0) →
     ((vs : Values) → run items s .1 ≡ value (list vs) → Covered (λ f. P (run items s .0 ++ (cells vs ∷ f))) (rest s (join out vs) .0)) →
     Covered P (appendItems m rest s out .0)
@@ -89,13 +80,13 @@ items-accounted {P} {items} {m} l rest s out c d =
     })
 
 module _ (a i : ℕ) (fold : Option LogicalFold) (path : Option AppendStep) (range init condition next result : Expr) (guard : Option Expr)
-    {items : Expr} {m : Scope → Eval Values} (l : ListsItems items m)
+    {items : Expr} {m : Scope → Eval Values} (l : ItemsList items m)
     (ofCondition : Accounted condition) (ofGuard : (g : Expr) → guard ≡ some g → Accounted g) (ofItems : Accounted items) where
   abbrev parts′ : Comprehension Value
   parts′ = partsOf a i fold path range init condition next result
 
   abbrev way : AppendStep
-  way = record { guard = asked guard; items = m }
+  way = record { guard = guardOf guard; items = m }
 
   turn-accounted : {P : Trace → Type 0} (rest : Gathering) (s : Scope) (out : Values) →
       ((g : Expr) → guard ≡ some g → (x : Trace) → StepOf g s x → P x) →
@@ -103,11 +94,11 @@ module _ (a i : ℕ) (fold : Option LogicalFold) (path : Option AppendStep) (ran
       ((q : Trace) → LetsIn guard s q → (vs : Values) → run items s .1 ≡ value (list vs) →
       Covered (λ f. P (q ++ (run items s .0 ++ (cells vs ∷ f)))) (rest s (join out vs) .0)) →
       ((g : Expr) → guard ≡ some g → GaveBool (run g s) false → Covered (λ f. P (run g s .0 ++ f)) (rest s out .0)) →
-      Covered P (appendTurn (asked guard) m rest s out .0)
+      Covered P (appendTurn (guardOf guard) m rest s out .0)
   unfolding appendTurn
   turn-accounted {P} rest s out hg hi hr hn = go guard refl
     where
-      go : (o : Option Expr) → guard ≡ o → Covered P (appendTurn (asked o) m rest s out .0)
+      go : (o : Option Expr) → guard ≡ o → Covered P (appendTurn (guardOf o) m rest s out .0)
       go none e =
           let k = subst (λ o. LetsIn o s []) (sym e) unguarded in
           items-accounted l rest s out (covered-map (run items s .0) (hi [] k) (ofItems s)) (hr [] k)

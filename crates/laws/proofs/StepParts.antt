@@ -6,7 +6,7 @@ use mathlib.Core.List.{[], _∷_, _++_, append-assoc}
 use mathlib.Core.Bool.{Bool, true, false}
 use native.Mathlib.Omega.{arith}
 use lib.ListN.{replicate}
-use Rattle.meaning.specs.Errors.{ErrorAt, UnsupportedKeyType}
+use Rattle.meaning.specs.Errors.{UnsupportedKeyType}
 use Rattle.meaning.specs.Value.{Value, list, map, Values, nil, Entries, empty, keyOf}
 use Rattle.meaning.specs.Expr.{Expr, Elements, noElements, element, markedElement, Pairs, noPairs, pair, markedPair, countElements, countPairs}
 use Rattle.meaning.specs.Run.{step, Trace, Result, value, error, Raised, Eval, pure, charged, fromOperand, operand}
@@ -16,6 +16,7 @@ use Rattle.meaning.specs.Meaning.{run, runElements, runPairs}
 use Rattle.laws.specs.Begins.{GaveValue, listCells, mapCells, BeginsElement, firstElement, firstMarked, afterElement, afterMarked, GaveKey, BeginsEntry, firstKey, firstMarkedKey, itsValue, itsMarkedValue, afterEntry, afterMarkedEntry}
 use Rattle.laws.specs.Steps.{StepIn, ComparesKey, itsKey, itsMarkedKey, laterKey, laterMarkedKey, StepOf}
 use Rattle.laws.proofs.BegunParts.{into-charges}
+use Rattle.laws.proofs.NotBegun.{operand-value}
 use Rattle.laws.proofs.CoveredSteps.{Covered, Silent, nothing, silent-any, covered-map, covered-given, covered-after, covered-bind, covered-operand, covered-orFail}
 use Rattle.laws.proofs.OwnSteps.{insert-pairs}
 use Rattle.laws.proofs.StepOrigins.{Accounted}
@@ -33,11 +34,6 @@ kept-value : {A B : Type 0} (ready : A) (x : Result Raised B) (b : B) → keepin
 unfolding keeping
 kept-value ready (value c) b e = cc
 kept-value ready (error f) b e = absurd (let z : _≡_ {A = ℕ} 0 1 = cc in omega arith)
-
-operand-value : (x : Result ErrorAt Value) (v : Value) → fromOperand x ≡ value v → x ≡ value v
-unfolding fromOperand
-operand-value (value w) v e = cc
-operand-value (error f) v e = absurd (let z : _≡_ {A = ℕ} 0 1 = cc in omega arith)
 
 element-accounted : {P : Trace → Type 0} (marked : Bool) (r : Eval Value) (rest : Values → Making Values) (vs : Values) → Covered P (r .0) →
     (GaveValue r → (ws : Values) → Covered (λ f. P (r .0 ++ f)) (rest ws .0)) → Covered P (elementRule marked r rest vs .0)

@@ -9,7 +9,7 @@ use mathlib.Core.Option.{some}
 use lib.ListN.{length, getD, getElem?, length-append, take, take-append-drop}
 use lib.Seq.{slice, slice-cons, slice-empty, length-take-le, drop-append-le, take-take}
 use Rattle.meaning.specs.Kinds.{Field, byte, word, long}
-use Rattle.meaning.specs.Heads.{fieldBytes, bytesOf, littleEndian, numbersAt}
+use Rattle.meaning.specs.Heads.{fieldBytes, fieldsBytes, littleEndian, numbersAt}
 use Rattle.meaning.specs.WellFormed.{AllBytes}
 use Rattle.laws.specs.Written.{Number, little, spelled, Fit}
 
@@ -51,17 +51,17 @@ module _ (width : ℕ) where
       simp (length-append, length-little) (omega arith)
 
   -- The reader counts the same bytes for a field.
-  pub field-bytes : (table : List ℕ) (f : Field) → fieldBytes width table f ≡ sizeOf width f
+  pub field-bytes : (f : Field) → fieldBytes width f ≡ sizeOf width f
   unfolding fieldBytes
-  field-bytes table byte = refl
-  field-bytes table word = refl
-  field-bytes table long = refl
+  field-bytes byte = refl
+  field-bytes word = refl
+  field-bytes long = refl
 
   -- The reader counts the same bytes for fields.
-  pub bytes-of : (table : List ℕ) (fs : List Field) → bytesOf width table fs ≡ sizesOf width fs
-  unfolding bytesOf
-  bytes-of table [] = refl
-  bytes-of table (f ∷ fs) = let h = bytes-of table fs in let k = field-bytes table f in cc
+  pub bytes-of : (fs : List Field) → fieldsBytes width fs ≡ sizesOf width fs
+  unfolding fieldsBytes
+  bytes-of [] = refl
+  bytes-of (f ∷ fs) = let h = bytes-of fs in let k = field-bytes f in cc
 
 -- ---- what is written is read
 
@@ -146,13 +146,13 @@ module _ (width : ℕ) (table : List ℕ) (all : AllBytes table) where
   pub numbers-many : (fs : List Field) (i : ℕ) → length fs ≡ length (numbersAt width table fs i)
   unfolding numbersAt
   numbers-many [] i = refl
-  numbers-many (f ∷ fs) i = ap suc (numbers-many fs (i + fieldBytes width table f))
+  numbers-many (f ∷ fs) i = ap suc (numbers-many fs (i + fieldBytes width f))
 
   -- Numbers that are read fit into their fields.
   pub numbers-fit : (fs : List Field) (i : ℕ) → Fit (measured width fs (numbersAt width table fs i))
   unfolding numbersAt
   numbers-fit [] i = tt
-  numbers-fit (f ∷ fs) i = (rw field-bytes (read-below (sizeOf width f) i), numbers-fit fs (i + fieldBytes width table f))
+  numbers-fit (f ∷ fs) i = (rw field-bytes (read-below (sizeOf width f) i), numbers-fit fs (i + fieldBytes width f))
 
   -- Numbers that are read stand there as the bytes of their fields.
   pub read-numbers : (fs : List Field) (i : ℕ) → i + sizesOf width fs ≤ length table

@@ -92,7 +92,7 @@ add-pair k (bare e) ps f g h = (f, g, h)
 add-pair k (marked p e) ps f g h = (f, g, h)
 
 -- a reader of something with where it ends
-abbrev ReadsOnly : {A : Type 0} → (A → Type 0) → Reader A → Type 0
+abbrev pub ReadsOnly : {A : Type 0} → (A → Type 0) → Reader A → Type 0
 ReadsOnly P reader = (p end : ℕ) → Reads (λ x. P (x .0)) (reader p end)
 
 elements-formed : {partAt : Reader Part} → ReadsOnly FormedPart partAt → (n : ℕ) → ReadsOnly FormedElements (elementsFrom partAt n)
@@ -110,7 +110,7 @@ pairs-formed h k (suc n) p end =
     reads-bind (h p end)
     (λ e f. reads-bind (k (e .1) end) (λ x g. reads-bind (pairs-formed h k n (x .1) end) (λ ps l. reads-got _ (add-pair (e .0) (x .0) (ps .0) f g l))))
 
-filled-formed : {A : Type 0} (P : A → Type 0) (p : ℕ) (h : Head) (x : A) (q : ℕ) → P x → Reads (λ y. P (y .0)) (filled p h x q)
+pub filled-formed : {A : Type 0} (P : A → Type 0) (p : ℕ) (h : Head) (x : A) (q : ℕ) → P x → Reads (λ y. P (y .0)) (filled p h x q)
 unfolding filled
 filled-formed P p h x q f = reads-demand _ _ p (λ e. reads-got _ f)
 

@@ -12,7 +12,7 @@ use lib.Dec.{leb, eqb}
 use borrow.Author.Tests.{le-leb, leb-true, eq-eqb, eqb-true}
 use Rattle.meaning.specs.Errors.{Refusal}
 use Rattle.meaning.specs.Kinds.{byte, word, Kind, Row, kinds, isLeaf}
-use Rattle.meaning.specs.Heads.{Got, got, refused, _>>=_, _>>_, demand, orRefuse, Head, first, fieldBytes, bytesOf, littleEndian, numbersAt}
+use Rattle.meaning.specs.Heads.{Got, got, refused, _>>=_, _>>_, demand, orRefuse, Head, first, fieldBytes, fieldsBytes, littleEndian, numbersAt}
 use Rattle.meaning.specs.Heads.{rowAt, extentFits, headAt}
 use Rattle.meaning.specs.WellFormed.{AllBytes}
 use Rattle.laws.specs.Written.{little, spelled, Form, headBytes, Record}
@@ -88,10 +88,10 @@ module _ (width : ℕ) (table : List ℕ) where
         let further : p + (1 + (width + 0)) ≡ suc p + width = omega arith in
         rw (
           row-read p (kindByte k) (rowOf k) (there .0) (kind-there k),
-          bytes-of width table (byte ∷ word ∷ fieldsOf k),
-          bytes-of width table (byte ∷ word ∷ []),
-          field-bytes width table byte,
-          field-bytes width table word,
+          bytes-of width (byte ∷ word ∷ fieldsOf k),
+          bytes-of width (byte ∷ word ∷ []),
+          field-bytes width byte,
+          field-bytes width word,
           behind,
           further,
           extent,
@@ -158,14 +158,14 @@ module _ (width : ℕ) (table : List ℕ) where
   abbrev headFrom : ℕ → Row → Head
   headFrom p r = record {
     kind = r .kind;
-    numbers = numbersAt width table (r .fields) (p + bytesOf width table (byte ∷ word ∷ []));
-    operandsAt = p + bytesOf width table (byte ∷ word ∷ r .fields);
-    end = p + littleEndian width table (fieldBytes width table word) (p + fieldBytes width table byte);
+    numbers = numbersAt width table (r .fields) (p + fieldsBytes width (byte ∷ word ∷ []));
+    operandsAt = p + fieldsBytes width (byte ∷ word ∷ r .fields);
+    end = p + littleEndian width table (fieldBytes width word) (p + fieldBytes width byte);
   }
 
   abbrev fitsFrom : ℕ → Row → Bool
-  fitsFrom p r = extentFits width table r (headFrom p r .numbers) (bytesOf width table (byte ∷ word ∷ r .fields))
-      (littleEndian width table (fieldBytes width table word) (p + fieldBytes width table byte))
+  fitsFrom p r = extentFits width table r (headFrom p r .numbers) (fieldsBytes width (byte ∷ word ∷ r .fields))
+      (littleEndian width table (fieldBytes width word) (p + fieldBytes width byte))
 
   row-opened : (p end : ℕ) (r : Row) → getElem? table p ≡ some (kindByte (r .kind)) → r .fields ≡ fieldsOf (r .kind)
       → r .operands ≡ operandsOf (r .kind) → headFrom p r .end ≤ end
@@ -174,9 +174,9 @@ module _ (width : ℕ) (table : List ℕ) where
       let (least, leaf) = fits-means r (headFrom p r .numbers) _ _ fits in
       record {
         kindThere = there;
-        numbersThere = rw (bytes-of width table (byte ∷ word ∷ []), fields);
-        operandsThere = rw (bytes-of width table (byte ∷ word ∷ r .fields), fields);
-        extentThere = rw (field-bytes width table word, field-bytes width table byte);
+        numbersThere = rw (bytes-of width (byte ∷ word ∷ []), fields);
+        operandsThere = rw (bytes-of width (byte ∷ word ∷ r .fields), fields);
+        extentThere = rw (field-bytes width word, field-bytes width byte);
         operandsInside = omega arith;
         endInside = bound;
         leafEnds = λ t. ap (λ (n : ℕ). p + n) (leaf (rw operands t));

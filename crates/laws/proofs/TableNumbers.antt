@@ -16,7 +16,7 @@ use Rattle.laws.specs.Each.{Each, Reads}
 use Rattle.laws.proofs.Fine.{Perhaps}
 use Rattle.laws.proofs.Reading.{reads-got, reads-bind, reads-bind-any, reads-demand, reads-orRefuse}
 
-byte-at : (bs : List ℕ) (i : ℕ) → AllBytes bs → getD bs i 0 < byteNumbers
+pub byte-at : (bs : List ℕ) (i : ℕ) → AllBytes bs → getD bs i 0 < byteNumbers
 byte-at [] i h = omega arith
 byte-at (b ∷ bs) zero h = h .0
 byte-at (b ∷ bs) (suc i) h = byte-at bs i (h .1)
@@ -35,7 +35,7 @@ pub record NumbersFit (ns : List ℕ) : Type 0 where
   pub secondFits : second ns < spans
   pub thirdFits : third ns < spans
 
-getElem-each : {A : Type 0} (P : A → Type 0) (xs : List A) (i : ℕ) → Each P xs → Perhaps P (getElem? xs i)
+pub getElem-each : {A : Type 0} (P : A → Type 0) (xs : List A) (i : ℕ) → Each P xs → Perhaps P (getElem? xs i)
 getElem-each P [] i h = tt
 getElem-each P (x ∷ xs) zero h = h .0
 getElem-each P (x ∷ xs) (suc i) h = getElem-each P xs i (h .1)

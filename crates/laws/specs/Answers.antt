@@ -10,7 +10,7 @@ use Rattle.meaning.specs.Value.{Value}
 use Rattle.meaning.specs.Expr.{Expr}
 use Rattle.meaning.specs.Run.{Result}
 use Rattle.meaning.specs.Meaning.{run}
-use Rattle.meaning.specs.Limited.{Outcome, value, error, exhausted, Cell, zeroCell, holding, Rooms, built, cleared}
+use Rattle.meaning.specs.Limited.{Outcome, value, error, exhausted, Cell, zeroCell, holding, Rooms, roomsBuilt, cleared}
 use Rattle.meaning.specs.Heads.{got, refused}
 use Rattle.meaning.specs.Table.{readTable}
 use Rattle.meaning.specs.Bindings.{BindingRoom, scopeOf}
@@ -37,7 +37,7 @@ Answers table text room lent givesValue =
     (run e (scopeOf room) .1 ≡ Result.value v) ×
     Within (cut lent) (run e (scopeOf room) .0) ×
     (answerOf table text room lent ≡
-    record { answer = ran (value v (total (run e (scopeOf room) .0))); rooms = built (run e (scopeOf room) .0) })
+    record { answer = ran (value v (total (run e (scopeOf room) .0))); rooms = roomsBuilt (run e (scopeOf room) .0) })
 Answers table text room lent givesError =
     (e : Expr) × (v : ErrorAt) ×
     (readTable table text ≡ got e) ×

@@ -5,7 +5,7 @@ use Prim.Native.Nat.{ℕ, zero, suc, _<_, _≤_}
 use native.Mathlib.Omega.{arith}
 use lib.ListN.{getD}
 use Rattle.meaning.specs.Kinds.{kinds}
-use Rattle.meaning.specs.Heads.{bytesOf, fieldBytes}
+use Rattle.meaning.specs.Heads.{fieldsBytes, fieldBytes}
 use Rattle.layout.specs.Layout.{fieldsAt, rowOf, headBytes}
 
 -- ---- by every kind
@@ -46,7 +46,7 @@ abbrev heads : List ℕ
 heads = 3 ∷ 4 ∷ 11 ∷ 11 ∷ 11 ∷ 7 ∷ 7 ∷ 4 ∷ 4 ∷ 4 ∷ 3 ∷ 8 ∷ 5 ∷ 5 ∷ 3 ∷ 5 ∷ 4 ∷ []
 
 pub head-table : (k : ℕ) → k < 17 → (getD heads k 0 ≡ headBytes k) × (fieldsAt ≤ getD heads k 0) × (getD heads k 0 ≤ 16)
-unfolding headBytes rowOf kinds bytesOf fieldBytes
+unfolding headBytes rowOf kinds fieldsBytes fieldBytes
 head-table =
     every-kind (λ k. (getD heads k 0 ≡ headBytes k) × (fieldsAt ≤ getD heads k 0) × (getD heads k 0 ≤ 16)) (refl, omega arith, omega arith)
     (refl, omega arith, omega arith) (refl, omega arith, omega arith) (refl, omega arith, omega arith) (refl, omega arith, omega arith)
@@ -60,7 +60,7 @@ head-is n h e = ap headBytes e ∙ sym (head-table n h .0)
 -- a field of one byte, in the kinds that are not these
 pub one-byte : (k : ℕ) → k < 17 → (k ≡ 0 → ⊥) → (k ≡ 2 → ⊥) → (k ≡ 3 → ⊥) → (k ≡ 4 → ⊥) → (k ≡ 5 → ⊥) → (k ≡ 6 → ⊥) → (k ≡ 10 → ⊥) → (k ≡ 11 → ⊥) → (k ≡ 12 → ⊥) →
     (k ≡ 13 → ⊥) → (k ≡ 14 → ⊥) → (k ≡ 15 → ⊥) → 4 ≡ headBytes k
-unfolding headBytes rowOf kinds bytesOf fieldBytes
+unfolding headBytes rowOf kinds fieldsBytes fieldBytes
 one-byte =
     every-kind
     (λ k. (k ≡ 0 → ⊥) → (k ≡ 2 → ⊥) → (k ≡ 3 → ⊥) → (k ≡ 4 → ⊥) → (k ≡ 5 → ⊥) → (k ≡ 6 → ⊥) → (k ≡ 10 → ⊥) → (k ≡ 11 → ⊥) → (k ≡ 12 → ⊥) → (k ≡ 13 → ⊥) →

@@ -1,10 +1,10 @@
 -- Where things stand in a table, by the definition's kinds, fields and words, at the width that the definition names, `wordBytes`.
 use Prim.Native.Nat.{ℕ, _+_, _^_}
-use mathlib.Core.List.{List, [], _∷_}
+use mathlib.Core.List.{List, _∷_}
 use lib.ListN.{getD}
 use Rattle.meaning.specs.Limits.{byteNumbers}
 use Rattle.meaning.specs.Kinds.{byte, word, Row, markRow, kinds}
-use Rattle.meaning.specs.Heads.{bytesOf, littleEndian}
+use Rattle.meaning.specs.Heads.{fieldsBytes, littleEndian}
 use Rattle.meaning.specs.Table.{wordBytes}
 
 -- from a record's place to its first field: a kind and an extent
@@ -25,7 +25,7 @@ rowOf b = getD kinds b markRow
 
 -- from a record's place to its first operand
 unfoldable pub headBytes : ℕ → ℕ
-headBytes b = bytesOf wordBytes [] (byte ∷ word ∷ rowOf b .fields)
+headBytes b = fieldsBytes wordBytes (byte ∷ word ∷ rowOf b .fields)
 
 unfoldable pub wordAt : List ℕ → ℕ → ℕ
 wordAt t p = littleEndian wordBytes t wordBytes p

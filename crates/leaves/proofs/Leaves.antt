@@ -28,15 +28,10 @@ use Rattle.machine.specs.declared.outcome.Limit.the-variants as Limit
 use Rattle.machine.specs.declared.outcome.Outcome.{Outcome}
 use Rattle.machine.specs.declared.outcome.Outcome.the-variants as Outcome
 use Rattle.machine.specs.Outcomes.{Res, stepped, afterStep}
-use Rattle.machine.specs.Literals.{wordIn, nameOut}
+use Rattle.machine.specs.Literals.{nameOut}
 use Rattle.machine.specs.Machine.{body, machine}
 use Rattle.leaves.specs.Leaf.{leafKinds, slotIn, literalOf, leafOut, leafStep, unmarkedAt}
 use Rattle.leaves.proofs.KindLaws.{kindIn, kind-here, here-is}
-
--- a word of the table, by its two names
-pub same-word : (t : List ℕ) (p : ℕ) → wordIn t p ≡ wordAt t p
-unfolding wordIn wordAt
-same-word t p = refl
 
 -- ---- by the expression
 

@@ -14,7 +14,7 @@ use Rattle.rooms.specs.Rooms.{Rooms}
 use Rattle.rooms.specs.Reading.{reading}
 use Rattle.answers.specs.declared.Answer.{Answer}
 use Rattle.answers.specs.declared.Answer.the-variants as Answer
-use Rattle.answers.specs.Meant.{Told, refused, value, error, countsIn, told, toldBy, Says}
+use Rattle.answers.specs.Meant.{Told, refused, value, error, countsUsed, told, toldBy, Says}
 use Rattle.answers.specs.Meant as Told
 use Rattle.pieces.specs.Spelled.{ascii}
 use Rattle.written.specs.Written.{written}
@@ -37,7 +37,7 @@ value-told left m c (some v) h = ap (λ s. shortened longestValue s ++ counted c
 answer-told : (left : Rooms) (a : Answer) → Shows (told left a) (shownAnswer left a)
 unfolding shownAnswer
 answer-told left (Answer.Refused n place) = refl
-answer-told left (Answer.Value m u) = value-told left m (countsIn u) (reading left m) refl
+answer-told left (Answer.Value m u) = value-told left m (countsUsed u) (reading left m) refl
 answer-told left (Answer.Error e place u) = refl
 answer-told left (Answer.Exhausted x u) = refl
 

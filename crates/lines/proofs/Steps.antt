@@ -10,7 +10,7 @@ use Rattle.machine.specs.declared.outcome.Limit.{Limit}
 use Rattle.reasons.specs.Numbers.{errorMeant, limitMeant}
 use Rattle.answers.specs.declared.Answer.{Answer}
 use Rattle.answers.specs.declared.Answer.the-variants as Answer
-use Rattle.answers.specs.Meant.{countsIn}
+use Rattle.answers.specs.Meant.{countsUsed}
 use Rattle.pieces.specs.Page.{Page, puts}
 use Rattle.pieces.specs.Spelled.{ascii}
 use Rattle.pieces.proofs.Putting.{puts-two, puts-three}
@@ -26,16 +26,16 @@ module _ (m : Rooms) (x : Answer) (p q r : Page) where
   unfolding shownAnswer
   answer-refused n place h e f = by-answer (Answer.Refused n place) h (puts-two (ascii "Refused ") (placed n place) p q r e f)
 
-  pub answer-value : (v : Value) (u : Used) → x ≡ Answer.Value v u → q ≡ puts (shortened longestValue (shownIn m v)) p → r ≡ puts (counted (countsIn u)) q → r ≡ puts (shownAnswer m x) p
+  pub answer-value : (v : Value) (u : Used) → x ≡ Answer.Value v u → q ≡ puts (shortened longestValue (shownIn m v)) p → r ≡ puts (counted (countsUsed u)) q → r ≡ puts (shownAnswer m x) p
   unfolding shownAnswer
-  answer-value v u h e f = by-answer (Answer.Value v u) h (puts-two (shortened longestValue (shownIn m v)) (counted (countsIn u)) p q r e f)
+  answer-value v u h e f = by-answer (Answer.Value v u) h (puts-two (shortened longestValue (shownIn m v)) (counted (countsUsed u)) p q r e f)
 
-  pub answer-error : (o : Error) (n place : ℕ) (u : Used) (l : Page) → x ≡ Answer.Error o place u → q ≡ puts (ascii "Error ") p → n ≡ errorNumber (errorMeant o) → l ≡ puts (placed n place) q → r ≡ puts (counted (countsIn u)) l → r ≡ puts (shownAnswer m x) p
+  pub answer-error : (o : Error) (n place : ℕ) (u : Used) (l : Page) → x ≡ Answer.Error o place u → q ≡ puts (ascii "Error ") p → n ≡ errorNumber (errorMeant o) → l ≡ puts (placed n place) q → r ≡ puts (counted (countsUsed u)) l → r ≡ puts (shownAnswer m x) p
   unfolding shownAnswer
   answer-error o n place u l h e c f g =
       by-answer (Answer.Error o place u) h
-      (puts-three (ascii "Error ") (placed (errorNumber (errorMeant o)) place) (counted (countsIn u)) p q l r e (f ∙ ap (λ k. puts (placed k place) q) c) g)
+      (puts-three (ascii "Error ") (placed (errorNumber (errorMeant o)) place) (counted (countsUsed u)) p q l r e (f ∙ ap (λ k. puts (placed k place) q) c) g)
 
-  pub answer-exhausted : (o : Limit) (u : Used) → x ≡ Answer.Exhausted o u → q ≡ puts (exhausted (limitMeant o)) p → r ≡ puts (counted (countsIn u)) q → r ≡ puts (shownAnswer m x) p
+  pub answer-exhausted : (o : Limit) (u : Used) → x ≡ Answer.Exhausted o u → q ≡ puts (exhausted (limitMeant o)) p → r ≡ puts (counted (countsUsed u)) q → r ≡ puts (shownAnswer m x) p
   unfolding shownAnswer
-  answer-exhausted o u h e f = by-answer (Answer.Exhausted o u) h (puts-two (exhausted (limitMeant o)) (counted (countsIn u)) p q r e f)
+  answer-exhausted o u h e f = by-answer (Answer.Exhausted o u) h (puts-two (exhausted (limitMeant o)) (counted (countsUsed u)) p q r e f)

@@ -6,13 +6,13 @@ use Rattle.rooms.specs.Rooms.{Rooms}
 use Rattle.reasons.specs.Numbers.{errorMeant, limitMeant}
 use Rattle.answers.specs.declared.Answer.{Answer}
 use Rattle.answers.specs.declared.Answer.the-variants as Answer
-use Rattle.answers.specs.Meant.{countsIn}
+use Rattle.answers.specs.Meant.{countsUsed}
 use Rattle.pieces.specs.Spelled.{ascii}
 use Rattle.written.specs.Shown.{shownIn}
 use Rattle.phrases.specs.Written.{longestValue, shortened, placed, counted, exhausted}
 
 unfoldable pub shownAnswer : Rooms → Answer → List ℕ
 shownAnswer r (Answer.Refused number place) = ascii "Refused " ++ placed number place
-shownAnswer r (Answer.Value v u) = shortened longestValue (shownIn r v) ++ counted (countsIn u)
-shownAnswer r (Answer.Error e place u) = ascii "Error " ++ placed (errorNumber (errorMeant e)) place ++ counted (countsIn u)
-shownAnswer r (Answer.Exhausted x u) = exhausted (limitMeant x) ++ counted (countsIn u)
+shownAnswer r (Answer.Value v u) = shortened longestValue (shownIn r v) ++ counted (countsUsed u)
+shownAnswer r (Answer.Error e place u) = ascii "Error " ++ placed (errorNumber (errorMeant e)) place ++ counted (countsUsed u)
+shownAnswer r (Answer.Exhausted x u) = exhausted (limitMeant x) ++ counted (countsUsed u)

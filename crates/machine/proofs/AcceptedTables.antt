@@ -2,49 +2,44 @@
 -- From the heads up, a line for each kind of record. Rests on the laws of reading. Assumes nothing.
 use Prim.Native.Nat.{ℕ, zero, suc, _+_, _^_, _≤_, _<_}
 use mathlib.Core.Path.{_≡_, refl, sym, ap, subst}
-use mathlib.Core.List.{List, [], _∷_}
+use mathlib.Core.List.{List}
 use mathlib.Core.Option.{Option, none, some}
 use mathlib.Core.Bool.{Bool, true, false, cond}
 use native.Mathlib.Omega.{arith}
-use lib.ListN.{length, take, drop, getD, getElem?, length-take, length-drop}
+use lib.ListN.{length, take, drop, getElem?, length-take, length-drop}
 use lib.Dec.{leb}
 use borrow.Author.Tests.{leb-true}
 use mir.Syntax.{w64}
 use mir.ValLaws.{toZ-fits}
 use Rattle.text.specs.Utf8.{wellFormed}
-use Rattle.meaning.specs.Limits.{byteNumbers, deepestRecord}
+use Rattle.meaning.specs.Limits.{deepestRecord}
 use Rattle.meaning.specs.Errors.{WrongField, WrongExtent, UnknownKind}
 use Rattle.meaning.specs.Expr.{Expr, Elements, Pairs}
 use Rattle.meaning.specs.Kinds.{ExprKind, nullKind, boolKind, intKind, uintKind, doubleKind, stringKind, bytesKind, nameKind, unaryKind, binaryKind, conditionalKind, selectKind, listKind, mapKind, comprehensionKind, functionKind, Kind, mark, expr, Called, toOne, toNone, toTwo, Row, kinds}
-use Rattle.meaning.specs.Heads.{Got, got, refused, orRefuse, Head, first, second, third, fieldBytes, bytesOf, littleEndian, numbersAt, rowAt, headAt}
+use Rattle.meaning.specs.Heads.{Got, got, refused, orRefuse, Head, first, second, third, fieldBytes, fieldsBytes, littleEndian, numbersAt, rowAt, headAt}
 use Rattle.meaning.specs.Table.{Part, bare, marked, addElement, addPair, Reader, elementsFrom, pairsFrom, span, utf8, filled, calledAt, bodyAt, asExpr, asPart, exprAt, partAt, rootAt, wordBytes, readTable}
 use Rattle.meaning.specs.WellFormed.{AllBytes}
 use Rattle.laws.specs.Each.{Each, Only, Reads}
 use Rattle.laws.proofs.Fine.{Perhaps}
 use Rattle.laws.proofs.Reading.{reads-got, reads-refused, reads-bind, reads-bind-any, reads-then, reads-demand, reads-orRefuse, was-read}
-use Rattle.laws.proofs.TableNumbers.{NumbersFit, head-fits}
-use Rattle.laws.proofs.TableFormed.{reads-name}
-use Rattle.machine.specs.Literals.{wordIn}
+use Rattle.laws.proofs.TableNumbers.{byte-at, getElem-each, NumbersFit, head-fits}
+use Rattle.laws.proofs.TableFormed.{ReadsOnly, filled-formed, reads-name}
+use Rattle.layout.specs.Layout.{wordAt}
 use Rattle.machine.specs.Accepted.{Spells, Accepted, AcceptedElements, AcceptedPairs}
 
 -- ---- words of a table
 
-byte-below : (bs : List ℕ) (i : ℕ) → AllBytes bs → getD bs i 0 < byteNumbers
-byte-below [] i h = omega arith
-byte-below (b ∷ bs) zero h = h .0
-byte-below (b ∷ bs) (suc i) h = byte-below bs i (h .1)
-
-pub word-below : (table : List ℕ) → AllBytes table → (p : ℕ) → wordIn table p < 2 ^ 16
-unfolding wordIn littleEndian
-word-below table h p = omega (arith, byte-below table p h, byte-below table (suc p) h)
+pub word-below : (table : List ℕ) → AllBytes table → (p : ℕ) → wordAt table p < 2 ^ 16
+unfolding wordAt littleEndian
+word-below table h p = omega (arith, byte-at table p h, byte-at table (suc p) h)
 
 -- ---- heads: the numbers of a record are the table's words, at the places that the machine reads
 
 module _ (table : List ℕ) where
   abbrev Told : ℕ → List ℕ → ExprKind → Type 0
-  Told p ns stringKind = (first ns ≡ wordIn table (p + 3)) × (second ns ≡ wordIn table (p + 5))
-  Told p ns bytesKind = (first ns ≡ wordIn table (p + 3)) × (second ns ≡ wordIn table (p + 5))
-  Told p ns selectKind = (second ns ≡ wordIn table (p + 4)) × (third ns ≡ wordIn table (p + 6))
+  Told p ns stringKind = (first ns ≡ wordAt table (p + 3)) × (second ns ≡ wordAt table (p + 5))
+  Told p ns bytesKind = (first ns ≡ wordAt table (p + 3)) × (second ns ≡ wordAt table (p + 5))
+  Told p ns selectKind = (second ns ≡ wordAt table (p + 4)) × (third ns ≡ wordAt table (p + 6))
   Told p ns nullKind = Unit {0}
   Told p ns boolKind = Unit {0}
   Told p ns intKind = Unit {0}
@@ -66,33 +61,28 @@ module _ (table : List ℕ) where
   RowTells : ℕ → Row → Type 0
   RowTells p r = ToldKind p (r .kind) (numbersAt wordBytes table (r .fields) (p + 3))
 
-  words-tell : (p : ℕ) → (wordIn table (p + 3) ≡ wordIn table (p + 3)) × (wordIn table (p + 3 + 2) ≡ wordIn table (p + 5))
-  words-tell p = (refl, ap (λ i. wordIn table i) (omega arith))
+  words-tell : (p : ℕ) → (wordAt table (p + 3) ≡ wordAt table (p + 3)) × (wordAt table (p + 3 + 2) ≡ wordAt table (p + 5))
+  words-tell p = (refl, ap (λ i. wordAt table i) (omega arith))
 
-  three-tell : (p : ℕ) → (wordIn table (p + 3 + 1) ≡ wordIn table (p + 4)) × (wordIn table (p + 3 + 1 + 2) ≡ wordIn table (p + 6))
-  three-tell p = (ap (λ i. wordIn table i) (omega arith), ap (λ i. wordIn table i) (omega arith))
+  three-tell : (p : ℕ) → (wordAt table (p + 3 + 1) ≡ wordAt table (p + 4)) × (wordAt table (p + 3 + 1 + 2) ≡ wordAt table (p + 6))
+  three-tell p = (ap (λ i. wordAt table i) (omega arith), ap (λ i. wordAt table i) (omega arith))
 
   later-rows-tell : (p : ℕ) → Each (RowTells p) (drop 8 kinds)
-  unfolding kinds RowTells numbersAt fieldBytes wordIn
+  unfolding kinds RowTells numbersAt fieldBytes wordAt
   later-rows-tell p = (tt, (tt, (tt, (three-tell p, (tt, (tt, (tt, (tt, (tt, tt)))))))))
 
   rows-tell : (p : ℕ) → Each (RowTells p) kinds
-  unfolding kinds RowTells numbersAt fieldBytes wordIn
+  unfolding kinds RowTells numbersAt fieldBytes wordAt
   rows-tell p = (tt, (tt, (tt, (tt, (tt, (words-tell p, (words-tell p, (tt, later-rows-tell p))))))))
-
-  nth-each : {A : Type 0} (P : A → Type 0) (xs : List A) (i : ℕ) → Each P xs → Perhaps P (getElem? xs i)
-  nth-each P [] i h = tt
-  nth-each P (x ∷ xs) zero h = h .0
-  nth-each P (x ∷ xs) (suc i) h = nth-each P xs i (h .1)
 
   row-tells : (p : ℕ) → Reads (RowTells p) (rowAt wordBytes table p)
   unfolding rowAt
   row-tells p =
       reads-bind-any (orRefuse WrongExtent p (getElem? table p))
-      (λ b. reads-orRefuse UnknownKind p (getElem? kinds b) (nth-each (RowTells p) kinds b (rows-tell p)))
+      (λ b. reads-orRefuse UnknownKind p (getElem? kinds b) (getElem-each (RowTells p) kinds b (rows-tell p)))
 
   head-tells : (p end : ℕ) → Reads (λ h. ToldKind p (h .kind) (h .numbers)) (headAt wordBytes table p end)
-  unfolding headAt RowTells bytesOf fieldBytes
+  unfolding headAt RowTells fieldsBytes fieldBytes
   head-tells p end = reads-bind (row-tells p) (λ r h. reads-demand _ WrongExtent p (λ e. reads-got _ h))
 
 -- ---- spans
@@ -119,22 +109,22 @@ module _ (table text : List ℕ) where
       go false = tt
 
   abbrev SpelledAt : ℕ → ℕ → List ℕ → Type 0
-  SpelledAt a b s = Spells table text s (wordIn table a) (wordIn table b)
+  SpelledAt a b s = Spells table text s (wordAt table a) (wordAt table b)
 
   module _ (tableBytes : AllBytes table) where
-    spelled : (a b offset n : ℕ) → offset ≡ wordIn table a → n ≡ wordIn table b → Perhaps (SpelledAt a b) (span text offset n)
+    spelled : (a b offset n : ℕ) → offset ≡ wordAt table a → n ≡ wordAt table b → Perhaps (SpelledAt a b) (span text offset n)
     spelled a b offset n e f =
         subst (λ x. Perhaps (SpelledAt a b) (span text x n)) (sym e)
-        (subst (λ y. Perhaps (SpelledAt a b) (span text (wordIn table a) y)) (sym f)
-        (span-spells (wordIn table a) (wordIn table b) (word-below table tableBytes a) (word-below table tableBytes b)))
+        (subst (λ y. Perhaps (SpelledAt a b) (span text (wordAt table a) y)) (sym f)
+        (span-spells (wordAt table a) (wordAt table b) (word-below table tableBytes a) (word-below table tableBytes b)))
 
-    reads-span : (p a b offset n : ℕ) → offset ≡ wordIn table a → n ≡ wordIn table b → Reads (SpelledAt a b) (orRefuse WrongField p (span text offset n))
+    reads-span : (p a b offset n : ℕ) → offset ≡ wordAt table a → n ≡ wordAt table b → Reads (SpelledAt a b) (orRefuse WrongField p (span text offset n))
     reads-span p a b offset n e f = reads-orRefuse WrongField p (span text offset n) (spelled a b offset n e f)
 
-    reads-utf8 : (p a b offset n : ℕ) → offset ≡ wordIn table a → n ≡ wordIn table b
+    reads-utf8 : (p a b offset n : ℕ) → offset ≡ wordAt table a → n ≡ wordAt table b
         → Reads (SpelledAt a b) (orRefuse WrongField p (utf8 (span text offset n)))
     reads-utf8 p a b offset n e f =
-        reads-orRefuse WrongField p (utf8 (span text offset n)) (utf8-spells (wordIn table a) (wordIn table b) (span text offset n) (spelled a b offset n e f))
+        reads-orRefuse WrongField p (utf8 (span text offset n)) (utf8-spells (wordAt table a) (wordAt table b) (span text offset n) (spelled a b offset n e f))
 
 -- ---- operands
 
@@ -154,10 +144,6 @@ module _ (table text : List ℕ) where
   add-pair k (bare e) ps f g h = (f, g, h)
   add-pair k (marked p e) ps f g h = (f, g, h)
 
-  -- a reader of something with where it ends
-  abbrev ReadsOnly : {A : Type 0} → (A → Type 0) → Reader A → Type 0
-  ReadsOnly P reader = (p end : ℕ) → Reads (λ x. P (x .0)) (reader p end)
-
   elements-accepted : {partAt : Reader Part} → ReadsOnly AcceptedPart partAt → (n : ℕ)
       → ReadsOnly (λ es. AcceptedElements table text es) (elementsFrom partAt n)
   unfolding elementsFrom
@@ -175,16 +161,12 @@ module _ (table text : List ℕ) where
       (λ e f. reads-bind (k (e .1) end)
       (λ x g. reads-bind (pairs-accepted h k n (x .1) end) (λ ps l. reads-got _ (add-pair (e .0) (x .0) (ps .0) f g l))))
 
-  filled-accepted : {A : Type 0} (P : A → Type 0) (p : ℕ) (h : Head) (x : A) (q : ℕ) → P x → Reads (λ y. P (y .0)) (filled p h x q)
-  unfolding filled
-  filled-accepted P p h x q f = reads-demand _ _ p (λ e. reads-got _ f)
-
   -- ---- records
 
   module _ (tableBytes : AllBytes table) (exprAt : Reader Expr) (partAt : Reader Part)
       (exprs : ReadsOnly (λ e. Accepted table text e) exprAt) (parts : ReadsOnly AcceptedPart partAt) (p : ℕ) (h : Head) where
     filled-expr : (x : Expr) (q : ℕ) → Accepted table text x → Reads (λ y. Accepted table text (y .0)) (filled p h x q)
-    filled-expr x q f = filled-accepted (λ e. Accepted table text e) p h x q f
+    filled-expr x q f = filled-formed (λ e. Accepted table text e) p h x q f
 
     called-accepted : (c : Called) → Reads (λ x. Accepted table text (x .0)) (calledAt text exprAt partAt p h c)
     unfolding calledAt
@@ -230,7 +212,7 @@ module _ (table text : List ℕ) where
 
     asPart-accepted : (k : Kind) → NumbersFit (h .numbers) → ToldKind table p k (h .numbers) → Reads (λ x. AcceptedPart (x .0)) (asPart text exprAt partAt p h k)
     unfolding asPart
-    asPart-accepted mark n t = reads-bind (exprs _ _) (λ x f. filled-accepted AcceptedPart p h _ (x .1) f)
+    asPart-accepted mark n t = reads-bind (exprs _ _) (λ x f. filled-formed AcceptedPart p h _ (x .1) f)
     asPart-accepted (expr k) n t = reads-bind (body-accepted k (h .numbers) n t) (λ x f. reads-got _ f)
 
   -- ---- the table

@@ -4,8 +4,7 @@ use Prim.Native.Nat.{ℕ, zero, suc, _+_, _*_, _/_, _≤_, _<_, min}
 use mathlib.Core.Path.{_≡_, refl, sym, ap, _∙_, subst}
 use mathlib.Core.List.{List, [], _∷_, map}
 use native.Mathlib.Omega.{arith}
-use lib.ListN.{length, getD, set, take, drop, replicate}
-use lib.Seq.{drop-set-lt}
+use lib.ListN.{length, getD, take, drop, replicate}
 use Rattle.meaning.specs.Limits.{Counts, nothingYet, cut}
 use Rattle.meaning.specs.Errors.{ErrorAt, Exhausted}
 use Rattle.meaning.specs.Value as Meaning
@@ -14,7 +13,7 @@ use Rattle.meaning.specs.Expr.{Expr}
 use Rattle.meaning.specs.Run.{Trace}
 use Rattle.meaning.specs.Comprehension as Comprehension
 use Rattle.meaning.specs.Limited as Limited
-use Rattle.meaning.specs.Limited.{zeroCell, holding, limited, cellsBuilt, textBuilt, built, cleared, roomsAfter}
+use Rattle.meaning.specs.Limited.{zeroCell, holding, limited, cellsBuilt, textBuilt, roomsBuilt, cleared, roomsAfter}
 use Rattle.meaning.specs.Meaning.{run}
 use Rattle.meaning.specs.Heads.{got}
 use Rattle.meaning.specs.Table.{readTable}
@@ -25,16 +24,18 @@ use Rattle.rooms.specs.declared.scope.Scope.{Scope}
 use Rattle.rooms.specs.Rooms.{Rooms, cellAt}
 use Rattle.rooms.specs.Stands.{Alive, StandsCells, Stands}
 use Rattle.rooms.specs.Scope.{StandsScope}
-use Rattle.building.specs.Building.{zeroed, cellsCleared, bytesCleared}
+use Rattle.building.specs.Building.{cellsCleared, bytesCleared}
 use Rattle.rooms.proofs.ReadBack.{reads}
 use Rattle.built.proofs.Zeroed.{zeroed-length, cleared-words, cleared-bytes}
 use Rattle.machine.specs.declared.outcome.Outcome.{Outcome}
 use Rattle.machine.specs.declared.outcome.Outcome.the-variants as Outcome
 use Rattle.machine.specs.Machine.{machine}
-use Rattle.machine.specs.Refines.{usedOf, errorOf, limitOf, countsOf, FitCells, Live, Below, Roomy, Keeps, Logged, Good, Matches, Start}
+use Rattle.laws.specs.Charges.{countsOf}
+use Rattle.machine.specs.Refines.{usedOf, errorOf, limitOf, FitCells, Live, Below, Roomy, Keeps, Logged, Good, Matches, Start}
 use Rattle.machine.specs.Accepted.{Accepted}
 use Rattle.machine.specs.Answer.{emptied, left, answered, CellsHave, Answers}
 use Rattle.machine.proofs.Keeping.{keeps-roomy}
+use Rattle.machine.proofs.Taking.{zeroed-drop}
 use Rattle.machine.proofs.Refine.{refines}
 use Rattle.machine.proofs.AcceptedTables.{read-accepted}
 
@@ -47,11 +48,6 @@ zeros (suc n) (b ∷ t) l h = front (h 0 (omega arith)) ∙ ap (λ x. 0 ∷ x) (
   where
     front : b ≡ 0 → _≡_ {A = List ℕ} (b ∷ take n t) (0 ∷ take n t)
     front e = ap (λ x. x ∷ take n t) e
-
-zeroed-drop : (w : List ℕ) (a m n : ℕ) → a + m ≤ n → drop n (zeroed w a m) ≡ drop n w
-unfolding zeroed
-zeroed-drop w a zero n h = refl
-zeroed-drop w a (suc m) n h = zeroed-drop (set w a 0) (suc a) m n (omega arith) ∙ drop-set-lt n w a 0 (omega arith)
 
 -- ---- cells
 
@@ -79,7 +75,7 @@ module _ (L : Alive) (r q : Rooms) (t : Trace) (c : Counts) (k : Keeps nothingYe
   -- a value: the rooms hold what was built
   with-value : (v : Meaning.Value) (m : Value) → Stands v (Live L nothingYet c) q m → Logged t L nothingYet c q
       → Answers r q (Outcome.Value m (usedOf c)) t (Limited.value v c)
-  unfolding roomsAfter built
+  unfolding roomsAfter roomsBuilt
   with-value v m h g =
       record {
         answer = (m, refl, reads (Live L nothingYet c) q v m h);

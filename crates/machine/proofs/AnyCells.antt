@@ -19,7 +19,7 @@ use Rattle.machine.specs.Refines.{FitCells}
 use Rattle.machine.proofs.Words.{bits-fit}
 
 -- either way
-either : {A : Type 0} (P : A → Type 0) (b : Bool) {x y : A} → (b ≡ true → P x) → (b ≡ false → P y) → P (cond b x y)
+pub either : {A : Type 0} (P : A → Type 0) (b : Bool) {x y : A} → (b ≡ true → P x) → (b ≡ false → P y) → P (cond b x y)
 either P true h k = h refl
 either P false h k = k refl
 

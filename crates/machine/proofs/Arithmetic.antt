@@ -18,7 +18,7 @@ use Rattle.numbers.specs.Int.{inRange}
 use Rattle.numbers.specs.Int as Int
 use Rattle.numbers.specs.Double as Doubles
 use Rattle.numbers.specs.Double.{bitsOf, doubleOf}
-use Rattle.numbers.proofs.IntLaws.{in-range}
+use Rattle.numbers.proofs.IntLaws.{in-range, range-small}
 use Rattle.meaning.specs.Limits.{Counts, deepestValue}
 use Rattle.meaning.specs.Errors.{NoOverload, Arithmetic}
 use Rattle.meaning.specs.Value as Meaning
@@ -27,7 +27,9 @@ use Rattle.meaning.specs.Expr.{Arith, add, sub, div, mul, rem}
 use Rattle.meaning.specs.Run.{Rule, pure, charged, after, onValue, _>>=_, fail, orFail, built}
 use Rattle.meaning.specs.Numbers.{intIn, uintIn, doubleIn, bytesIn, intArith, intRule, uintArith, uintRule, doubleArith, onlyAdd, builtText, scalarArith, arithRule, scalarNegate, negateRule}
 use Rattle.meaning.specs.Comprehension as Comprehension
-use Rattle.laws.proofs.SoundNumbers.{IntInRange, int-in-range, negated-in-range, UintInRange, uint-in-range, double-in-range, negated-double-in-range}
+use Rattle.numbers.proofs.DoubleLaws.{add-is, sub-is, mul-is, div-is, neg-is}
+use Rattle.numbers.proofs.RangeLaws.{IntInRange, UintInRange, int-neg}
+use Rattle.laws.proofs.SoundNumbers.{int-in-range, uint-in-range, double-in-range, negated-double-in-range}
 use Rattle.rooms.specs.declared.value.Value.{Value}
 use Rattle.rooms.specs.declared.value.Value.the-variants as Value
 use Rattle.rooms.specs.declared.value.TextSpace.{TextSpace}
@@ -44,7 +46,7 @@ use Rattle.machine.specs.Numbers as Machine
 use Rattle.machine.specs.Numbers.{intOut, uintOut, doubleOut, doublesOut, numberArith, negatePlain, textSum, stringSum, bytesSum, bothLists, listSum, plainArith, arithmetic}
 use Rattle.machine.specs.Refines.{usedOf, Start}
 use Rattle.machine.proofs.Match.{Says, value-now, error-now}
-use Rattle.machine.proofs.Numbers.{small, held-int, held-uint, held-double, twice, never, doublePlain, stringPlain, bytesPlain, plain-double, int-view, uint-view, DoubleView, double-view, TextView, string-text, bytes-text, ListView, list-view, intOr, number-int, uintOr, number-uint, doubleOr, number-double, textOr, string-sum, bytes-sum}
+use Rattle.machine.proofs.Numbers.{held-int, held-uint, held-double, twice, never, doublePlain, stringPlain, bytesPlain, plain-double, int-view, uint-view, DoubleView, double-view, TextView, string-text, bytes-text, ListView, list-view, intOr, number-int, uintOr, number-uint, doubleOr, number-double, textOr, string-sum, bytes-sum}
 use Rattle.machine.proofs.Building.{Spelling, lists-say, texts-say, string-spelling, bytes-spelling}
 use Rattle.rooms.proofs.Depths.{stands-nesting}
 
@@ -62,7 +64,7 @@ module _ (l : Counts) (src : List ℕ) {L : Alive} {u : Counts} {r : Rooms} {s :
 
   int-answer : (x : IntAnswer) → IntInRange x → Says l src p L u r (intOut p (usedOf u) x, r) (intRule x)
   unfolding intRule
-  int-answer (IntAnswer.Value z) h = value-now l src st p (Value.Int z) (scalar (int z)) (held-int L r z (small z h))
+  int-answer (IntAnswer.Value z) h = value-now l src st p (Value.Int z) (scalar (int z)) (held-int L r z (range-small z h))
   int-answer (IntAnswer.Error e) h = error-now l src st p (Arithmetic e)
 
   uint-answer : (x : UintAnswer) → UintInRange x → Says l src p L u r (uintOut p (usedOf u) x, r) (uintRule x)
@@ -74,11 +76,11 @@ module _ (l : Counts) (src : List ℕ) {L : Alive} {u : Counts} {r : Rooms} {s :
   double-answer d h = value-now l src st p (doubleValue (doubleOf d)) (scalar (double d)) (held-double L r d h)
 
   doubles-answer : (o : Arith) (x y : Double) → Says l src p L u r (doublesOut p (usedOf u) o x y, r) (_>>=_ (orFail NoOverload (doubleArith o (bitsOf x) (bitsOf y))) (λ d. pure (scalar (double d))))
-  unfolding _>>=_ after onValue charged orFail fail doubleArith Doubles.addOf Doubles.subOf Doubles.mulOf Doubles.divOf pure
-  doubles-answer add x y = double-answer _ (double-in-range add (bitsOf x) (bitsOf y))
-  doubles-answer sub x y = double-answer _ (double-in-range sub (bitsOf x) (bitsOf y))
-  doubles-answer div x y = double-answer _ (double-in-range div (bitsOf x) (bitsOf y))
-  doubles-answer mul x y = double-answer _ (double-in-range mul (bitsOf x) (bitsOf y))
+  unfolding _>>=_ after onValue charged orFail fail doubleArith pure
+  doubles-answer add x y = rw (add-is x y) (double-answer _ (double-in-range add (bitsOf x) (bitsOf y)))
+  doubles-answer sub x y = rw (sub-is x y) (double-answer _ (double-in-range sub (bitsOf x) (bitsOf y)))
+  doubles-answer div x y = rw (div-is x y) (double-answer _ (double-in-range div (bitsOf x) (bitsOf y)))
+  doubles-answer mul x y = rw (mul-is x y) (double-answer _ (double-in-range mul (bitsOf x) (bitsOf y)))
   doubles-answer rem x y = error-now l src st p NoOverload
 
   -- ---- a number on the left
@@ -189,15 +191,16 @@ module _ (l : Counts) (src : List ℕ) {L : Alive} {u : Counts} {r : Rooms} {s :
   Negates m v = Says l src p L u r (negatePlain p (usedOf u) (plainOf m), r) (negateRule v)
 
   pub negate-says : (v : Meaning.Value) (m : Value) → Holds v L r m → Negates m v
-  unfolding negateRule scalarNegate scalarOf _>>=_ after onValue charged orFail fail pure Stands StandsScalar Doubles.negOf
+  unfolding negateRule scalarNegate scalarOf _>>=_ after onValue charged orFail fail pure Stands StandsScalar
   negate-says (scalar null) m h = subst (λ x. Negates x (scalar null)) (sym (h .stands)) (error-now l src st p NoOverload)
   negate-says (scalar (bool b)) m h = subst (λ x. Negates x (scalar (bool b))) (sym (h .stands)) (error-now l src st p NoOverload)
-  negate-says (scalar (int z)) m h = subst (λ x. Negates x (scalar (int z))) (sym (h .stands)) (int-answer (Int.negOf z) (negated-in-range z))
+  negate-says (scalar (int z)) m h = subst (λ x. Negates x (scalar (int z))) (sym (h .stands)) (int-answer (Int.negOf z) (int-neg z))
   negate-says (scalar (uint n)) m h = subst (λ x. Negates x (scalar (uint n))) (sym (h .stands)) (error-now l src st p NoOverload)
   negate-says (scalar (double d)) m h =
       subst (λ x. Negates x (scalar (double d))) (sym (h .stands .1))
       (subst (λ z. Says l src p L u r (negatePlain p (usedOf u) z, r) (negateRule (scalar (double d)))) (sym (plain-double (h .stands .0)))
-      (subst (λ b. Says l src p L u r (doubleOut (usedOf u) (doubleOf (Doubles.negBits (bitsOf (h .stands .0)))), r) (pure (scalar (double (Doubles.negBits b))))) (h .stands .2) (double-answer (Doubles.negBits (bitsOf (h .stands .0))) (negated-double-in-range (bitsOf (h .stands .0))))))
+      (subst (λ b. Says l src p L u r (doubleOut (usedOf u) (Doubles.negOf (h .stands .0)), r) (pure (scalar (double (Doubles.negBits b))))) (h .stands .2)
+      (rw (neg-is (h .stands .0)) (double-answer (Doubles.negBits (bitsOf (h .stands .0))) (negated-double-in-range (bitsOf (h .stands .0)))))))
   negate-says (scalar (string x)) m h = subst (λ y. Negates y (scalar (string x))) (sym (h .stands .2)) (error-now l src st p NoOverload)
   negate-says (scalar (bytes x)) m h = subst (λ y. Negates y (scalar (bytes x))) (sym (h .stands .2)) (error-now l src st p NoOverload)
   negate-says (list vs) m h = subst (λ x. Negates x (list vs)) (sym (h .stands .2)) (error-now l src st p NoOverload)

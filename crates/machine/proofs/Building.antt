@@ -26,6 +26,7 @@ use Rattle.rooms.specs.Value.{nestingOf}
 use Rattle.rooms.specs.Cells.{settled, Fits}
 use Rattle.rooms.specs.Rooms.{Rooms, cellAt, part}
 use Rattle.rooms.specs.Stands.{Alive, TextAt, StandsScalar, Stands, StandsCells, Agrees, Holds}
+use Rattle.laws.proofs.Fine.{join-count}
 use Rattle.rooms.proofs.Frame.{frame, frame-cells}
 use Rattle.built.proofs.Built.{settled-stands}
 use Rattle.machine.specs.declared.outcome.Outcome.the-variants as Outcome
@@ -36,7 +37,7 @@ use Rattle.machine.proofs.Words.{store-same, store-keeps}
 use Rattle.machine.proofs.Keeping.{agrees-narrow, keeps-both, keeps-then, keeps-agrees, roomy-same, agrees-sub, live-below, live-sub}
 use Rattle.machine.proofs.Taking.{took, upto-took, taken, taken-keeps, copiedTo, copy-keeps, copy-stands}
 use Rattle.machine.proofs.Texts.{both-keep, both-spell}
-use Rattle.machine.proofs.Traces.{count-join, nesting-join, stands-join}
+use Rattle.machine.proofs.Traces.{nesting-join, stands-join}
 use Rattle.machine.proofs.Match.{Says}
 use Rattle.machine.proofs.Charges.{wrote, takes, writes, wholes}
 use Rattle.rooms.proofs.Depths.{stands-nesting}
@@ -187,8 +188,8 @@ module _ (l : Counts) (src : List ℕ) where
       → Says l src p L u r (bothLists d x b (count vs) y c (count ws) (usedOf u) r) (built (join vs ws) (list (join vs ws)))
   unfolding built charged pure
   lists-say {L} {u} {r} a p d vs ws x y b c e deep hx hy =
-      takes l src a p (count vs + count ws) (join vs ws) (sym (count-join vs ws)) (λ i q. (Outcome.Value (Value.List d Cells.Evaluation (u .cells) (count vs + count ws)) i, copiedTo (copiedTo q x b (u .cells) (count vs)) y c (u .cells + count vs) (count ws))) (nest (nesting (list (join vs ws))) ∷ [], value (list (join vs ws)))
-      (λ f. list-end a p (count vs + count ws) d (join vs ws) (o a vs ws x y b c hx hy f) (sym (count-join vs ws)) deepest deep f (sum-kept a vs ws x y b c hx hy f) (sum-there a vs ws x y b c hx hy f))
+      takes l src a p (count vs + count ws) (join vs ws) (sym (join-count vs ws)) (λ i q. (Outcome.Value (Value.List d Cells.Evaluation (u .cells) (count vs + count ws)) i, copiedTo (copiedTo q x b (u .cells) (count vs)) y c (u .cells + count vs) (count ws))) (nest (nesting (list (join vs ws))) ∷ [], value (list (join vs ws)))
+      (λ f. list-end a p (count vs + count ws) d (join vs ws) (o a vs ws x y b c hx hy f) (sym (join-count vs ws)) deepest deep f (sum-kept a vs ws x y b c hx hy f) (sum-there a vs ws x y b c hx hy f))
     where
       deepest : d ≡ suc (nestingIn (join vs ws))
       deepest = e ∙ ups (nestingIn vs) (nestingIn ws) ∙ ap suc (sym (nesting-join vs ws))

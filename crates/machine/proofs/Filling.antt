@@ -22,12 +22,13 @@ use Rattle.rooms.specs.Cells.{settled, Fits}
 use Rattle.rooms.specs.Rooms.{Rooms, cellAt, part}
 use Rattle.rooms.specs.Stands.{Alive, StandsScalar, Stands, StandsCells, Agrees}
 use Rattle.built.proofs.Built.{settled-stands}
+use Rattle.laws.proofs.Fine.{pad-count, join-count}
 use Rattle.rooms.proofs.Frame.{frame, frame-cells, part-same}
 use Rattle.machine.specs.Outcomes.{written}
 use Rattle.machine.specs.Refines.{Live, Upto, Roomy, Keeps, Logged, Start}
 use Rattle.machine.proofs.Words.{low-cell, store-same, store-other, store-keeps}
 use Rattle.machine.proofs.Keeping.{upto-same, upto-then, keeps-agrees, roomy-same, agrees-sub, agrees-narrow}
-use Rattle.machine.proofs.Traces.{count-join, stands-join, cells-append, text-append, part-add}
+use Rattle.machine.proofs.Traces.{stands-join, cells-append, text-append, part-add}
 use Rattle.machine.proofs.Match.{move}
 use Rattle.machine.proofs.Charges.{walked, start-walked}
 use Rattle.machine.proofs.Taking as Taking
@@ -35,12 +36,6 @@ use Rattle.machine.proofs.Taking.{took, taken-keeps, taken-null}
 use Rattle.rooms.proofs.Scopes.{scope-frame}
 
 -- ---- cells, and Null behind them
-
-pub pad-count : (n : ℕ) (vs : Values) → count (pad n vs) ≡ n
-unfolding pad count
-pad-count zero vs = refl
-pad-count (suc n) nil = ap suc (pad-count n nil)
-pad-count (suc n) (cons v vs) = ap suc (pad-count n vs)
 
 pad-split : (vs : Values) (n z : ℕ) → count vs + z ≡ n → pad n vs ≡ join vs (pad z nil)
 unfolding join count pad
@@ -101,7 +96,7 @@ module _ (l : Counts) (src : List ℕ) where
           taken = omega (arith, a .taken, k .grows .cells);
           nulls = λ i f g. low-cell u c r q k i (omega (arith, a .taken)) ∙ a .nulls i f g;
           built = subst (λ vs. StandsCells vs M q Cells.Evaluation (o .cells + n)) (sym (cells-append tr e)) (stands-join M q (cellsBuilt tr) (cellsBuilt e) Cells.Evaluation (o .cells + n) (frame-cells L M r q kept (cellsBuilt tr) Cells.Evaluation (o .cells + n) (a .built)) (subst (λ i. StandsCells (cellsBuilt e) M q Cells.Evaluation i) (sym (a .counted)) (w .cells)));
-          counted = omega (arith, ap count (cells-append tr e), count-join (cellsBuilt tr) (cellsBuilt e), a .counted, w .counted);
+          counted = omega (arith, ap count (cells-append tr e), join-count (cellsBuilt tr) (cellsBuilt e), a .counted, w .counted);
           bytes = subst (λ z. part (q .text) (o .bytes) (length z) ≡ z) (sym (text-append tr e)) (ap (part (q .text) (o .bytes)) (length-append (textBuilt tr) (textBuilt e)) ∙ part-add (q .text) (o .bytes) (length (textBuilt tr)) (length (textBuilt e)) ∙ ap₂ (λ x y. x ++ y) (part-same (u .bytes) (o .bytes) (length (textBuilt tr)) (r .text) (q .text) (omega (arith, a .bytesCounted)) (k .textLow) ∙ a .bytes) (ap (λ i. part (q .text) i (length (textBuilt e))) (a .bytesCounted) ∙ w .bytes));
           bytesCounted = omega (arith, ap length (text-append tr e), length-append (textBuilt tr) (textBuilt e), a .bytesCounted, w .bytesCounted);
         }
@@ -192,7 +187,7 @@ module _ (l : Counts) (src : List ℕ) where
           kept = stored-keeps u (upto-same u) (a .begun .roomy)
 
           longer : count (join rc (cons v nil)) ≡ count rc + 1
-          longer = count-join rc (cons v nil) ∙ unfold count in refl
+          longer = join-count rc (cons v nil) ∙ unfold count in refl
 
           below : (i : ℕ) → N .cells Cells.Evaluation i → i < u .cells
           below i (inl y) = a .begun .below .cells i y
@@ -214,7 +209,7 @@ module _ (l : Counts) (src : List ℕ) where
     so-far =
         record {
           cells = unfold cellsBuilt in stands-join M r (pad n rc) (cellsBuilt tr) Cells.Evaluation (o .cells) own (subst (λ i. StandsCells (cellsBuilt tr) M r Cells.Evaluation (o .cells + i)) (sym (pad-count n rc)) (frame-cells L M r r wide (cellsBuilt tr) Cells.Evaluation (o .cells + n) (a .built)));
-          counted = unfold cellsBuilt in omega (arith, count-join (pad n rc) (cellsBuilt tr), pad-count n rc, a .counted);
+          counted = unfold cellsBuilt in omega (arith, join-count (pad n rc) (cellsBuilt tr), pad-count n rc, a .counted);
           bytes = unfold textBuilt in a .bytes;
           bytesCounted = unfold textBuilt in a .bytesCounted;
         }

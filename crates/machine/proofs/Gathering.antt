@@ -22,6 +22,7 @@ use Rattle.rooms.specs.declared.scope.Scope as Code
 use Rattle.rooms.specs.Value.{partsOf}
 use Rattle.rooms.specs.Rooms.{Rooms}
 use Rattle.rooms.specs.Stands.{Alive, Stands, StandsCells, Holds, Agrees}
+use Rattle.laws.proofs.Fine.{join-count}
 use Rattle.rooms.proofs.Frame.{frame-cells}
 use Rattle.machine.specs.declared.outcome.Used.{Used}
 use Rattle.machine.specs.declared.outcome.Outcome.the-variants as Outcome
@@ -31,7 +32,7 @@ use Rattle.machine.specs.Comprehension.{Gathered, nothingGathered, addRu
 use Rattle.machine.specs.Refines.{usedOf, Live, Roomy, Keeps, Logged, Matches, Start, Refines}
 use Rattle.machine.proofs.Keeping.{keeps-both, keeps-agrees, agrees-narrow, roomy-same}
 use Rattle.machine.proofs.Taking.{took, taken, taken-keeps, copiedTo, copy-keeps, copy-stands}
-use Rattle.machine.proofs.Traces.{count-join, join-nil, nesting-join}
+use Rattle.machine.proofs.Traces.{join-nil, nesting-join}
 use Rattle.machine.proofs.Match.{Says, weaken, move, raises, then-built}
 use Rattle.machine.proofs.Charges.{takes}
 use Rattle.machine.proofs.Operands.{operand-says}
@@ -195,7 +196,7 @@ module _ (l : Counts) (src : List ℕ) where
           lists = h .lists ++ (vs ∷ []);
           joined = flat-snoc (h .lists) vs ∙ ap (λ ws. join ws vs) (h .joined);
           runs = omega (arith, h .runs, length-append (h .lists) (vs ∷ []));
-          total = ap (λ n. n + count vs) (h .total) ∙ sym (count-join out vs);
+          total = ap (λ n. n + count vs) (h .total) ∙ sym (join-count out vs);
           deep = deeper;
           shallow = omega (arith, h .shallow);
           stands = subst (λ n. RunsAt (set (g .firsts) n (u .cells)) (set (g .counts) n (count vs)) (h .lists ++ (vs ∷ [])) 0 (Live L u top) q) (sym place)

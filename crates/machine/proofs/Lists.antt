@@ -21,27 +21,29 @@ use Rattle.rooms.specs.declared.scope.Scope.{Scope}
 use Rattle.rooms.specs.Value.{nestingOf}
 use Rattle.rooms.specs.Rooms.{Rooms, cellAt}
 use Rattle.rooms.specs.Stands.{Alive, Stands, Holds}
+use Rattle.laws.proofs.Fine.{pad-count, join-count}
 use Rattle.rooms.proofs.Frame.{frame-cells}
 use Rattle.rooms.proofs.CellLaws.{written-length}
 use Rattle.machine.specs.declared.outcome.Used.{Used}
 use Rattle.machine.specs.Outcomes.{Res, Does, written, withValue, taking}
 use Rattle.machine.specs.Views.{partIn, unmarkedIn, optionalIn}
 use Rattle.machine.specs.Containers.{addElement, element, listDone}
-use Rattle.machine.specs.Refines.{usedOf, countsOf, Live, Roomy, Keeps, Matches, Start, Refines}
+use Rattle.laws.specs.Charges.{countsOf}
+use Rattle.machine.specs.Refines.{usedOf, Live, Roomy, Keeps, Matches, Start, Refines}
 use Rattle.machine.proofs.Keeping.{keeps-both, keeps-higher, keeps-back, agrees-sub, roomy-same}
 use Rattle.machine.proofs.Taking.{took, taken, taken-keeps}
-use Rattle.machine.proofs.Traces.{count-join, nesting-join, from-grows}
+use Rattle.machine.proofs.Traces.{nesting-join, from-grows}
 use Rattle.machine.proofs.Match.{Says}
 use Rattle.machine.proofs.Charges.{takes}
 use Rattle.machine.proofs.Selecting.{UnwrapView, unwrap-view}
-use Rattle.machine.proofs.Filling.{Filling, pad-count, stored-keeps, fill-store, Stored, empty-filling}
+use Rattle.machine.proofs.Filling.{Filling, stored-keeps, fill-store, Stored, empty-filling}
 use Rattle.machine.proofs.Makings.{closing, FillsTo, fills-error, fills-done, fills-then}
 use Rattle.rooms.specs.Cells.{Fits}
 use Rattle.rooms.proofs.Depths.{stands-nesting}
 
 -- one element more
 pub longer : (vs : Values) (v : Meaning.Value) → count (join vs (cons v nil)) ≡ count vs + 1
-longer vs v = count-join vs (cons v nil) ∙ unfold count in refl
+longer vs v = join-count vs (cons v nil) ∙ unfold count in refl
 
 pub deeper : (vs : Values) (v : Meaning.Value) → nestingIn (join vs (cons v nil)) ≡ max (nestingIn vs) (nesting v)
 deeper vs v = nesting-join vs (cons v nil) ∙ unfold nestingIn in ap (max (nestingIn vs)) (alone (nesting v))

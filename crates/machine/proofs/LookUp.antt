@@ -42,7 +42,8 @@ use Rattle.machine.specs.Selection.{elementOut, entryOut, lookUpIn, look
 use Rattle.machine.specs.Refines.{usedOf, Start}
 use Rattle.machine.proofs.Match.{Says, value-now, error-now, then}
 use Rattle.machine.proofs.Steps.{pairs-then, found-then}
-use Rattle.machine.proofs.Seen.{held-none, scalar-parts, Probe, probe-view}
+use Rattle.comparing.proofs.SeenMeaning.{scalar-parts}
+use Rattle.machine.proofs.Seen.{held-none, Probe, probe-view}
 use Rattle.machine.proofs.Logic.{truth-now}
 use Rattle.machine.proofs.Building.{present-says}
 use Rattle.sizes.proofs.SizeMeaning.{nth-stands}

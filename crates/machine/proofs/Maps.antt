@@ -29,6 +29,8 @@ use Rattle.rooms.specs.Value.{nestingOf}
 use Rattle.rooms.specs.Rooms.{Rooms, cellAt}
 use Rattle.rooms.specs.Stands.{Alive, Stands, StandsCells, StandsEntries, Holds}
 use Rattle.comparing.specs.LookUp.{findIn}
+use Rattle.laws.proofs.Fine.{pad-count}
+use Rattle.laws.proofs.Spelled.{add-nesting}
 use Rattle.rooms.proofs.Frame.{frame-entries, scalar-frame, holds-frame}
 use Rattle.rooms.proofs.CellLaws.{written-length}
 use Rattle.equality.specs.Finds.{FoundIs, Finds}
@@ -40,7 +42,8 @@ use Rattle.machine.specs.Outcomes.{Res, Does, written, withValue, taking
 use Rattle.machine.specs.Views.{isKey, partIn, unmarkedIn, optionalIn}
 use Rattle.machine.specs.Containers as Machine
 use Rattle.machine.specs.Containers.{ifKey, ifNew, mapDone}
-use Rattle.machine.specs.Refines.{usedOf, errorOf, countsOf, Live, Upto, Roomy, Keeps, Matches, Start, Refines}
+use Rattle.laws.specs.Charges.{countsOf}
+use Rattle.machine.specs.Refines.{usedOf, errorOf, Live, Upto, Roomy, Keeps, Matches, Start, Refines}
 use Rattle.machine.proofs.Keeping.{keeps-same, keeps-both, keeps-higher, keeps-back, agrees-sub, roomy-same}
 use Rattle.machine.proofs.Taking.{took, taken, taken-keeps}
 use Rattle.machine.proofs.Traces.{from-grows}
@@ -50,7 +53,7 @@ use Rattle.machine.proofs.Steps.{found-in, steps-then}
 use Rattle.machine.proofs.Operands.{after-assoc}
 use Rattle.machine.proofs.Seen.{KeyView, key-view}
 use Rattle.machine.proofs.Selecting.{UnwrapView, unwrap-view}
-use Rattle.machine.proofs.Filling.{Filling, since, pad-count, stored-agrees, stored-keeps, fill-store, fill-walked, Stored, empty-filling}
+use Rattle.machine.proofs.Filling.{Filling, since, stored-agrees, stored-keeps, fill-store, fill-walked, Stored, empty-filling}
 use Rattle.machine.proofs.Makings.{closing, FillsTo, fills-error, fills-done, fills-then}
 use Rattle.machine.proofs.Lists.{longer}
 use Rattle.rooms.specs.Cells.{Fits}
@@ -83,14 +86,6 @@ add-count (entry j w es) k v = ap suc (add-count es k v) ∙ shift (countEntries
   where
     shift : (n : ℕ) → suc (n + 1) ≡ suc n + 1
     shift n = omega arith
-
-add-nesting : (es : Entries) (k : Meaning.Key) (v : Meaning.Value) → nestingOver (addEntry es k v) ≡ max (nestingOver es) (nesting v)
-unfolding addEntry nestingOver
-add-nesting empty k v = omega arith
-add-nesting (entry j w es) k v = ap (max (nesting w)) (add-nesting es k v) ∙ assoc (nesting w) (nestingOver es) (nesting v)
-  where
-    assoc : (a b c : ℕ) → max a (max b c) ≡ max (max a b) c
-    assoc a b c = omega arith
 
 -- ---- the making of one entry, step by step
 

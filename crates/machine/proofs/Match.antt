@@ -21,15 +21,18 @@ use Rattle.rooms.specs.declared.value.CellSpace.the-variants as Cells
 use Rattle.rooms.specs.declared.scope.Scope.{Scope}
 use Rattle.rooms.specs.Rooms.{Rooms, part}
 use Rattle.rooms.specs.Stands.{Alive, Stands, StandsCells, Agrees, Holds}
+use Rattle.laws.proofs.Fine.{join-count}
 use Rattle.rooms.proofs.Frame.{frame-cells, part-same, holds-frame}
 use Rattle.machine.specs.declared.outcome.Used.{Used}
+use Rattle.machine.specs.declared.outcome.Error.{Error}
 use Rattle.machine.specs.declared.outcome.Limit.{Limit}
 use Rattle.machine.specs.declared.outcome.Outcome.{Outcome}
 use Rattle.machine.specs.declared.outcome.Outcome.the-variants as Outcome
 use Rattle.machine.specs.Outcomes.{Res}
-use Rattle.machine.specs.Refines.{usedOf, errorOf, limitOf, countsOf, Live, Upto, Keeps, Logged, Good, Matches, Below, Start}
+use Rattle.laws.specs.Charges.{countsOf}
+use Rattle.machine.specs.Refines.{usedOf, errorOf, limitOf, from, Live, Upto, Keeps, Logged, Good, Matches, Below, Start}
 use Rattle.machine.proofs.Keeping.{upto-same, keeps-cells, keeps-text, keeps-roomy, keeps-same, keeps-then, keeps-agrees, agrees-sub, agrees-then, live-below, live-sub}
-use Rattle.machine.proofs.Traces.{count-join, stands-join, spend-append, cells-append, text-append, part-add}
+use Rattle.machine.proofs.Traces.{stands-join, spend-append, cells-append, text-append, part-add}
 use Rattle.rooms.proofs.Scopes.{scope-frame}
 
 -- ---- what was built, one after the other
@@ -46,7 +49,7 @@ logged-join L lo mid hi q p t u b k a x y =
           (frame-cells (Live L lo mid) (Live L lo hi) q p first (cellsBuilt t) Cells.Evaluation (lo .cells) (x .cells))
           (subst (λ i. StandsCells (cellsBuilt u) (Live L lo hi) p Cells.Evaluation i) (sym (x .counted))
           (frame-cells (Live (Live L lo mid) mid hi) (Live L lo hi) p p second (cellsBuilt u) Cells.Evaluation (mid .cells) (y .cells))));
-      counted = omega (arith, ap count (cells-append t u), count-join (cellsBuilt t) (cellsBuilt u), x .counted, y .counted);
+      counted = omega (arith, ap count (cells-append t u), join-count (cellsBuilt t) (cellsBuilt u), x .counted, y .counted);
       bytes = subst (λ s. part (p .text) (lo .bytes) (length s) ≡ s) (sym (text-append t u))
           (ap (part (p .text) (lo .bytes)) (length-append (textBuilt t) (textBuilt u))
           ∙ part-add (p .text) (lo .bytes) (length (textBuilt t)) (length (textBuilt u))

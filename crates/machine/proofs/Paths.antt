@@ -19,11 +19,10 @@ use Rattle.meaning.specs.Comprehension.{Scope}
 use Rattle.meaning.specs.Look.{Look, aSum, aFold, ofName, guardedBy, aConditional, arithLook, binaryLook, named}
 use Rattle.meaning.specs.Meaning.{run, runElements}
 use Rattle.meaning.specs.Limited.{cellsBuilt}
+use Rattle.laws.proofs.Fine.{pad-count, join-count}
 use Rattle.machine.specs.Outcomes.{Does}
 use Rattle.machine.specs.Machine.{addedTo, sumTo, appending}
 use Rattle.machine.specs.Refines.{Refines}
-use Rattle.machine.proofs.Traces.{count-join}
-use Rattle.machine.proofs.Filling.{pad-count}
 use Rattle.machine.proofs.Lists.{longer}
 use Rattle.machine.proofs.Gathering.{elementsIn, ItemsOk}
 use Rattle.machine.proofs.Comprehending.{PathOk}
@@ -82,7 +81,7 @@ is-list p n m f v e = go (m .1) refl e
     T = m .0
 
     built : (z : Trace) → n ≤ count (cellsBuilt (step ∷ (cells (pad n (readyIn (m .1))) ∷ z)))
-    built z = unfold cellsBuilt in omega (arith, count-join (pad n (readyIn (m .1))) (cellsBuilt z), pad-count n (readyIn (m .1)))
+    built z = unfold cellsBuilt in omega (arith, join-count (pad n (readyIn (m .1))) (cellsBuilt z), pad-count n (readyIn (m .1)))
 
     go : (y : Result (Values × Raised) Values) → m .1 ≡ y → placed p ((onValue (λ a. pure (list a)) ((finished list y) .1)) .1) ≡ value v → (vs : Values) × (v ≡ list vs) × (count vs ≤ count (cellsBuilt (step ∷ ((cells (pad n (readyIn (m .1))) ∷ (T ++ (finished list (m .1)) .0)) ++ (onValue (λ a. pure (list a)) ((finished list (m .1)) .1)) .0))))
     go (value a) i j = (a, unfold finished charged pure onValue placed in same j, omega (arith, f a i, built ((T ++ (finished list (m .1)) .0) ++ (onValue (λ b. pure (list b)) ((finished list (m .1)) .1)) .0)))

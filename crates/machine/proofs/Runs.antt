@@ -11,13 +11,15 @@ use Rattle.meaning.specs.Value.{Values, nil, count, join}
 use Rattle.rooms.specs.declared.value.CellSpace.the-variants as Cells
 use Rattle.rooms.specs.Rooms.{Rooms}
 use Rattle.rooms.specs.Stands.{Alive, Stands, StandsCells, Agrees}
+use Rattle.building.specs.Building.{copied}
+use Rattle.laws.proofs.Fine.{join-count}
 use Rattle.rooms.proofs.Frame.{frame-cells}
 use Rattle.machine.specs.Outcomes.{withWords}
 use Rattle.machine.specs.Comprehension.{runsCopied}
 use Rattle.machine.specs.Refines.{FitCells, Live, Roomy, Keeps, Below}
 use Rattle.machine.proofs.Keeping.{keeps-same, keeps-then, keeps-agrees, roomy-same, agrees-sub, live-below, live-sub}
 use Rattle.machine.proofs.Taking.{took, upto-took, copiedTo, copy-keeps, copy-stands}
-use Rattle.machine.proofs.Traces.{count-join, join-nil, join-assoc, stands-join}
+use Rattle.machine.proofs.Traces.{join-nil, join-assoc, stands-join}
 
 abbrev pub flat : List Values → Values
 flat [] = nil
@@ -88,13 +90,13 @@ module _ (firsts counts : List ℕ) where
     q = copiedTo r Cells.Evaluation (getD firsts i 0) (u .cells) (count vs)
 
     same-top : took one more ≡ took u (count (join vs (flat css)))
-    same-top = ap (λ k. record { steps = u .steps; cells = k; bytes = u .bytes }) (assoc (u .cells) (count vs) more ∙ ap (λ k. u .cells + k) (sym (count-join vs (flat css))))
+    same-top = ap (λ k. record { steps = u .steps; cells = k; bytes = u .bytes }) (assoc (u .cells) (count vs) more ∙ ap (λ k. u .cells + k) (sym (join-count vs (flat css))))
       where
         assoc : (x y z : ℕ) → x + y + z ≡ x + (y + z)
         assoc x y z = omega arith
 
     room-one : Roomy one r
-    room-one = record { cells = omega (arith, f .cells, count-join vs (flat css)); bytes = f .bytes }
+    room-one = record { cells = omega (arith, f .cells, join-count vs (flat css)); bytes = f .bytes }
 
     pub first-kept : Keeps u one r q
     first-kept = copy-keeps (count vs) Cells.Evaluation (getD firsts i 0) u r w room-one

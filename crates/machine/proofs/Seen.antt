@@ -12,8 +12,7 @@ use Rattle.meaning.specs.Value.{null, bool, int, uint, double, string, bytes, s
 use Rattle.meaning.specs.Maps.{probeOf, probeIn}
 use Rattle.rooms.specs.declared.value.Value.{Value}
 use Rattle.rooms.specs.declared.value.Value.the-variants as Value
-use Rattle.rooms.specs.declared.value.Parts.the-variants as Parts
-use Rattle.rooms.specs.Value.{partsOf, doubleValue}
+use Rattle.rooms.specs.Value.{doubleValue}
 use Rattle.rooms.specs.Rooms.{Rooms}
 use Rattle.rooms.specs.Stands.{Alive, StandsScalar, Stands, Holds}
 use Rattle.machine.specs.Views.{boolIn, isKey, isString, notOptional, optionalIn}
@@ -47,20 +46,6 @@ held-none L r = record { stands = refl; fits = tt; nests = omega arith }
 -- ---- values without parts
 
 module _ (L : Alive) (r : Rooms) where
-  double-parts : (x : Double) → partsOf (doubleValue x) ≡ Parts.Nothing
-  double-parts (Bits.Plain x) = refl
-  double-parts (Bits.Nan b) = refl
-
-  pub scalar-parts : (x : Meaning.Scalar) (m : Value) → StandsScalar x L r m → partsOf m ≡ Parts.Nothing
-  unfolding StandsScalar
-  scalar-parts null m h = ap partsOf h
-  scalar-parts (bool b) m h = ap partsOf h
-  scalar-parts (int z) m h = ap partsOf h
-  scalar-parts (uint n) m h = ap partsOf h
-  scalar-parts (double d) m h = ap partsOf (h .1) ∙ double-parts (h .0)
-  scalar-parts (string s) m h = ap partsOf (h .2)
-  scalar-parts (bytes s) m h = ap partsOf (h .2)
-
   double-optional : (x : Double) → optionalIn (doubleValue x) ≡ notOptional
   double-optional (Bits.Plain x) = refl
   double-optional (Bits.Nan b) = refl

@@ -34,7 +34,8 @@ use Rattle.machine.specs.Machine.{unlessNone, indexLeft, onLeft, both}
 use Rattle.machine.specs.Refines.{usedOf, Start, Refines}
 use Rattle.machine.proofs.Match.{Says, value-now, raises, error-now}
 use Rattle.machine.proofs.Operands.{of-operand, value-of}
-use Rattle.machine.proofs.Seen.{held-none, scalar-parts, scalar-optional, StringView, string-view}
+use Rattle.comparing.proofs.SeenMeaning.{scalar-parts}
+use Rattle.machine.proofs.Seen.{held-none, scalar-optional, StringView, string-view}
 use Rattle.machine.proofs.Logic.{truth-now}
 use Rattle.machine.proofs.LookUp.{held-cell, lookUp-says, optionally-says, tells-says}
 use Rattle.rooms.proofs.Frame.{holds-frame}
@@ -90,7 +91,7 @@ module _ (l : Counts) (src : List ℕ) where
 
       pub select-says : (v : Meaning.Value) (m : Value) → Holds v L r m → Says l src p L u r (selectField (l .steps) p test f m (usedOf u) r) (Rules.selectField test field v)
       unfolding Rules.selectField Stands nesting
-      select-says (scalar x) m h = subst (λ y. Selects m y (scalar x)) (sym (scalar-parts L r x m (h .stands))) (subst (λ y. Says l src p L u r (selectPlain (l .steps) p test f y (usedOf u) r) (fail NoOverload)) (sym (scalar-optional L r x m (h .stands))) (error-now l src st p NoOverload))
+      select-says (scalar x) m h = subst (λ y. Selects m y (scalar x)) (sym (scalar-parts L r x m (h .stands))) (subst (λ y. Says l src p L u r (selectPlain p test y (usedOf u), r) (fail NoOverload)) (sym (scalar-optional L r x m (h .stands))) (error-now l src st p NoOverload))
       select-says (list vs) m h = subst (λ y. Selects m y (list vs)) (sym (ap partsOf (h .stands .2))) (error-now l src st p NoOverload)
       select-says (map es) m h = subst (λ y. Selects m y (map es)) (sym (ap partsOf (h .stands .2))) (in-map test (lookUp (l .steps) p r m f (usedOf u)) _ (lookUp-says l src st p (scalar (string field)) f k (map es) m h))
       select-says optionalNone m h = subst (λ y. Selects y (partsOf y) optionalNone) (sym (h .stands)) (in-none test)

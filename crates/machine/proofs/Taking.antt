@@ -1,59 +1,43 @@
 -- Cells that are taken are Null, cells that are copied stand for the same; no other word changes. Rests on Words, Keeping. Assumes nothing.
-use Prim.Native.Nat.{ℕ, zero, suc, _+_, _*_, _/_, _≤_, _<_}
-use mathlib.Core.Path.{_≡_, refl, sym, ap, ap₂, _∙_, subst}
+use Prim.Native.Nat.{ℕ, zero, suc, _+_, _*_, _≤_, _<_}
+use mathlib.Core.Path.{_≡_, refl, sym, ap, _∙_, subst}
 use mathlib.Core.Logic.{inr}
 use mathlib.Core.Bool.{Bool, true, false}
 use mathlib.Core.List.{List}
 use native.Mathlib.Omega.{arith}
 use lib.Dec.{ltb, leb}
-use lib.ListN.{length, getD, set, take, drop, length-set}
-use lib.Seq.{getD-set-same, take-set-le, drop-set-lt}
-use borrow.Author.Tests.{lt-ltb, ltb-true, ltb-false, le-leb, leb-true, leb-false}
+use lib.ListN.{length, set, take, drop}
+use lib.Seq.{take-set-le, drop-set-lt}
+use borrow.Author.Tests.{ltb-true, ltb-false, le-leb, leb-true, leb-false}
 use Rattle.meaning.specs.Limits.{Counts}
 use Rattle.meaning.specs.Value as Meaning
 use Rattle.meaning.specs.Value.{Values, nil, cons, count}
 use Rattle.rooms.specs.declared.value.Value.the-variants as Value
 use Rattle.rooms.specs.declared.value.CellSpace.{CellSpace}
 use Rattle.rooms.specs.declared.value.CellSpace.the-variants as Cells
-use Rattle.rooms.specs.Cells.{cellOf, valueOf, bareOf, cellIn, settled, Fits}
+use Rattle.rooms.specs.Cells.{settled, Fits}
 use Rattle.rooms.specs.Rooms.{Rooms, cellAt}
 use Rattle.rooms.specs.Stands.{Alive, Stands, StandsCells, Agrees}
 use Rattle.building.specs.Building.{cellRoom, zeroed, cellsTaken, copied}
 use Rattle.rooms.proofs.Frame.{frame, frame-cells}
-use Rattle.built.proofs.Built.{settled-stands}
+use Rattle.built.proofs.Zeroed.{zeroed-length}
+use Rattle.built.proofs.Built.{settled-stands, taken-null as null-taken}
 use Rattle.machine.specs.Outcomes.{withWords, written}
 use Rattle.machine.specs.Refines.{FitCells, Live, Upto, Roomy, Keeps, Below}
-use Rattle.machine.proofs.Words.{cell-low, cell-high, below-same, store-same, store-keeps}
+use Rattle.machine.proofs.Words.{cell-low, cell-high, store-same, store-keeps}
 use Rattle.machine.proofs.Keeping.{keeps-same, keeps-then, keeps-agrees, roomy-same, live-below, live-sub, agrees-sub, agrees-then}
 
 -- ---- words become 0
-
-zeroed-length : (w : List ℕ) (a n : ℕ) → length (zeroed w a n) ≡ length w
-unfolding zeroed
-zeroed-length w a zero = refl
-zeroed-length w a (suc n) = zeroed-length (set w a 0) (suc a) n ∙ length-set w a 0
 
 zeroed-take : (w : List ℕ) (a n k : ℕ) → k ≤ a → take k (zeroed w a n) ≡ take k w
 unfolding zeroed
 zeroed-take w a zero k h = refl
 zeroed-take w a (suc n) k h = zeroed-take (set w a 0) (suc a) n k (omega arith) ∙ take-set-le k w a 0 h
 
-zeroed-drop : (w : List ℕ) (a n k : ℕ) → a + n ≤ k → drop k (zeroed w a n) ≡ drop k w
+pub zeroed-drop : (w : List ℕ) (a n k : ℕ) → a + n ≤ k → drop k (zeroed w a n) ≡ drop k w
 unfolding zeroed
 zeroed-drop w a zero k h = refl
 zeroed-drop w a (suc n) k h = zeroed-drop (set w a 0) (suc a) n k (omega arith) ∙ drop-set-lt k w a 0 (omega arith)
-
-zeroed-in : (w : List ℕ) (a n j : ℕ) → a ≤ j → j < a + n → j < length w → getD (zeroed w a n) j 0 ≡ 0
-unfolding zeroed
-zeroed-in w a zero j h k l = absurd (omega arith)
-zeroed-in w a (suc n) j h k l = go (ltb a j) refl (λ e. zeroed-in (set w a 0) (suc a) n j e (omega arith) (omega (arith, length-set w a 0)))
-  where
-    go : (b : Bool) → ltb a j ≡ b → (a < j → getD (zeroed (set w a 0) (suc a) n) j 0 ≡ 0) → getD (zeroed (set w a 0) (suc a) n) j 0 ≡ 0
-    go true e f = f (ltb-true a j e)
-    go false e f = below-same (suc a) (set w a 0) (zeroed (set w a 0) (suc a) n) j (omega (arith, ltb-false a j e)) (zeroed-take (set w a 0) (suc a) n (suc a) (omega arith)) ∙ ap (λ i. getD (set w a 0) i 0) same ∙ getD-set-same w a 0 0 (omega arith)
-      where
-        same : j ≡ a
-        same = omega (arith, ltb-false a j e)
 
 -- ---- cells are taken
 
@@ -77,13 +61,8 @@ module _ (u : Counts) (n : ℕ) (r : Rooms) (f : Roomy (took u n) r) where
   taken-length = ap length zeros ∙ zeroed-length (r .cells) (u .cells * 2) (n * 2)
 
   pub taken-null : (i : ℕ) → u .cells ≤ i → i < u .cells + n → cellAt taken Cells.Evaluation i ≡ Value.Null
-  unfolding cellAt cellIn cellOf valueOf bareOf
-  taken-null i a b =
-      rw (lt-ltb i (length (taken .cells) / 2) (omega (arith, taken-length, f .cells)))
-      (ap₂ cellOf (word (i * 2) (omega arith) (omega arith) (omega (arith, f .cells))) (word (i * 2 + 1) (omega arith) (omega arith) (omega (arith, f .cells))))
-    where
-      word : (j : ℕ) → u .cells * 2 ≤ j → j < u .cells * 2 + n * 2 → j < length (r .cells) → getD (taken .cells) j 0 ≡ 0
-      word j x y z = ap (λ w. getD w j 0) zeros ∙ zeroed-in (r .cells) (u .cells * 2) (n * 2) j x y z
+  unfolding cellAt
+  taken-null i a b = null-taken (r .cells) (u .cells) n i (f .cells) a b
 
   low-words : take (u .cells * 2) (taken .cells) ≡ take (u .cells * 2) (r .cells)
   low-words = ap (take (u .cells * 2)) zeros ∙ zeroed-take (r .cells) (u .cells * 2) (n * 2) (u .cells * 2) (omega arith)

@@ -15,7 +15,8 @@ use Rattle.meaning.specs.Limited.{charge, fits, limitOf, Spent, through, stoppe
 use Rattle.rooms.specs.declared.value.CellSpace.{CellSpace}
 use Rattle.rooms.specs.Rooms.{Rooms, part}
 use Rattle.rooms.specs.Stands.{Alive, Stands, StandsCells}
-use Rattle.machine.specs.Refines.{Upto, from, countsOf}
+use Rattle.laws.specs.Charges.{countsOf}
+use Rattle.machine.specs.Refines.{Upto, from}
 use Rattle.machine.proofs.Keeping.{upto-same, upto-then}
 
 -- ---- lists of values
@@ -29,14 +30,6 @@ pub join-assoc : (us vs ws : Values) → join (join us vs) ws ≡ join us (join 
 unfolding join
 join-assoc nil vs ws = refl
 join-assoc (cons u us) vs ws = ap (cons u) (join-assoc us vs ws)
-
-pub count-join : (vs ws : Values) → count (join vs ws) ≡ count vs + count ws
-unfolding join count
-count-join nil ws = omega arith
-count-join (cons v vs) ws = ap suc (count-join vs ws) ∙ shift (count vs) (count ws)
-  where
-    shift : (a b : ℕ) → suc (a + b) ≡ suc a + b
-    shift a b = omega arith
 
 pub nesting-join : (vs ws : Values) → nestingIn (join vs ws) ≡ max (nestingIn vs) (nestingIn ws)
 unfolding join nestingIn

@@ -12,7 +12,8 @@ use lib.ListN.{length, getD, set, take, drop}
 use lib.Seq.{getD-take, getD-drop, take-set-le, drop-set-lt, take-take, drop-drop}
 use borrow.Author.Tests.{eqb-true, eq-eqb}
 use Rattle.numbers.specs.declared.double.Double.the-variants as Bits
-use Rattle.numbers.specs.Double.{bitsOf, doubleOf, isNan}
+use Rattle.numbers.specs.Double.{bitsOf, doubleOf}
+use Rattle.numbers.proofs.DoubleLaws.{double-either}
 use Rattle.meaning.specs.Limits.{Counts}
 use Rattle.rooms.specs.declared.value.Value.{Value}
 use Rattle.rooms.specs.declared.value.Value.the-variants as Value
@@ -27,12 +28,7 @@ use Rattle.machine.specs.Refines.{FitCells, Upto, Roomy, Keeps}
 -- ---- values in one spelling
 
 pub bits-fit : (b : ℕ) → b < 2 ^ 64 → Fits (doubleValue (doubleOf b))
-unfolding doubleOf
-bits-fit b h = go (isNan b)
-  where
-    go : (t : Bool) → Fits (doubleValue (cond t (Bits.Nan b) (Bits.Plain (ofBits binary64 b))))
-    go true = h
-    go false = ofBits-fits binary64 b
+bits-fit b h = double-either (λ d. Fits (doubleValue d)) b h (ofBits-fits binary64 b)
 
 -- in the spelling that a cell gives it, a value still fits
 pub settled-fits : (m : Value) → Fits m → Fits (settled m)

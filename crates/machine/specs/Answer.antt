@@ -20,7 +20,8 @@ use Rattle.machine.specs.declared.outcome.Outcome.{Outcome}
 use Rattle.machine.specs.declared.outcome.Outcome.the-variants as Outcome
 use Rattle.machine.specs.Outcomes.{Res}
 use Rattle.machine.specs.Machine.{machine}
-use Rattle.machine.specs.Refines.{usedOf, errorOf, limitOf, countsOf}
+use Rattle.laws.specs.Charges.{countsOf}
+use Rattle.machine.specs.Refines.{usedOf, errorOf, limitOf}
 
 -- ---- the run
 

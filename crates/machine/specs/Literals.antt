@@ -3,8 +3,7 @@ use Prim.Native.Nat.{ℕ, _+_}
 use mathlib.Core.List.{List}
 use Rattle.numbers.specs.Double.{doubleOf}
 use Rattle.meaning.specs.Value.{Scalar, null, bool, int, uint, double, string, bytes}
-use Rattle.meaning.specs.Heads.{littleEndian}
-use Rattle.meaning.specs.Table.{wordBytes}
+use Rattle.layout.specs.Layout.{wordAt}
 use Rattle.rooms.specs.declared.value.Value.{Value}
 use Rattle.rooms.specs.declared.value.Value.the-variants as Value
 use Rattle.rooms.specs.declared.value.TextSpace.the-variants as Text
@@ -15,10 +14,6 @@ use Rattle.machine.specs.declared.outcome.Outcome.{Outcome}
 use Rattle.machine.specs.declared.outcome.Outcome.the-variants as Outcome
 
 module _ (table : List ℕ) where
-  -- a word of the table
-  unfoldable pub wordIn : ℕ → ℕ
-  wordIn p = littleEndian wordBytes table wordBytes p
-
   -- the literal at a place
   abbrev pub literalValue : ℕ → Scalar → Value
   literalValue p null = Value.Null
@@ -26,12 +21,12 @@ module _ (table : List ℕ) where
   literalValue p (int z) = Value.Int z
   literalValue p (uint n) = Value.Uint n
   literalValue p (double d) = doubleValue (doubleOf d)
-  literalValue p (string s) = Value.String Text.Literal (wordIn (p + 3)) (wordIn (p + 5))
-  literalValue p (bytes s) = Value.Bytes Text.Literal (wordIn (p + 3)) (wordIn (p + 5))
+  literalValue p (string s) = Value.String Text.Literal (wordAt table (p + 3)) (wordAt table (p + 5))
+  literalValue p (bytes s) = Value.Bytes Text.Literal (wordAt table (p + 3)) (wordAt table (p + 5))
 
   -- the field of the select at a place
   abbrev pub fieldValue : ℕ → Value
-  fieldValue p = Value.String Text.Literal (wordIn (p + 4)) (wordIn (p + 6))
+  fieldValue p = Value.String Text.Literal (wordAt table (p + 4)) (wordAt table (p + 6))
 
 -- what a name's slot holds
 abbrev pub nameOut : ℕ → Value → Used → Outcome

@@ -76,16 +76,28 @@ both (Outcome.Value v z) r k = k v
 both (Outcome.Error e p z) r k = (Outcome.Error e p z, r)
 both (Outcome.Exhausted x z) r k = (Outcome.Exhausted x z, r)
 
+-- of two values; logic decides from outcomes
+abbrev pub valuesOut : (limit : ℕ) → ℕ → Binary → Value → Value → Used → Rooms → Res
+valuesOut limit p (logic fold) v w u r = (Outcome.Value w u, r)
+valuesOut limit p equals v w u r = (equalOut limit true v w u r, r)
+valuesOut limit p notEquals v w u r = (equalOut limit false v w u r, r)
+valuesOut limit p index v w u r = Selection.index limit p false v w u r
+valuesOut limit p optIndex v w u r = Selection.index limit p true v w u r
+valuesOut limit p optSelect v w u r = Selection.optSelect limit p v w u r
+valuesOut limit p (arith o) v w u r = arithmetic p o v w u r
+valuesOut limit p (compare c) v w u r = (compareOut c p v w u r, r)
+valuesOut limit p isIn v w u r = (inParts limit p r v u (partsOf w), r)
+
 abbrev pub rightOf : (limit : ℕ) → ℕ → Binary → Outcome → Value → Used → Rooms → Res
 rightOf limit p (logic fold) left w u r = (logicRight fold p left w u, r)
-rightOf limit p equals left w u r = both left r (λ v. (equalOut limit true v w u r, r))
-rightOf limit p notEquals left w u r = both left r (λ v. (equalOut limit false v w u r, r))
-rightOf limit p index left w u r = both left r (λ v. Selection.index limit p false v w u r)
-rightOf limit p optIndex left w u r = both left r (λ v. Selection.index limit p true v w u r)
-rightOf limit p optSelect left w u r = both left r (λ v. Selection.optSelect limit p v w u r)
-rightOf limit p (arith o) left w u r = both left r (λ v. arithmetic p o v w u r)
-rightOf limit p (compare c) left w u r = both left r (λ v. (compareOut c p v w u r, r))
-rightOf limit p isIn left w u r = both left r (λ v. (inParts limit p r v u (partsOf w), r))
+rightOf limit p equals left w u r = both left r (λ v. valuesOut limit p equals v w u r)
+rightOf limit p notEquals left w u r = both left r (λ v. valuesOut limit p notEquals v w u r)
+rightOf limit p index left w u r = both left r (λ v. valuesOut limit p index v w u r)
+rightOf limit p optIndex left w u r = both left r (λ v. valuesOut limit p optIndex v w u r)
+rightOf limit p optSelect left w u r = both left r (λ v. valuesOut limit p optSelect v w u r)
+rightOf limit p (arith o) left w u r = both left r (λ v. valuesOut limit p (arith o) v w u r)
+rightOf limit p (compare c) left w u r = both left r (λ v. valuesOut limit p (compare c) v w u r)
+rightOf limit p isIn left w u r = both left r (λ v. valuesOut limit p isIn v w u r)
 
 abbrev pub onLeft : Option Used → Outcome → Rooms → (Used → Rooms → Res) → Res
 onLeft none left r k = (left, r)

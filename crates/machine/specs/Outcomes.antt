@@ -1,7 +1,6 @@
 -- What a record comes to on rooms, and the charges: a step, cells, a value that is whole. What many rules share.
 -- `Res` is an outcome with the rooms after it; what operands do is handed to a rule as a function.
 use Prim.Native.Nat.{ℕ, _+_}
-use mathlib.Core.List.{List}
 use mathlib.Core.Bool.{Bool, true, false, cond}
 use lib.Dec.{ltb}
 use Rattle.meaning.specs.Limits.{deepestValue}
@@ -13,7 +12,9 @@ use Rattle.building.specs.declared.Taken.the-variants as Taken
 use Rattle.rooms.specs.declared.scope.Scope.{Scope}
 use Rattle.rooms.specs.Value.{nestingOf}
 use Rattle.rooms.specs.Cells.{writtenIn}
-use Rattle.rooms.specs.Rooms.{Rooms, rooms}
+use Rattle.rooms.specs.Rooms.{Rooms}
+-- the rooms with other cells or another text, passed on to the rules
+pub use Rattle.rooms.specs.Rooms.{withWords, withText}
 use Rattle.building.specs.Building.{cellRoom, takenOf, cellsTaken}
 use Rattle.machine.specs.declared.outcome.Used.{Used}
 use Rattle.machine.specs.declared.outcome.Error.the-variants as Error
@@ -41,12 +42,6 @@ withCells u n = record { steps = u .steps; cells = n; bytes = u .bytes }
 
 abbrev pub withBytes : Used → ℕ → Used
 withBytes u n = record { steps = u .steps; cells = u .cells; bytes = n }
-
-abbrev pub withWords : Rooms → List ℕ → Rooms
-withWords r w = rooms (r .literal) (r .bindingCells) (r .bindingText) w (r .text)
-
-abbrev pub withText : Rooms → List ℕ → Rooms
-withText r t = rooms (r .literal) (r .bindingCells) (r .bindingText) (r .cells) t
 
 -- a value is stored in a cell of the evaluation
 abbrev pub written : Rooms → ℕ → Value → Rooms

@@ -13,6 +13,7 @@ use Rattle.meaning.specs.Run.{Trace, Eval}
 use Rattle.meaning.specs.Comprehension as Comprehension
 use Rattle.meaning.specs.Limited as Limited
 use Rattle.meaning.specs.Limited.{spend, outcome, cellsBuilt, textBuilt}
+use Rattle.laws.specs.Charges.{countsOf}
 use Rattle.rooms.specs.declared.value.Value.{Value}
 use Rattle.rooms.specs.declared.value.CellSpace.{CellSpace}
 use Rattle.rooms.specs.declared.value.CellSpace.the-variants as Cells
@@ -58,11 +59,6 @@ limitOf Errors.Nesting = Limit.Nesting
 -- what a run comes to from counts, under limits; `limited` is this from nothing
 abbrev pub from : Counts → Eval Meaning.Value → Counts → Limited.Outcome
 from limits e c = outcome (e .1) (spend limits (e .0) c)
-
-abbrev pub countsOf : Limited.Outcome → Counts
-countsOf (Limited.value v c) = c
-countsOf (Limited.error e c) = c
-countsOf (Limited.exhausted x c) = c
 
 -- ---- values
 

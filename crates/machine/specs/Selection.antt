@@ -80,6 +80,12 @@ abbrev pub selectInNone : (test : Bool) → Used → Outcome
 selectInNone true u = truthOut false u
 selectInNone false u = Outcome.Value Value.OptionalNone u
 
+-- from what has no parts
+abbrev pub selectPlain : (p : ℕ) (test : Bool) → Optional → Used → Outcome
+selectPlain p test notOptional u = noOverload p u
+selectPlain p test nonePresent u = selectInNone test u
+selectPlain p test (Views.present s a) u = noOverload p u
+
 module _ (limit : ℕ) (p : ℕ) (test : Bool) (field : Value) where
   abbrev pub selectInPresent : Value → Parts → Used → Rooms → Res
   selectInPresent c (Parts.Elements s a n) u r = selectInContainer test (lookUp limit p r c field u) r
@@ -87,16 +93,11 @@ module _ (limit : ℕ) (p : ℕ) (test : Bool) (field : Value) where
   selectInPresent c (Parts.Present s a) u r = (Outcome.Error Error.NoSuchKey p u, r)
   selectInPresent c Parts.Nothing u r = (Outcome.Error Error.NoSuchKey p u, r)
 
-  abbrev pub selectPlain : Optional → Used → Rooms → Res
-  selectPlain notOptional u r = (noOverload p u, r)
-  selectPlain nonePresent u r = (selectInNone test u, r)
-  selectPlain (Views.present s a) u r = (noOverload p u, r)
-
   abbrev pub selectParts : Value → Parts → Used → Rooms → Res
   selectParts v (Parts.Elements s a n) u r = (noOverload p u, r)
   selectParts v (Parts.Entries s a n) u r = selectInMap test (lookUp limit p r v field u) r
   selectParts v (Parts.Present s a) u r = selectInPresent (cellAt r s a) (partsOf (cellAt r s a)) u r
-  selectParts v Parts.Nothing u r = selectPlain (optionalIn v) u r
+  selectParts v Parts.Nothing u r = (selectPlain p test (optionalIn v) u, r)
 
   abbrev pub selectField : Value → Used → Rooms → Res
   selectField v u r = selectParts v (partsOf v) u r

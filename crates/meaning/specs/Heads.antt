@@ -55,16 +55,17 @@ abbrev pub third : List ℕ → ℕ
 third ns = getD ns 2 0
 
 -- a word has `width` bytes
-module _ (width : ℕ) (table : List ℕ) where
+module _ (width : ℕ) where
   unfoldable pub fieldBytes : Field → ℕ
   fieldBytes byte = 1
   fieldBytes word = width
   fieldBytes long = 8
 
-  unfoldable pub bytesOf : List Field → ℕ
-  bytesOf [] = 0
-  bytesOf (f ∷ fs) = fieldBytes f + bytesOf fs
+  unfoldable pub fieldsBytes : List Field → ℕ
+  fieldsBytes [] = 0
+  fieldsBytes (f ∷ fs) = fieldBytes f + fieldsBytes fs
 
+module _ (width : ℕ) (table : List ℕ) where
   -- n bytes from a place on, the lowest first
   unfoldable pub littleEndian : ℕ → ℕ → ℕ
   littleEndian zero i = 0
@@ -72,7 +73,7 @@ module _ (width : ℕ) (table : List ℕ) where
 
   unfoldable pub numbersAt : List Field → ℕ → List ℕ
   numbersAt [] i = []
-  numbersAt (f ∷ fs) i = littleEndian (fieldBytes f) i ∷ numbersAt fs (i + fieldBytes f)
+  numbersAt (f ∷ fs) i = littleEndian (fieldBytes width f) i ∷ numbersAt fs (i + fieldBytes width f)
 
   -- a kind where there is a byte, even outside the parent
   unfoldable pub rowAt : ℕ → Got Row
@@ -88,8 +89,8 @@ module _ (width : ℕ) (table : List ℕ) where
   unfoldable pub headAt : ℕ → ℕ → Got Head
   headAt p end = do
     r ← rowAt p
-    let head = bytesOf (byte ∷ word ∷ r .fields)
-    let extent = littleEndian (fieldBytes word) (p + fieldBytes byte)
-    let ns = numbersAt (r .fields) (p + bytesOf (byte ∷ word ∷ []))
+    let head = fieldsBytes width (byte ∷ word ∷ r .fields)
+    let extent = littleEndian (fieldBytes width word) (p + fieldBytes width byte)
+    let ns = numbersAt (r .fields) (p + fieldsBytes width (byte ∷ word ∷ []))
     demand (leb (p + head) end && leb (p + extent) end && extentFits r ns head extent) WrongExtent p
     got (record { kind = r .kind; numbers = ns; operandsAt = p + head; end = p + extent })

@@ -93,14 +93,14 @@ textBuilt (cells vs ∷ t) = textBuilt t
 textBuilt (text s ∷ t) = s ++ textBuilt t
 textBuilt (nest d ∷ t) = textBuilt t
 
-unfoldable pub built : Trace → Rooms
-built t = record { cells = map holding (valueList (cellsBuilt t)); bytes = textBuilt t }
+unfoldable pub roomsBuilt : Trace → Rooms
+roomsBuilt t = record { cells = map holding (valueList (cellsBuilt t)); bytes = textBuilt t }
 
 unfoldable pub cleared : Counts → Rooms
 cleared c = record { cells = replicate (c .cells) zeroCell; bytes = replicate (c .bytes) 0 }
 
 -- afterwards, from the charges of the run and what it came to
 unfoldable pub roomsAfter : Trace → Outcome → Rooms
-roomsAfter t (value v c) = built t
+roomsAfter t (value v c) = roomsBuilt t
 roomsAfter t (error e c) = cleared c
 roomsAfter t (exhausted x c) = cleared c

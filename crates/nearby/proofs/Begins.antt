@@ -15,8 +15,8 @@ use Rattle.machine.specs.Outcomes.{Res, withWords, taking}
 use Rattle.machine.specs.Machine.{body, elements}
 use Rattle.containers.specs.declared.Begun.{Begun}
 use Rattle.containers.specs.declared.Begun.the-variants as Begun
-use Rattle.containers.specs.Filling.{begunOf, BegunIn, onBegun}
-use Rattle.containers.proofs.Filled.{begun, begun-within}
+use Rattle.containers.specs.Filling.{begunOf, BegunIn}
+use Rattle.containers.proofs.Filled.{onBegun, begun, begun-within}
 use Rattle.leaves.proofs.Rows.{list-at}
 use Rattle.nearby.proofs.Stops.{Is}
 

@@ -16,9 +16,9 @@ use Rattle.machine.specs.Machine.{body, machine}
 use Rattle.following.specs.declared.Fixed.{Fixed}
 use Rattle.following.specs.declared.Next.{Next}
 use Rattle.following.specs.declared.Next.the-variants as Next
-use Rattle.following.specs.Joins.{joinOf, onNext}
+use Rattle.following.specs.Joins.{joinOf}
 use Rattle.forms.specs.Records.{firstAt, nextOf, NextIn}
-use Rattle.forms.proofs.Operands.{FixedAt}
+use Rattle.forms.proofs.Operands.{onNext, FixedAt}
 use Rattle.nearby.proofs.Stops.{Is}
 
 -- ---- its step

@@ -1,4 +1,4 @@
--- A Double and its bits: the tests of the code, and that bits and Double give each other back. Assumes nothing.
+-- A Double and its bits: the tests of the code, that bits and Double give each other back, and what each operation gives. Assumes nothing.
 use mathlib.Core.Path.{_≡_, refl, sym, ap, _∙_, subst}
 use mathlib.Core.Bool.{Bool, true, false, not, cond, true≢false}
 use Prim.Native.Nat.{ℕ, _%_, _^_, _≤_, _<_}
@@ -10,7 +10,7 @@ use lib.Ieee.Compare.{differs-from-itself, nan-differs}
 use borrow.Author.Tests.{lt-ltb, le-ltb}
 use Rattle.numbers.specs.declared.double.Double.{Double}
 use Rattle.numbers.specs.declared.double.Double.the-variants.{Plain, Nan}
-use Rattle.numbers.specs.Double.{arithmeticNan, bitsOf, isNan, doubleOf, Proper}
+use Rattle.numbers.specs.Double.{arithmeticNan, addBits, subBits, mulBits, divBits, negBits, bitsOf, isNan, doubleOf, addOf, subOf, mulOf, divOf, negOf, Proper}
 
 -- ---- the tests of the code
 
@@ -98,3 +98,34 @@ proper b = go (isNan b) refl
 pub double-back : (d : Double) → Proper d → doubleOf (bitsOf d) ≡ d
 double-back (Plain x) p = double-of-plain x (p .0) (p .1)
 double-back (Nan b) p = unfold doubleOf in rw p
+
+-- ---- what each operation gives, by the bits
+
+pub add-is : (x y : Double) → addOf x y ≡ doubleOf (addBits (bitsOf x) (bitsOf y))
+unfolding addOf
+add-is x y = refl
+
+pub sub-is : (x y : Double) → subOf x y ≡ doubleOf (subBits (bitsOf x) (bitsOf y))
+unfolding subOf
+sub-is x y = refl
+
+pub mul-is : (x y : Double) → mulOf x y ≡ doubleOf (mulBits (bitsOf x) (bitsOf y))
+unfolding mulOf
+mul-is x y = refl
+
+pub div-is : (x y : Double) → divOf x y ≡ doubleOf (divBits (bitsOf x) (bitsOf y))
+unfolding divOf
+div-is x y = refl
+
+pub neg-is : (x : Double) → negOf x ≡ doubleOf (negBits (bitsOf x))
+unfolding negOf
+neg-is x = refl
+
+-- what is so of both spellings is so of what the bits are spelled as
+pub double-either : (P : Double → Type 0) (b : ℕ) → P (Nan b) → P (Plain (ofBits binary64 b)) → P (doubleOf b)
+unfolding doubleOf
+double-either P b h k = go (isNan b)
+  where
+    go : (t : Bool) → P (cond t (Nan b) (Plain (ofBits binary64 b)))
+    go true = h
+    go false = k

@@ -5,7 +5,7 @@ use Prim.Native.Nat.{_^_, _≤_, _<_}
 use native.Mathlib.Omega.{arith}
 use lib.IntN.{ℤ, pos, negsuc, negℤ, _+ℤ_, _-ℤ_, _*ℤ_}
 use lib.Signed.{mag, quotZ, remZ}
-use borrow.Author.Tests.{lt-ltb, le-ltb}
+use borrow.Author.Tests.{lt-ltb, le-ltb, ltb-true}
 use Rattle.numbers.specs.declared.error.ArithmeticError.the-variants.{Overflow, DivisionByZero, RemainderByZero}
 use Rattle.numbers.specs.declared.int.IntAnswer.the-variants.{Value, Error}
 use Rattle.numbers.specs.Int.{inRange, isZero, answer, addOf, subOf, mulOf, negOf, divOf, remOf}
@@ -15,6 +15,10 @@ use Rattle.numbers.specs.Int.{inRange, isZero, answer, addOf, subOf, mul
 pub in-range : (z : ℤ) → mag z < 2 ^ 63 → inRange z ≡ true
 in-range (pos n) h = lt-ltb n (2 ^ 63) h
 in-range (negsuc n) h = lt-ltb n (2 ^ 63) h
+
+pub range-small : (z : ℤ) → inRange z ≡ true → mag z < 2 ^ 63
+range-small (pos n) h = ltb-true n (2 ^ 63) h
+range-small (negsuc n) h = ltb-true n (2 ^ 63) h
 
 pub out-of-range : (z : ℤ) → 2 ^ 63 ≤ mag z → inRange z ≡ false
 out-of-range (pos n) h = le-ltb n (2 ^ 63) h

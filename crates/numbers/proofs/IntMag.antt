@@ -4,11 +4,12 @@ use mathlib.Core.Bool.{true, false, true≢false}
 use Prim.Native.Nat.{ℕ, zero, suc, _+_, _-_, _^_, _≤_, _<_}
 use native.Mathlib.Omega.{arith}
 use native.Mathlib.Numerals.{add-one}
-use lib.IntN.{ℤ, pos, negsuc, negℤ, sucℤ, predℤ, natAbs}
+use lib.IntN.{ℤ, pos, negsuc, negℤ, sucℤ, predℤ, natAbs, _+ℤ_, _-ℤ_, +ℤ-one, +ℤ-idl}
 use lib.Signed.{mag, ltZ}
 use borrow.Author.Tests.{ltb-true}
 use mir.Syntax.{w64}
-use mir.Val.{SFits}
+use mir.Val.{SFits, toZ, ofZ}
+use mir.ValLaws.{toZ-ofZ, toZ-pos}
 use borrow.Author.Needs.{sfits-of}
 
 pub not-below : (n : ℕ) → n < 0 → ⊥
@@ -23,6 +24,10 @@ pub flip-is : (a : ℤ) → ltZ a (pos 0) ≡ true → negℤ (sucℤ a) ≡ pos
 flip-is (pos n) t = absurd (not-below n (ltb-true n 0 t))
 flip-is (negsuc zero) t = refl
 flip-is (negsuc (suc n)) t = refl
+
+-- the size of a negative number, as the code finds it
+pub flipped : (a : ℤ) → SFits w64 a → SFits w64 (sucℤ a) → ltZ a (pos 0) ≡ true → toZ w64 (ofZ w64 (pos 0 -ℤ toZ w64 (ofZ w64 (toZ w64 (ofZ w64 a) +ℤ pos 1)))) ≡ pos (mag a)
+flipped a h n t = rw (toZ-ofZ w64 a h, +ℤ-one a, toZ-ofZ w64 (sucℤ a) n, +ℤ-idl (negℤ (sucℤ a)), flip-is a t) (toZ-pos w64 (mag a) (h .sfits))
 
 pub abs-negative : (a : ℤ) → ltZ a (pos 0) ≡ true → natAbs a ≡ mag a + 1
 abs-negative (pos n) t = absurd (not-below n (ltb-true n 0 t))
@@ -44,6 +49,10 @@ pred-neg (suc k) = refl
 pub neg-in : (k : ℕ) → k < 2 ^ 63 → SFits w64 (negℤ (pos k))
 neg-in zero h = sfits-of h
 neg-in (suc k) h = sfits-of (omega arith)
+
+-- 0 - k
+pub minus : (k : ℕ) → k < 2 ^ 63 → toZ w64 (ofZ w64 (pos 0 -ℤ toZ w64 k)) ≡ negℤ (pos k)
+minus k h = rw (toZ-pos w64 k h, +ℤ-idl (negℤ (pos k))) (toZ-ofZ w64 (negℤ (pos k)) (neg-in k h))
 
 pub neg-suc : (m : ℕ) → 0 < m → negℤ (pos m) ≡ negsuc (m - 1)
 neg-suc zero h = absurd (not-below zero h)

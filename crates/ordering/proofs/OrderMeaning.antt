@@ -4,12 +4,14 @@ use mathlib.Core.Path.{_≡_, refl, sym, ap, _∙_}
 use mathlib.Core.Bool.{Bool, true, false, cond, _&&_}
 use mathlib.Core.Option.{Option, none, some}
 use mathlib.Core.List.{List}
+use native.Mathlib.Omega.{arith}
 use lib.Dec.{eqb}
 use Rattle.numbers.specs.declared.order.Order.{Order}
 use Rattle.numbers.specs.declared.order.Order.the-variants as Order
 use Rattle.numbers.specs.declared.order.Number.{Number}
 use Rattle.numbers.specs.declared.order.Number.the-variants as Number
-use Rattle.numbers.specs.Order.{orderOf, numberPoint, sizeOrder, signedOrder, wholePoint}
+use Rattle.numbers.specs.Order.{orderOf, numberPoint}
+use Rattle.points.proofs.WholeLaws.{int-uint-equal, uint-less, uint-greater}
 use Rattle.text.specs.Bytes as Bytes
 use Rattle.meaning.specs.Errors.{NoOverload}
 use Rattle.meaning.specs.Run.{pure, charged, after, onValue, _>>=_, fail, orFail}
@@ -48,11 +50,11 @@ null-order seenNone = refl
 null-order seenOther = refl
 
 pub bool-order : (x y : Bool) → Compared.Is (boolOrder x y) ≡ comparedOf (scalarOrder (rank (bool x)) (rank (bool y)))
-unfolding scalarOrder sameClass rankOrder rank Bytes.orderOf orderOf signedOrder sizeOrder wholePoint thenText textOrder
-bool-order true true = refl
-bool-order true false = refl
-bool-order false true = refl
-bool-order false false = refl
+unfolding scalarOrder sameClass rankOrder rank Bytes.orderOf thenText textOrder
+bool-order true true = rw (int-uint-equal 1) refl
+bool-order true false = rw (uint-greater 1 0 (omega arith)) refl
+bool-order false true = rw (uint-less 0 1 (omega arith)) refl
+bool-order false false = rw (int-uint-equal 0) refl
 
 pub number-order : (x y : Number) → Compared.Is (orderOf (numberPoint x) (numberPoint y)) ≡ comparedOf (scalarOrder (rank (numberScalar x)) (rank (numberScalar y)))
 unfolding scalarOrder sameClass rankOrder rank Bytes.orderOf
@@ -67,12 +69,12 @@ number-order (Number.Double a) (Number.Uint b) = ap Compared.Is (sym (then-equal
 number-order (Number.Double a) (Number.Double b) = ap Compared.Is (sym (then-equal _))
 
 pub string-order : (s t : List ℕ) → Compared.Is (textOrder (Bytes.orderOf s t)) ≡ comparedOf (scalarOrder (rank (string s)) (rank (string t)))
-unfolding scalarOrder sameClass rankOrder rank orderOf signedOrder sizeOrder wholePoint thenText
-string-order s t = refl
+unfolding scalarOrder sameClass rankOrder rank thenText
+string-order s t = rw (int-uint-equal 0) refl
 
 pub bytes-order : (s t : List ℕ) → Compared.Is (textOrder (Bytes.orderOf s t)) ≡ comparedOf (scalarOrder (rank (bytes s)) (rank (bytes t)))
-unfolding scalarOrder sameClass rankOrder rank orderOf signedOrder sizeOrder wholePoint thenText
-bytes-order s t = refl
+unfolding scalarOrder sameClass rankOrder rank thenText
+bytes-order s t = rw (int-uint-equal 0) refl
 
 -- ---- values that stand
 

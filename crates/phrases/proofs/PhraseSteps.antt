@@ -6,13 +6,13 @@ use Rattle.machine.specs.declared.outcome.Used.{Used}
 use Rattle.machine.specs.declared.outcome.Limit.{Limit}
 use Rattle.machine.specs.declared.outcome.Limit.the-variants as Limit
 use Rattle.reasons.specs.Numbers.{limitMeant}
-use Rattle.answers.specs.Meant.{countsIn}
+use Rattle.answers.specs.Meant.{countsUsed}
 use Rattle.pieces.specs.Page.{Page, puts}
 use Rattle.pieces.specs.Spelled.{ascii, decimal}
 use Rattle.pieces.proofs.Putting.{puts-two, puts-three}
 use Rattle.phrases.specs.Written.{placed, counted, exhausted}
 
-pub counts-put : (u : Used) (p a b c d e r : Page) → a ≡ puts (ascii " steps ") p → b ≡ puts (decimal (u .steps)) a → c ≡ puts (ascii " cells ") b → d ≡ puts (decimal (u .cells)) c → e ≡ puts (ascii " bytes ") d → r ≡ puts (decimal (u .bytes)) e → r ≡ puts (counted (countsIn u)) p
+pub counts-put : (u : Used) (p a b c d e r : Page) → a ≡ puts (ascii " steps ") p → b ≡ puts (decimal (u .steps)) a → c ≡ puts (ascii " cells ") b → d ≡ puts (decimal (u .cells)) c → e ≡ puts (ascii " bytes ") d → r ≡ puts (decimal (u .bytes)) e → r ≡ puts (counted (countsUsed u)) p
 unfolding counted
 counts-put u p a b c d e r f g h i j k =
     puts-two (ascii " steps " ++ decimal (u .steps) ++ ascii " cells " ++ decimal (u .cells) ++ ascii " bytes ") (decimal (u .bytes)) p e r

@@ -1,7 +1,7 @@
 // Parts of the line of an answer: counts, a number with its place, a limit.
 ghost use mathlib.Core.Path.{_≡_};
 ghost use Rattle.reasons.specs.Numbers.{limitMeant};
-ghost use Rattle.answers.specs.Meant.{countsIn};
+ghost use Rattle.answers.specs.Meant.{countsUsed};
 ghost use Rattle.pieces.specs.Page.{Page, puts};
 ghost use Rattle.phrases.specs.Written.{placed, counted, exhausted};
 use decimals::put_number;
@@ -10,7 +10,7 @@ use machine::outcome::Used;
 use pieces::put_word;
 
 pub fn put_counts(out: &mut [u8], at: usize, used: Used) -> usize
-    ensures { λ r. ⌜ _≡_ {A = Page} (r, now (out .exit)) (puts (counted (countsIn used)) (at, now (out .entry))) ⌝ }
+    ensures { λ r. ⌜ _≡_ {A = Page} (r, now (out .exit)) (puts (counted (countsUsed used)) (at, now (out .entry))) ⌝ }
 {
     let steps = put_word(out, at, b" steps ");
     let after_steps = put_number(out, steps, used.steps as u64);

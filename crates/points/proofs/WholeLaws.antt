@@ -1,7 +1,7 @@
 -- Whole numbers on the number line: they compare as signed sizes, and Int and Uint are equal exactly if they are one number. Assumes nothing.
 use mathlib.Core.Path.{_≡_, refl, sym, ap, _∙_}
 use mathlib.Core.Bool.{Bool, true, false, true≢false}
-use Prim.Native.Nat.{ℕ, suc, _+_, _*_, _^_}
+use Prim.Native.Nat.{ℕ, suc, _+_, _*_, _^_, _<_}
 use native.Mathlib.Nat.{mul-lt-mul-of-pos-right, zero-mul}
 use native.Mathlib.Omega.{arith}
 use lib.IntN.{ℤ, pos, negsuc, natAbs}
@@ -20,6 +20,12 @@ use Rattle.points.proofs.SignedOrder.{SaysSigned, signed-says, signed-i
 pub whole-order : (s : Bool) (a : ℕ) (t : Bool) (b : ℕ) → orderOf (wholePoint s a) (wholePoint t b) ≡ signedOrder s a t b
 unfolding orderOf wholePoint
 whole-order s a t b = signed-map (λ (n : ℕ). n * 2 ^ 1074) (zero-mul (2 ^ 1074)) (λ (m n : ℕ) h. mul-lt-mul-of-pos-right h (pow-pos 1074)) s a t b
+
+pub uint-less : (m n : ℕ) → m < n → orderOf (uintPoint m) (uintPoint n) ≡ Less
+uint-less m n h = whole-order false m false n ∙ signed-is Less false m false n h
+
+pub uint-greater : (m n : ℕ) → n < m → orderOf (uintPoint m) (uintPoint n) ≡ Greater
+uint-greater m n h = whole-order false m false n ∙ signed-is Greater false m false n h
 
 -- ---- equal numbers of unlike kinds
 

@@ -142,3 +142,9 @@ written-other w i j v d = go (hasCell w i)
     go : (b : Bool) → cellIn (cond b (set (set w (i * 2) (headOf v)) (i * 2 + 1) (payloadOf v)) w) j ≡ cellIn w j
     go true = λ k. cond (ltb j (long k / 2)) (cellOf (word (j * 2) (omega arith) (omega arith) k) (word (j * 2 + 1) (omega arith) (omega arith) k)) Value.Absent
     go false = refl
+
+-- Two cells of the same words are the same cell.
+pub cell-same : (w u : List ℕ) (i : ℕ) → length w ≡ length u → getD w (i * 2) 0 ≡ getD u (i * 2) 0 → getD w (i * 2 + 1) 0 ≡ getD u (i * 2 + 1) 0 →
+    cellIn w i ≡ cellIn u i
+unfolding cellIn
+cell-same w u i e p q = λ k. cond (ltb i (e k / 2)) (cellOf (p k) (q k)) Value.Absent

@@ -1,12 +1,12 @@
 -- The frame law: rooms that agree on what a value reaches hold the same value. Assumes nothing.
-use Prim.Native.Nat.{ℕ, zero, suc, _+_, _≤_}
+use Prim.Native.Nat.{ℕ, zero, suc, _+_, _≤_, _<_}
 use mathlib.Core.Path.{_≡_, refl, sym, ap, _∙_, subst}
 use mathlib.Core.List.{List, [], _∷_}
 use native.Mathlib.Omega.{arith}
-use lib.ListN.{length, take}
-use lib.Seq.{take-take}
+use lib.ListN.{length, getD, take, drop}
+use lib.Seq.{take-take, drop-cons}
 use Rattle.meaning.specs.Value as Meaning
-use Rattle.meaning.specs.Value.{null, bool, int, uint, double, string, bytes, scalar, list, map, optionalNone, optionalOf, nil, cons, empty, entry, keyScalar}
+use Rattle.meaning.specs.Value.{null, bool, int, uint, double, string, bytes, scalar, list, map, optionalNone, optionalOf, nil, cons, empty, entry, keyScalar, join, count}
 use Rattle.rooms.specs.declared.value.Value.{Value}
 use Rattle.rooms.specs.declared.value.TextSpace.{TextSpace}
 use Rattle.rooms.specs.declared.value.TextSpace.the-variants as Text
@@ -23,6 +23,10 @@ part-of (suc t) (suc a) n (x ∷ l) h = part-of t a n l (omega arith)
 
 pub part-same : (t a n : ℕ) (l k : List ℕ) → a + n ≤ t → take t k ≡ take t l → part k a n ≡ part l a n
 part-same t a n l k h e = sym (part-of t a n k h) ∙ ap (λ x. part x a n) e ∙ part-of t a n l h
+
+-- the first byte of a part, and the rest
+pub part-first : (t : List ℕ) (a n : ℕ) → a < length t → part t a (suc n) ≡ getD t a 0 ∷ part t (suc a) n
+part-first t a n h = ap (take (suc n)) (drop-cons t a 0 h)
 
 module _ (L M : Alive) (r q : Rooms) (g : Agrees L M r q) where
   pub text-frame : (s : List ℕ) (space : TextSpace) (a : ℕ) → TextAt s L r space a → TextAt s M q space a

@@ -1,16 +1,16 @@
 -- Numbers and spaces as words: the steps of the code, and that a word gives back its number. Assumes nothing.
-use mathlib.Core.Path.{_≡_, refl, ap, _∙_}
+use mathlib.Core.Path.{_≡_, refl, sym, ap, _∙_}
 use mathlib.Core.Bool.{true, false, true≢false}
-use Prim.Native.Nat.{ℕ, _-_, _^_, _≤_, _<_}
+use Prim.Native.Nat.{ℕ, zero, suc, _+_, _-_, _^_, _≤_, _<_}
 use native.Mathlib.Omega.{arith}
-use lib.IntN.{ℤ, pos, negsuc, negℤ, sucℤ, natAbs, _+ℤ_, _-ℤ_, +ℤ-one, +ℤ-idl, -ℤ-one}
+use lib.IntN.{ℤ, pos, negsuc, negℤ, natAbs, _-ℤ_, -ℤ-one}
 use lib.Signed.{mag, ltZ}
 use borrow.Author.Tests.{lt-ltb, le-ltb, ltb-true}
 use borrow.Author.Needs.{sfits-of}
 use mir.Syntax.{w64}
-use mir.Val.{SFits, toZ, ofZ}
-use mir.ValLaws.{toZ-ofZ, toZ-pos}
-use Rattle.numbers.proofs.IntMag.{flip-is, pred-neg, neg-in}
+use mir.Val.{toZ, ofZ}
+use mir.ValLaws.{toZ-ofZ}
+use Rattle.numbers.proofs.IntMag.{suc-in, is-positive, pred-neg, minus}
 use Rattle.rooms.specs.declared.value.TextSpace.{TextSpace}
 use Rattle.rooms.specs.declared.value.TextSpace.the-variants as Text
 use Rattle.rooms.specs.declared.value.CellSpace.{CellSpace}
@@ -41,13 +41,7 @@ unfolding wordOf
 word-positive (pos n) t = refl
 word-positive (negsuc n) t = absurd (true≢false t)
 
-pub flipped : (a : ℤ) → SFits w64 a → SFits w64 (sucℤ a) → ltZ a (pos 0) ≡ true → toZ w64 (ofZ w64 (pos 0 -ℤ toZ w64 (ofZ w64 (toZ w64 (ofZ w64 a) +ℤ pos 1)))) ≡ pos (mag a)
-flipped a h n t = rw (toZ-ofZ w64 a h, +ℤ-one a, toZ-ofZ w64 (sucℤ a) n, +ℤ-idl (negℤ (sucℤ a)), flip-is a t) (toZ-pos w64 (mag a) (h .sfits))
-
 -- ---- a word to its Int
-
-pub minus : (k : ℕ) → k < 2 ^ 63 → toZ w64 (ofZ w64 (pos 0 -ℤ toZ w64 k)) ≡ negℤ (pos k)
-minus k h = rw (toZ-pos w64 k h, +ℤ-idl (negℤ (pos k))) (toZ-ofZ w64 (negℤ (pos k)) (neg-in k h))
 
 pub below-zero : (k : ℕ) → k < 2 ^ 63 → toZ w64 (ofZ w64 (toZ w64 (ofZ w64 (pos 0 -ℤ toZ w64 k)) -ℤ pos 1)) ≡ negsuc k
 below-zero k h = rw (minus k h, -ℤ-one (negℤ (pos k)), pred-neg k) (toZ-ofZ w64 (negsuc k) (sfits-of h))

@@ -51,6 +51,7 @@ cellNumber Cells.Evaluation = 1
 unfoldable pub packed : (kind space nesting length : ℕ) → ℕ
 packed k s d n = k + s * 2 ^ 8 + d * 2 ^ 16 + n * 2 ^ 24
 
+-- the kind's number: 0 to 6, 12 and 13 as in a table; 14 none, 15 a present Optional, 16 no value
 abbrev pub headOf : Value → ℕ
 headOf Value.Null = 0
 headOf (Value.Bool b) = 1
@@ -167,7 +168,7 @@ valueOf h k s d n x =
 
 -- of any two words: a value, or `Absent`
 unfoldable pub cellOf : (head payload : ℕ) → Value
-cellOf h x = valueOf h (h % 256) (h / 256 % 256) (h / 65536 % 256) (h / 16777216) x
+cellOf h x = valueOf h (h % 2 ^ 8) (h / 2 ^ 8 % 2 ^ 8) (h / 2 ^ 16 % 2 ^ 8) (h / 2 ^ 24) x
 
 -- ---- a cell of a list of words
 

@@ -1,14 +1,14 @@
 -- The literals of an accepted table: for each kind of record, what the value is that the code makes of it. Assumes nothing.
-use Prim.Native.Nat.{ℕ, zero, suc, _+_, _^_, _≤_, _<_}
+use Prim.Native.Nat.{ℕ, zero, suc, _+_, _*_, _^_, _≤_, _<_}
 use mathlib.Core.Path.{_≡_, refl, sym, ap, _∙_}
 use mathlib.Core.List.{List, []}
-use mathlib.Core.Bool.{true, false}
+use mathlib.Core.Bool.{Bool, true, false, cond}
 use mathlib.Core.Option.{Option, none, some}
 use native.Mathlib.Omega.{arith}
-use lib.Dec.{eqb}
+use lib.Dec.{leb, eqb}
 use lib.ListN.{length, take, drop, getD, set, length-take, length-drop}
 use lib.Seq.{drop-cons}
-use borrow.Author.Tests.{ne-eqb, leb-true}
+use borrow.Author.Tests.{ne-eqb}
 use mir.Syntax.{w64}
 use mir.Val.{toZ}
 use Rattle.numbers.specs.declared.double.Double.{Double}
@@ -17,19 +17,19 @@ use Rattle.numbers.specs.Double.{bitsOf, doubleOf}
 use Rattle.numbers.proofs.DoubleLaws.{bits-back}
 use Rattle.meaning.specs.Errors.{NotALiteral}
 use Rattle.meaning.specs.Value.{Scalar, null, bool, int, uint, double, string, bytes, keyIn}
-use Rattle.meaning.specs.Expr.{literal}
+use Rattle.meaning.specs.Expr.{Expr, literal, noneCall}
 use Rattle.meaning.specs.Kinds.{ExprKind, nullKind, boolKind, intKind, uintKind, doubleKind, stringKind, bytesKind, nameKind, unaryKind, binaryKind, conditionalKind, selectKind, listKind, mapKind, comprehensionKind, functionKind, Called, toOne, toNone, toTwo, numbered, functions}
-use Rattle.meaning.specs.Heads.{refused}
-use Rattle.meaning.specs.Table.{span, utf8}
+use Rattle.meaning.specs.Heads.{Got, got, refused}
+use Rattle.meaning.specs.Table.{utf8}
 use Rattle.meaning.specs.Bindings.{textBytes}
-use Rattle.meaning.specs.Spelling.{scalarAt, listAt, mapAt, Literals, LiteralPairs, literalOf}
+use Rattle.meaning.specs.Spelling.{Literal, scalarAt, listAt, mapAt, Literals, LiteralPairs, literalOf}
 use Rattle.layout.specs.Layout.{wordAt}
 use Rattle.fields.specs.Fits.{isSome}
 use Rattle.layout.specs.Layout.{longAt}
 use Rattle.accepted.specs.Records.{exprOf, callOf, Sound, kindByte}
 use Rattle.accepted.specs.Opened.{Opened}
 use Rattle.longs.proofs.LongLaws.{four-is, long-is}
-use Rattle.fields.proofs.FieldLaws.{span-is}
+use Rattle.fields.proofs.FieldLaws.{span-inside}
 use Rattle.accepted.proofs.Opened.{opened}
 use Rattle.accepted.proofs.Parts.{sound-kind}
 use Rattle.rooms.specs.declared.value.Value.{Value}
@@ -122,9 +122,6 @@ shows-bytes x o n h =
       laid = λ r. let s = shows-text x (r .text) o (r .bytes) n h in rw (s .0, s .1);
     }
 
-some-inside : (x : List ℕ) (o n : ℕ) → isSome (span x o n) ≡ true → o + n ≤ length x
-some-inside x o n e = leb-true (o + n) (length x) (sym (span-is x o n) ∙ e)
-
 some-span : (o : Option (List ℕ)) → isSome (utf8 o) ≡ true → isSome o ≡ true
 unfolding utf8
 some-span none e = e
@@ -190,10 +187,10 @@ module _ (t x : List ℕ) (p : ℕ) (small : (i : ℕ) → getD t i 0 < 256) (s 
   by-kind stringKind b =
       shown stringKind b (Value.String Text.Literal (wordAt t (p + 3)) (wordAt t (p + 5))) (string (take (wordAt t (p + 5)) (drop (wordAt t (p + 3)) x)))
       (rw b) (o stringKind b .is)
-      (shows-string x (wordAt t (p + 3)) (wordAt t (p + 5)) (some-inside x (wordAt t (p + 3)) (wordAt t (p + 5)) (some-span _ (o stringKind b .fits))))
+      (shows-string x (wordAt t (p + 3)) (wordAt t (p + 5)) (span-inside x (wordAt t (p + 3)) (wordAt t (p + 5)) (some-span _ (o stringKind b .fits))))
   by-kind bytesKind b =
       shown bytesKind b (Value.Bytes Text.Literal (wordAt t (p + 3)) (wordAt t (p + 5))) (bytes (take (wordAt t (p + 5)) (drop (wordAt t (p + 3)) x))) (rw b)
-      (o bytesKind b .is) (shows-bytes x (wordAt t (p + 3)) (wordAt t (p + 5)) (some-inside x (wordAt t (p + 3)) (wordAt t (p + 5)) (o bytesKind b .fits)))
+      (o bytesKind b .is) (shows-bytes x (wordAt t (p + 3)) (wordAt t (p + 5)) (span-inside x (wordAt t (p + 3)) (wordAt t (p + 5)) (o bytesKind b .fits)))
   by-kind nameKind b = another (rw b) (rw (o nameKind b .is)) (rw (o nameKind b .is))
   by-kind unaryKind b = another (rw b) (rw (o unaryKind b .is)) (rw (o unaryKind b .is))
   by-kind binaryKind b = another (rw b) (rw (o binaryKind b .is)) (rw (o binaryKind b .is))

@@ -3,9 +3,8 @@ ghost use mathlib.Core.Path.{_≡_};
 ghost use Rattle.rooms.specs.Rooms.{rooms};
 ghost use Rattle.rooms.specs.Value.{partsOf};
 ghost use Rattle.machine.specs.Views.{optionalIn};
-ghost use Rattle.machine.specs.Selection.{lookUp, selectInContainer, selectInNone, selectInPresent, selectField};
+ghost use Rattle.machine.specs.Selection.{lookUp, selectInContainer, selectInNone, selectInPresent, selectPlain, selectField};
 ghost use Rattle.outcomes.specs.Gives.{Gives};
-ghost use Rattle.selection.specs.Selects.{selectPlainOut};
 use cells::cell_at;
 use lookedup::select_in_container;
 use lookedup::select_in_map;
@@ -111,7 +110,7 @@ fn select_in_present(
 
 // What has no parts: on none a select gives none and a test false; on anything else there is no overload.
 fn select_plain(test: bool, v: Value, at: usize, used: Used) -> Outcome
-    ensures { λ r. ⌜ r ≡ selectPlainOut at test used (optionalIn v) ⌝ }
+    ensures { λ r. ⌜ r ≡ selectPlain at test (optionalIn v) used ⌝ }
 {
     match optional_of(v) {
         Optional::Not => no_overload(at, used),

@@ -1,7 +1,7 @@
 -- Two words that are a value are the words that the value is written as. Assumes nothing.
 use Prim.Native.Nat.{ℕ, _-_, _/_, _%_, _^_, _<_, _≤_}
 use mathlib.Core.Path.{_≡_, refl, sym, ap, _∙_, subst}
-use mathlib.Core.Bool.{Bool, true, false, cond, true≢false}
+use mathlib.Core.Bool.{true, false, cond, true≢false}
 use native.Mathlib.Omega.{arith}
 use lib.Dec.{ltb, eqb}
 use borrow.Author.Tests.{ltb-false, eqb-true}
@@ -19,12 +19,8 @@ use Rattle.rooms.specs.declared.places.TextPlace.the-variants as TextPlace
 use Rattle.rooms.specs.declared.places.CellPlace.the-variants as CellPlace
 use Rattle.rooms.specs.Value.{doubleValue}
 use Rattle.rooms.specs.Cells.{wordOf, signedOf, textNumber, cellNumber, packed, headOf, payloadOf, textPlace, cellPlace, bareOf, textOf, containerOf, valueOf, cellOf}
+use Rattle.machine.proofs.AnyCells.{either}
 use Rattle.states.specs.ValueWords.{Written}
-
--- either way
-either : {A : Type 0} (P : A → Type 0) (b : Bool) {x y : A} → (b ≡ true → P x) → (b ≡ false → P y) → P (cond b x y)
-either P true h k = h refl
-either P false h k = k refl
 
 no-value : {h x : ℕ} → Written h x Value.Absent
 no-value = record { words = λ e. absurd (true≢false e) }

@@ -1,14 +1,11 @@
 -- The slots of bindings hold values that words can hold: those that a state stands for, and those that bringing in makes of them. Assumes nothing.
-use Prim.Native.Nat.{ℕ, zero, suc, _+_, _^_, _≤_, _<_}
+use Prim.Native.Nat.{ℕ, zero, suc, _+_, _≤_}
 use mathlib.Core.Path.{_≡_, refl}
 use mathlib.Core.Bool.{Bool, true, false, cond}
 use mathlib.Core.List.{List, [], _∷_}
 use native.Mathlib.Omega.{arith}
-use lib.IntN.{ℤ, pos, negsuc}
-use lib.Signed.{mag}
 use lib.ListN.{length, getD, set, replicate, length-set}
-use borrow.Author.Tests.{ltb-true}
-use Rattle.numbers.specs.Int.{inRange}
+use Rattle.numbers.proofs.IntLaws.{range-small}
 use Rattle.meaning.specs.Value.{Scalar, null, bool, int, uint, double, string, bytes}
 use Rattle.meaning.specs.Spelling.{Literal, scalarAt, listAt, mapAt, Literals, noLiterals, literals, LiteralPairs, noLiteralPairs, literalPairs, literalNesting}
 use Rattle.meaning.specs.Heads.{Got, got, refused}
@@ -85,15 +82,11 @@ state-slots w = by-state (isState w)
 
 -- ---- what is laid down
 
-int-small : (z : ℤ) → inRange z ≡ true → mag z < 2 ^ 63
-int-small (pos n) e = ltb-true n (2 ^ 63) e
-int-small (negsuc n) e = ltb-true n (2 ^ 63) e
-
 scalar-fits : (x : Scalar) (r : Room) → SoundScalar x → r .bytes + textBytes x ≤ 16384 → Cells.Fits (laidScalar x r .0)
 unfolding laidScalar textBytes
 scalar-fits null r s h = tt
 scalar-fits (bool b) r s h = tt
-scalar-fits (int z) r s h = int-small z s
+scalar-fits (int z) r s h = range-small z s
 scalar-fits (uint n) r s h = s
 scalar-fits (double d) r s h = bits-fit d s
 scalar-fits (string t) r s h = (omega (arith, h), omega (arith, h))

@@ -34,8 +34,7 @@ use Rattle.reasons.specs.Numbers.{errorMeant, limitMeant, limitNumber}
 use Rattle.answers.specs.declared.Answer.{Answer}
 use Rattle.answers.specs.declared.Answer.the-variants as Answer
 use Rattle.answers.specs.Evaluated.{evaluated}
-use Rattle.answers.specs.Meant.{Told, told, toldBy, countsIn, meant, Evaluates}
-use Rattle.carried.specs.HoldsScope.{lentBy}
+use Rattle.answers.specs.Meant.{lentBy, Told, told, toldBy, countsUsed, meant, Evaluates}
 use Rattle.carried.proofs.Carried.{meant-over}
 use Rattle.carried.proofs.FittingAnswers.{value-fits}
 use Rattle.carried.proofs.FormedAnswers.{says-formed}
@@ -85,7 +84,7 @@ module _ (left : Rooms) (answer : List ℕ) (long : 8 ≤ length answer) where
       let q : place ≡ p = cc in
       rw (le-ltb (length answer) 8 long) (refl, λ i. over (Report.refusal (n i) (q i)) answer)
   told-words (Answer.Value x u) (ran (Limited.value v c)) f e =
-      let d : countsIn u ≡ c = cc in
+      let d : countsUsed u ≡ c = cc in
       let r : reading left x ≡ some v = cc in
       rw (le-ltb (length answer) 8 long) (
         x,
@@ -94,12 +93,12 @@ module _ (left : Rooms) (answer : List ℕ) (long : 8 ≤ length answer) where
         ap (reading left) (read-back x (f x u refl)) ∙ settled-reading left x (f x u refl) ∙ r,
       )
   told-words (Answer.Error x place u) (ran (Limited.error v c)) f e =
-      let d : countsIn u ≡ c = cc in
+      let d : countsUsed u ≡ c = cc in
       let n : errorNumber (errorMeant x) ≡ errorNumber (v .error) = cc in
       let q : place ≡ v .place = cc in
       rw (le-ltb (length answer) 8 long) (refl, λ i. over (report whichError (n i) (q i) (usedOf (d i)) Value.Absent) answer)
   told-words (Answer.Exhausted x u) (ran (Limited.exhausted y c)) f e =
-      let d : countsIn u ≡ c = cc in
+      let d : countsUsed u ≡ c = cc in
       let n : limitMeant x ≡ y = cc in
       rw (le-ltb (length answer) 8 long) (refl, λ i. over (report whichExhausted (limitNumber (n i)) 0 (usedOf (d i)) Value.Absent) answer)
   told-words (Answer.Refused number place) (ran (Limited.value v c)) f e = let z : _≡_ {A = ℕ} 0 1 = cc in absurd (omega arith)

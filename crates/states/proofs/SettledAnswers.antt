@@ -22,6 +22,7 @@ use Rattle.building.specs.Building.{cellRoom, textRoom}
 use Rattle.soundness.specs.declared.Bindings.{Bindings}
 use Rattle.references.specs.Fits.{isAbsent}
 use Rattle.scalars.specs.Laying.{Room, room, laidScalar, laid}
+use Rattle.soundness.specs.Sound.{ifSound}
 use Rattle.admission.specs.Bringing as Bringing
 use Rattle.admission.specs.Bringing.{literalFor, after, outcomeOf}
 use Rattle.brought.specs.Brings.{StandsFor}
@@ -65,7 +66,7 @@ module _ (w t : List ℕ) (b : Bindings) (name : ℕ) (table literal : List ℕ)
   accepted-alike : Bringing.accepted w t (settledBindings b) name table literal ≡ Bringing.accepted w t b name table literal
   unfolding Bringing.accepted
   accepted-alike =
-      λ i. Bringing.ifSound (settled-sound w t b i)
+      λ i. ifSound (settled-sound w t b i)
       (_>>=_ (orRefuse WrongField start (nameOf name))
       (λ n. _>>_ (demand ((ap isAbsent (settled-slot b n) ∙ settled-absent (slotOf (b .scope) n)) i) NameBound start)
       (_>>=_ (readTable table literal) (λ e. literalFor (cellRoom w) (textRoom t) (b .cells) (b .bytes) e))))
@@ -101,7 +102,7 @@ module _ (w t : List ℕ) (b : Bindings) (name : ℕ) (table literal : List ℕ)
 module _ (table : List ℕ) (b : Bindings) (fit : (n : ℕ) → Fits (slotOf (b .scope) n)) (steps : ℕ) (lent : Rooms) where
   accepted-too : Evaluated.accepted table (settledBindings b) steps lent ≡ Evaluated.accepted table b steps lent
   unfolding Evaluated.accepted
-  accepted-too = λ i. _>>=_ (readTable table (lent .literal)) (λ e. Evaluated.ifSound (settled-sound (lent .bindingCells) (lent .bindingText) b i) e)
+  accepted-too = λ i. _>>=_ (readTable table (lent .literal)) (λ e. ifSound (settled-sound (lent .bindingCells) (lent .bindingText) b i) (got e))
 
   -- Evaluating over settled bindings: the definition's answer is the one over the bindings themselves.
   pub settled-meant : meant table (settledBindings b) steps lent ≡ meant table b steps lent

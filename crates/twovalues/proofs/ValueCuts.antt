@@ -9,12 +9,11 @@ use Rattle.rooms.specs.declared.value.Value.{Value}
 use Rattle.rooms.specs.Rooms.{Rooms}
 use Rattle.machine.specs.declared.outcome.Used.{Used}
 use Rattle.machine.specs.declared.outcome.Outcome.{Outcome}
-use Rattle.machine.specs.Machine.{both, rightOf}
+use Rattle.machine.specs.Machine.{both, valuesOut, rightOf}
 use Rattle.outcomes.specs.declared.operators.Binary.{Binary as Operator}
 use Rattle.outcomes.specs.declared.operators.Binary.the-variants as Operator
 use Rattle.outcomes.proofs.operators.Binary.{the-type}
 use Rattle.outcomes.specs.Seen.{binarySeen}
-use Rattle.twovalues.specs.Values.{valuesOut}
 
 abbrev OfValues : Binary → Type 0
 OfValues (logic f) = ⊥

@@ -1,9 +1,8 @@
 // A binary operator on what its operands came to. Logic decides from two outcomes, any other operator from two values.
 ghost use Rattle.rooms.specs.Rooms.{rooms};
-ghost use Rattle.machine.specs.Machine.{both, rightOf};
+ghost use Rattle.machine.specs.Machine.{both, valuesOut, rightOf};
 ghost use Rattle.outcomes.specs.Gives.{Gives};
 ghost use Rattle.outcomes.specs.Seen.{binarySeen};
-ghost use Rattle.twovalues.specs.Values.{valuesOut};
 use arithmetic::operations::arithmetic;
 use comparison::compare;
 use comparison::equals;

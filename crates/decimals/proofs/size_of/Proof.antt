@@ -3,13 +3,13 @@ use mathlib.Core.Path.{_≡_, sym, ap, _∙_}
 use mathlib.Core.Bool.{true}
 use native.Mathlib.Omega.{arith}
 use Prim.Native.Nat.{_+_}
-use lib.IntN.{ℤ, pos, negℤ, sucℤ, natAbs, _+ℤ_, _-ℤ_, +ℤ-one, +ℤ-idl}
-use lib.Signed.{mag, ltZ}
+use lib.IntN.{ℤ, pos, sucℤ, natAbs, +ℤ-one, +ℤ-idl}
+use lib.Signed.{ltZ}
 use mir.Syntax.{w64}
-use mir.Val.{SFits, toZ, ofZ}
-use mir.ValLaws.{toZ-ofZ, toZ-pos}
+use mir.Val.{SFits}
+use mir.ValLaws.{toZ-ofZ}
 use borrow.Author.Needs.{needs, sfits-of}
-use Rattle.numbers.proofs.IntMag.{suc-in, flip-is, abs-negative, is-positive, abs-le}
+use Rattle.numbers.proofs.IntMag.{suc-in, flip-is, flipped, abs-negative, is-positive, abs-le}
 use Rattle.decimals.proofs.size_of.Statement.{statement}
 use Rattle.decimals.proofs.size_of.Tie as tie
 
@@ -24,9 +24,6 @@ add-result c = simp (toZ-ofZ w64 (c .before .args .number) (c .before .fits .num
 
 sub-result : tie.Need-sub-result
 sub-result c = simp (toZ-ofZ w64 (c .before .args .number) (c .before .fits .number), +ℤ-one, toZ-ofZ w64 (sucℤ (c .before .args .number)) (next c), +ℤ-idl, flip-is (c .before .args .number) (below c)) (sfits-of (c .before .fits .number .sfits))
-
-flipped : (a : ℤ) → SFits w64 a → SFits w64 (sucℤ a) → ltZ a (pos 0) ≡ true → toZ w64 (ofZ w64 (pos 0 -ℤ toZ w64 (ofZ w64 (toZ w64 (ofZ w64 a) +ℤ pos 1)))) ≡ pos (mag a)
-flipped a h n t = rw (toZ-ofZ w64 a h, +ℤ-one a, toZ-ofZ w64 (sucℤ a) n, +ℤ-idl (negℤ (sucℤ a)), flip-is a t) (toZ-pos w64 (mag a) (h .sfits))
 
 cast-result : tie.Need-cast-result
 cast-result c = rw (flipped (c .before .args .number) (c .before .fits .number) (next c) (below c)) (tt, record { fits = omega (arith, c .before .fits .number .sfits) })

@@ -1,7 +1,7 @@
 -- `heads::operand_count` meets its contract, kind by kind. Assumes nothing.
 use native.Mathlib.Omega.{arith}
 use Rattle.meaning.specs.Kinds.{kinds}
-use Rattle.meaning.specs.Heads.{fieldBytes, bytesOf, numbersAt}
+use Rattle.meaning.specs.Heads.{fieldBytes, fieldsBytes, numbersAt}
 use Rattle.layout.specs.Layout.{rowOf, wordAt}
 use Rattle.heads.specs.Shapes.{numbersOf, countOf}
 use Rattle.layout.proofs.KindLaws.{head-is}
@@ -36,43 +36,43 @@ function-operands-requires : tie.Need-function-operands-requires
 function-operands-requires c κs = search needs
 
 returns : tie.Need-returns
-unfolding rowOf kinds countOf numbersOf numbersAt fieldBytes bytesOf wordAt
+unfolding rowOf kinds countOf numbersOf numbersAt fieldBytes fieldsBytes wordAt
 returns c = rw (c .match .keys1)
 
 returns-2 : tie.Need-returns-2
-unfolding rowOf kinds countOf numbersOf numbersAt fieldBytes bytesOf wordAt
+unfolding rowOf kinds countOf numbersOf numbersAt fieldBytes fieldsBytes wordAt
 returns-2 c = rw (c .match .keys2)
 
 returns-3 : tie.Need-returns-3
-unfolding rowOf kinds countOf numbersOf numbersAt fieldBytes bytesOf wordAt
+unfolding rowOf kinds countOf numbersOf numbersAt fieldBytes fieldsBytes wordAt
 returns-3 c = rw (c .match .keys3)
 
 returns-4 : tie.Need-returns-4
-unfolding rowOf kinds countOf numbersOf numbersAt fieldBytes bytesOf wordAt
+unfolding rowOf kinds countOf numbersOf numbersAt fieldBytes fieldsBytes wordAt
 returns-4 c = rw (c .match .keys4)
 
 returns-5 : tie.Need-returns-5
-unfolding rowOf kinds countOf numbersOf numbersAt fieldBytes bytesOf wordAt
+unfolding rowOf kinds countOf numbersOf numbersAt fieldBytes fieldsBytes wordAt
 returns-5 c = rw (c .before .match .keys5) (c .word-at .ensures .0)
 
 returns-6 : tie.Need-returns-6
-unfolding rowOf kinds countOf numbersOf numbersAt fieldBytes bytesOf wordAt
+unfolding rowOf kinds countOf numbersOf numbersAt fieldBytes fieldsBytes wordAt
 returns-6 c = rw (c .before .match .keys6, c .word-at2 .ensures .0)
 
 returns-7 : tie.Need-returns-7
-unfolding rowOf kinds countOf numbersOf numbersAt fieldBytes bytesOf wordAt
+unfolding rowOf kinds countOf numbersOf numbersAt fieldBytes fieldsBytes wordAt
 returns-7 c = rw (c .match .keys7)
 
 returns-8 : tie.Need-returns-8
-unfolding rowOf kinds countOf numbersOf numbersAt fieldBytes bytesOf wordAt
+unfolding rowOf kinds countOf numbersOf numbersAt fieldBytes fieldsBytes wordAt
 returns-8 c = rw (c .match .keys8)
 
 returns-9 : tie.Need-returns-9
-unfolding rowOf kinds countOf numbersOf numbersAt fieldBytes bytesOf wordAt
+unfolding rowOf kinds countOf numbersOf numbersAt fieldBytes fieldsBytes wordAt
 returns-9 c = rw (c .before .before .match .keys9, byte-is) (c .function-operands .ensures)
 
 returns-10 : tie.Need-returns-10
-unfolding rowOf kinds countOf numbersOf numbersAt fieldBytes bytesOf wordAt
+unfolding rowOf kinds countOf numbersOf numbersAt fieldBytes fieldsBytes wordAt
 returns-10 c =
     let a = c .before .before .args in
     let n = c .match .rest in

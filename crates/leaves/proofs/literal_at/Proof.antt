@@ -1,12 +1,11 @@
 -- `leaves::literal_at` meets its contract. Assumes nothing.
-use Prim.Native.Nat.{_+_}
 use mathlib.Core.Path.{_≡_, _∙_}
 use mir.Syntax.{w64}
 use mir.ValLaws.{toZ-ofZ}
 use borrow.Author.Needs.{sfits-of, needs}
 use Rattle.meaning.specs.Kinds.{nullKind, boolKind, intKind, uintKind, doubleKind, stringKind, bytesKind}
 use Rattle.accepted.proofs.Opened.{opened}
-use Rattle.leaves.proofs.Leaves.{same-word, only-null}
+use Rattle.leaves.proofs.Leaves.{only-null}
 use Rattle.leaves.proofs.literal_at.Statement.{statement}
 use Rattle.leaves.proofs.literal_at.Tie as tie
 
@@ -44,10 +43,10 @@ returns-4 : tie.Need-returns-4
 returns-4 c = rw (opened (c .before .before .before .before .before .args .table .now) (c .before .before .before .before .before .args .literal .now) (c .before .before .before .before .before .args .at) doubleKind (c .before .before .before .before .before .pre .1 ∙ c .before .before .match .keys4) (c .before .before .before .before .before .pre .0) .is, c .double-value .ensures, c .before .bits-at2 .ensures)
 
 returns-5 : tie.Need-returns-5
-returns-5 c = rw (opened (c .before .before .before .before .args .table .now) (c .before .before .before .before .args .literal .now) (c .before .before .before .before .args .at) stringKind (c .before .before .before .before .pre .1 ∙ c .before .match .keys5) (c .before .before .before .before .pre .0) .is, c .string-at .ensures, same-word (c .before .before .before .before .args .table .now) (c .before .before .before .before .args .at + 3), same-word (c .before .before .before .before .args .table .now) (c .before .before .before .before .args .at + 5))
+returns-5 c = rw (opened (c .before .before .before .before .args .table .now) (c .before .before .before .before .args .literal .now) (c .before .before .before .before .args .at) stringKind (c .before .before .before .before .pre .1 ∙ c .before .match .keys5) (c .before .before .before .before .pre .0) .is, c .string-at .ensures)
 
 returns-6 : tie.Need-returns-6
-returns-6 c = rw (opened (c .before .before .before .before .args .table .now) (c .before .before .before .before .args .literal .now) (c .before .before .before .before .args .at) bytesKind (c .before .before .before .before .pre .1 ∙ c .before .match .keys6) (c .before .before .before .before .pre .0) .is, c .bytes-at .ensures, same-word (c .before .before .before .before .args .table .now) (c .before .before .before .before .args .at + 3), same-word (c .before .before .before .before .args .table .now) (c .before .before .before .before .args .at + 5))
+returns-6 c = rw (opened (c .before .before .before .before .args .table .now) (c .before .before .before .before .args .literal .now) (c .before .before .before .before .args .at) bytesKind (c .before .before .before .before .pre .1 ∙ c .before .match .keys6) (c .before .before .before .before .pre .0) .is, c .bytes-at .ensures)
 
 returns-7 : tie.Need-returns-7
 returns-7 c = let n = c .match .rest in let z : c .before .before .before .args .kind ≡ 0 = only-null (c .before .before .before .args .kind) (c .before .before .before .pre .2) (n .0 .0 .0 .0 .0 .1) (n .0 .0 .0 .0 .1) (n .0 .0 .0 .1) (n .0 .0 .1) (n .0 .1) (n .1) in rw (opened (c .before .before .before .args .table .now) (c .before .before .before .args .literal .now) (c .before .before .before .args .at) nullKind (c .before .before .before .pre .1 ∙ z) (c .before .before .before .pre .0) .is)

@@ -2,7 +2,7 @@
 use Prim.Native.Nat.{_+_}
 use native.Mathlib.Omega.{arith}
 use borrow.Author.Needs.{needs}
-use Rattle.leaves.proofs.Leaves.{word-fits, same-word}
+use Rattle.leaves.proofs.Leaves.{word-fits}
 use Rattle.nodes.proofs.field_value.Statement.{statement}
 use Rattle.nodes.proofs.field_value.Tie as tie
 
@@ -16,7 +16,7 @@ cast-t6 : tie.Need-cast-t6
 cast-t6 c = record { fits = word-fits (c .before .before .before .before .args .table .now) (λ i. omega (arith, c .before .before .before .shared-slice-known .given i)) (c .before .before .before .before .args .at + 6) (c .before .before .field-at .ensures .1) }
 
 returns : tie.Need-returns
-returns c = rw (c .before .before .field-at .ensures .0, c .before .before .field-at .ensures .1, same-word (c .before .before .before .before .args .table .now) (c .before .before .before .before .args .at + 4), same-word (c .before .before .before .before .args .table .now) (c .before .before .before .before .args .at + 6))
+returns c = rw (c .before .before .field-at .ensures .0, c .before .before .field-at .ensures .1)
 
 pub field-value-spec : {M : Type 1} → statement M
 field-value-spec = tie.close (tie.spec field-at-requires cast-t5 cast-t6 returns)

@@ -6,8 +6,8 @@ use lib.IntN.{pos, negℤ, +ℤ-idl, -ℤ-one}
 use mir.Syntax.{w64}
 use mir.ValLaws.{toZ-pos}
 use borrow.Author.Needs.{needs, sfits-of}
-use Rattle.numbers.proofs.IntMag.{pred-neg, neg-in}
-use Rattle.rooms.proofs.Words.{minus, below-zero, signed-below, signed-above}
+use Rattle.numbers.proofs.IntMag.{pred-neg, neg-in, minus}
+use Rattle.rooms.proofs.Words.{below-zero, signed-below, signed-above}
 use borrow.Author.Needs.{needs}
 use Rattle.packing.proofs.signed_of.Statement.{statement}
 use Rattle.packing.proofs.signed_of.Tie as tie

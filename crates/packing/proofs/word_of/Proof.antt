@@ -9,8 +9,8 @@ use mir.Syntax.{w64}
 use mir.Val.{SFits}
 use mir.ValLaws.{toZ-ofZ}
 use borrow.Author.Needs.{sfits-of}
-use Rattle.numbers.proofs.IntMag.{suc-in, flip-is, is-positive, abs-le}
-use Rattle.rooms.proofs.Words.{flipped, word-negative, word-positive}
+use Rattle.numbers.proofs.IntMag.{suc-in, flip-is, flipped, is-positive, abs-le}
+use Rattle.rooms.proofs.Words.{word-negative, word-positive}
 use Rattle.packing.proofs.word_of.Statement.{statement}
 use Rattle.packing.proofs.word_of.Tie as tie
 

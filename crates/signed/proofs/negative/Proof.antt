@@ -8,12 +8,9 @@ use mir.Val.{toZ, ofZ}
 use mir.ValLaws.{toZ-pos, toZ-ofZ}
 use borrow.Author.Needs.{needs, sfits-of}
 use Rattle.numbers.proofs.IntLaws.{answer-in, answer-out}
-use Rattle.numbers.proofs.IntMag.{pred-neg, neg-in, neg-suc}
+use Rattle.numbers.proofs.IntMag.{pred-neg, neg-in, minus, neg-suc}
 use Rattle.signed.proofs.negative.Statement.{statement}
 use Rattle.signed.proofs.negative.Tie as tie
-
-minus : (k : ℕ) → k < 2 ^ 63 → toZ w64 (ofZ w64 (pos 0 -ℤ toZ w64 k)) ≡ negℤ (pos k)
-minus k h = rw (toZ-pos w64 k h, +ℤ-idl (negℤ (pos k))) (toZ-ofZ w64 (negℤ (pos k)) (neg-in k h))
 
 overflow-requires : tie.Need-overflow-requires
 overflow-requires c κs = search needs

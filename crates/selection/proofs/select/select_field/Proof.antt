@@ -6,8 +6,6 @@ use Rattle.rooms.specs.Rooms.{rooms}
 use Rattle.machine.specs.Outcomes.{Res}
 use Rattle.machine.specs.declared.outcome.Outcome.{Outcome}
 use Rattle.machine.specs.Selection.{selectParts, selectInMap}
-use Rattle.machine.specs.Views.{optionalIn}
-use Rattle.selection.proofs.Selects.{plain-select}
 use Rattle.selection.proofs.select.select_field.Statement.{statement}
 use Rattle.selection.proofs.select.select_field.Tie as tie
 
@@ -67,7 +65,7 @@ returns-3 c = simp (← c .before .before .before .before .before .before .befor
 
 returns-4 : tie.Need-returns-4
 unfolding cellAt
-returns-4 c = let f : Outcome → Res = λ o. (o, (rooms (c .before .before .before .before .before .before .before .before .before .args .literal .now) (c .before .before .before .before .before .before .before .before .before .args .binding-cells .now) (c .before .before .before .before .before .before .before .before .before .args .binding-text .now) (c .before .before .before .before .before .before .before .before .before .args .cells .now) (c .before .before .before .before .before .before .before .before .before .args .text .now))) in ap f (c .select-plain .ensures) ∙ plain-select (c .before .before .before .before .before .before .before .before .before .args .limit) (c .before .before .before .before .before .before .before .before .before .args .at) (c .before .before .before .before .before .before .before .before .before .args .test) (c .before .before .before .before .before .before .before .before .before .args .field) (optionalIn (c .before .before .before .before .before .before .before .before .before .args .container)) (c .before .before .before .before .before .before .before .before .before .args .used) (rooms (c .before .before .before .before .before .before .before .before .before .args .literal .now) (c .before .before .before .before .before .before .before .before .before .args .binding-cells .now) (c .before .before .before .before .before .before .before .before .before .args .binding-text .now) (c .before .before .before .before .before .before .before .before .before .args .cells .now) (c .before .before .before .before .before .before .before .before .before .args .text .now)) ∙ ap (λ q. selectParts (c .before .before .before .before .before .before .before .before .before .args .limit) (c .before .before .before .before .before .before .before .before .before .args .at) (c .before .before .before .before .before .before .before .before .before .args .test) (c .before .before .before .before .before .before .before .before .before .args .field) (c .before .before .before .before .before .before .before .before .before .args .container) q (c .before .before .before .before .before .before .before .before .before .args .used) (rooms (c .before .before .before .before .before .before .before .before .before .args .literal .now) (c .before .before .before .before .before .before .before .before .before .args .binding-cells .now) (c .before .before .before .before .before .before .before .before .before .args .binding-text .now) (c .before .before .before .before .before .before .before .before .before .args .cells .now) (c .before .before .before .before .before .before .before .before .before .args .text .now))) (sym (c .before .enum-told3 .given .1) ∙ c .before .before .before .parts-of .ensures)
+returns-4 c = let f : Outcome → Res = λ o. (o, (rooms (c .before .before .before .before .before .before .before .before .before .args .literal .now) (c .before .before .before .before .before .before .before .before .before .args .binding-cells .now) (c .before .before .before .before .before .before .before .before .before .args .binding-text .now) (c .before .before .before .before .before .before .before .before .before .args .cells .now) (c .before .before .before .before .before .before .before .before .before .args .text .now))) in ap f (c .select-plain .ensures) ∙ ap (λ q. selectParts (c .before .before .before .before .before .before .before .before .before .args .limit) (c .before .before .before .before .before .before .before .before .before .args .at) (c .before .before .before .before .before .before .before .before .before .args .test) (c .before .before .before .before .before .before .before .before .before .args .field) (c .before .before .before .before .before .before .before .before .before .args .container) q (c .before .before .before .before .before .before .before .before .before .args .used) (rooms (c .before .before .before .before .before .before .before .before .before .args .literal .now) (c .before .before .before .before .before .before .before .before .before .args .binding-cells .now) (c .before .before .before .before .before .before .before .before .before .args .binding-text .now) (c .before .before .before .before .before .before .before .before .before .args .cells .now) (c .before .before .before .before .before .before .before .before .before .args .text .now))) (sym (c .before .enum-told3 .given .1) ∙ c .before .before .before .parts-of .ensures)
 
 pub select-field-spec : {M : Type 1} → statement M
 select-field-spec =
