@@ -3,6 +3,7 @@ use crate::digest;
 use admission::Answer;
 use cells::write_cell;
 use libc::STDOUT_FILENO;
+use rooms::scope::NAMES;
 use rooms::scope::Scope;
 use rooms::value::Value;
 use soundness::Bindings;
@@ -44,7 +45,7 @@ fn slot_digest(sum: u64, value: Value) -> u64 {
 fn slots_digest(scope: Scope) -> u64 {
     let mut sum = 0;
     let mut at = 0;
-    while at < 128 {
+    while at < NAMES {
         sum = slot_digest(sum, Scope::value_of(scope, at));
         at += 1;
     }

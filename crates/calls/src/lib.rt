@@ -6,7 +6,8 @@ use machine::outcome::Outcome;
 use machine::outcome::Used;
 use outcomes::outcomes::no_overload;
 use rooms::value::Value;
-use spans::part_points;
+use sizes::Size;
+use sizes::size_in;
 
 pub fn size(
     literal: &[u8],
@@ -18,22 +19,8 @@ pub fn size(
 ) -> Outcome
     ensures { λ r. ⌜ r ≡ sizeOut at used (sizeOf (now (literal .entry)) (now («binding_text» .entry)) (now (text .entry)) v) ⌝ }
 {
-    match v {
-        Value::Null => no_overload(at, used),
-        Value::Bool(_) => no_overload(at, used),
-        Value::Int(_) => no_overload(at, used),
-        Value::Uint(_) => no_overload(at, used),
-        Value::Double(_) => no_overload(at, used),
-        Value::Nan(_) => no_overload(at, used),
-        Value::String(space, first, length) => {
-            let points = part_points(literal, binding_text, text, space, first, length);
-            Outcome::Value(Value::Int(points as i64), used)
-        }
-        Value::Bytes(_, _, length) => Outcome::Value(Value::Int(length as i64), used),
-        Value::List(_, _, _, length) => Outcome::Value(Value::Int(length as i64), used),
-        Value::Map(_, _, _, length) => Outcome::Value(Value::Int(length as i64), used),
-        Value::OptionalNone => no_overload(at, used),
-        Value::OptionalOf(_, _, _) => no_overload(at, used),
-        Value::Absent => no_overload(at, used),
+    match size_in(literal, binding_text, text, v) {
+        Size::Is(count) => Outcome::Value(Value::Int(count as i64), used),
+        Size::Unsized => no_overload(at, used),
     }
 }

@@ -1,8 +1,7 @@
 -- Equality of scalars, as the code decides it, is the definition's. Assumes nothing.
 use Prim.Native.Nat.{ℕ}
-use mathlib.Core.Path.{_≡_, refl, sym, ap, _∙_, subst}
-use mathlib.Core.Logic.{_↔_}
-use mathlib.Core.Bool.{Bool, true, false, not, cond, true≢false}
+use mathlib.Core.Path.{_≡_, refl, sym, ap}
+use mathlib.Core.Bool.{Bool, true, false, not, cond}
 use mathlib.Core.List.{List}
 use native.Mathlib.Omega.{arith}
 use lib.Dec.{eqb}
@@ -10,13 +9,11 @@ use Rattle.numbers.specs.declared.order.Order.{Order}
 use Rattle.numbers.specs.declared.order.Order.the-variants as Order
 use Rattle.numbers.specs.declared.order.Number.{Number}
 use Rattle.numbers.specs.declared.order.Number.the-variants as Number
-use Rattle.numbers.specs.Double.{Point, pointOf, bitsOf}
 use Rattle.numbers.specs.Order.{orderOf, isEqual, numberPoint}
 use Rattle.points.proofs.WholeLaws.{int-uint-equal, uint-less, uint-greater}
-use Rattle.text.specs.declared.bytes.TextOrder.{TextOrder}
 use Rattle.text.specs.declared.bytes.TextOrder.the-variants as TextOrder
 use Rattle.text.specs.Bytes as Bytes
-use Rattle.meaning.specs.Value.{Scalar, null, bool, int, uint, double, string, bytes}
+use Rattle.meaning.specs.Value.{Scalar, null, bool, string, bytes}
 use Rattle.meaning.specs.Comparison.{rank, textOrder, thenText, rankOrder, sameClass, scalarEqual}
 use Rattle.comparing.specs.Seen.{numberScalar}
 

@@ -1,6 +1,7 @@
 // Parts of a value are copied to where room was taken for them.
 ghost use mathlib.Core.Path.{_≡_};
 ghost use mathlib.Core.Bool.{cond};
+ghost use Prim.Native.Nat.{_<_, _^_};
 ghost use lib.ListN.{length, getD, set};
 ghost use Rattle.rooms.specs.declared.value.TextSpace.the-variants.{Literal};
 ghost use Rattle.rooms.specs.Rooms.{textOf};
@@ -17,12 +18,13 @@ pub fn copy_cells(
     space: CellSpace,
     first: u16,
     length: u16,
-    to: u16,
+    to: usize,
 )
+    requires { ⌜ to < 2 ^ 48 ⌝ }
     ensures { λ _. ⌜ now (cells .exit) ≡ copied (now («binding_cells» .entry)) space (now (cells .entry)) first to length ⌝ }
 {
     let mut at = first as usize;
-    let mut place = to as usize;
+    let mut place = to;
     let mut left = length as usize;
     while 0 < left {
         let value = cell_at(binding_cells, cells, space, at);

@@ -10,7 +10,6 @@ use lib.Dec.{eqb}
 use lib.ListN.{length, getD}
 use Rattle.meaning.specs.Expr as Expr
 use Rattle.meaning.specs.Kinds.{unaryKind, selectKind, functionKind, Called, toOne, toNone, toTwo, numbered, functions}
-use Rattle.rooms.specs.declared.value.Value.{Value}
 use Rattle.rooms.specs.declared.scope.Scope.{Scope}
 use Rattle.rooms.specs.Rooms.{Rooms}
 use Rattle.layout.specs.Layout.{headBytes, wordAt, after}
@@ -38,7 +37,6 @@ use Rattle.following.specs.declared.Fixed.the-variants as Fixed
 use Rattle.following.specs.declared.Next.{Next}
 use Rattle.following.specs.declared.Next.the-variants as Next
 use Rattle.following.specs.Joins.{goNext, askNext, valueNext, joinOf}
-use Rattle.forms.specs.declared.Shape.{Shape}
 use Rattle.forms.specs.declared.Shape.the-variants as Shape
 use Rattle.forms.specs.Records.{unaryShape, binaryShape, functionShape, shapeOf, firstAt, nextOf}
 use Rattle.forms.proofs.ShapeLaws.{unary-back, binary-back, function-back, shape-byte}

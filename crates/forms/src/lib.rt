@@ -5,14 +5,37 @@ ghost use Rattle.outcomes.specs.Seen.{unarySeen, binarySeen};
 ghost use Rattle.forms.specs.Records.{callShape, shapeOf, firstAt};
 use bodies::number_at;
 use following::Fixed;
+use layout::kinds::ADD;
+use layout::kinds::AND;
 use layout::kinds::BINARY;
 use layout::kinds::COMPREHENSION;
 use layout::kinds::CONDITIONAL;
+use layout::kinds::DIVIDE;
 use layout::kinds::FUNCTION;
+use layout::kinds::GREATER;
+use layout::kinds::GREATER_EQUALS;
+use layout::kinds::HAS_VALUE;
+use layout::kinds::IN;
+use layout::kinds::INDEX;
+use layout::kinds::LESS;
+use layout::kinds::LESS_EQUALS;
 use layout::kinds::LIST;
 use layout::kinds::MAP;
+use layout::kinds::MULTIPLY;
+use layout::kinds::NEGATE;
+use layout::kinds::NOT_EQUALS;
+use layout::kinds::NOT_STRICTLY_FALSE;
+use layout::kinds::OPTIONAL_INDEX;
+use layout::kinds::OPTIONAL_OF;
+use layout::kinds::OPTIONAL_SELECT;
+use layout::kinds::OR;
+use layout::kinds::OR_VALUE;
+use layout::kinds::REMAINDER;
 use layout::kinds::SELECT;
+use layout::kinds::SIZE;
+use layout::kinds::SUBTRACT;
 use layout::kinds::UNARY;
+use layout::kinds::VALUE;
 use outcomes::operators::Arith;
 use outcomes::operators::Binary;
 use outcomes::operators::Comparison;
@@ -28,8 +51,8 @@ pub fn unary_of(number: u8) -> Unary
     ensures { λ r. ⌜ unarySeen r ≡ unaryOf number ⌝ }
 {
     match number {
-        2 => Unary::Negate,
-        3 => Unary::NotStrictlyFalse,
+        NEGATE => Unary::Negate,
+        NOT_STRICTLY_FALSE => Unary::NotStrictlyFalse,
         _ => Unary::Not,
     }
 }
@@ -38,22 +61,22 @@ pub fn binary_of(number: u8) -> Binary
     ensures { λ r. ⌜ binarySeen r ≡ binaryOf number ⌝ }
 {
     match number {
-        1 => Binary::Logic(Fold::Or),
-        2 => Binary::Logic(Fold::And),
-        4 => Binary::NotEquals,
-        5 => Binary::Index,
-        6 => Binary::OptionalIndex,
-        7 => Binary::OptionalSelect,
-        8 => Binary::Arithmetic(Arith::Add),
-        9 => Binary::Arithmetic(Arith::Subtract),
-        10 => Binary::Arithmetic(Arith::Divide),
-        11 => Binary::Arithmetic(Arith::Multiply),
-        12 => Binary::Arithmetic(Arith::Remainder),
-        13 => Binary::Order(Comparison::Less),
-        14 => Binary::Order(Comparison::LessEquals),
-        15 => Binary::Order(Comparison::Greater),
-        16 => Binary::Order(Comparison::GreaterEquals),
-        17 => Binary::In,
+        OR => Binary::Logic(Fold::Or),
+        AND => Binary::Logic(Fold::And),
+        NOT_EQUALS => Binary::NotEquals,
+        INDEX => Binary::Index,
+        OPTIONAL_INDEX => Binary::OptionalIndex,
+        OPTIONAL_SELECT => Binary::OptionalSelect,
+        ADD => Binary::Arithmetic(Arith::Add),
+        SUBTRACT => Binary::Arithmetic(Arith::Subtract),
+        DIVIDE => Binary::Arithmetic(Arith::Divide),
+        MULTIPLY => Binary::Arithmetic(Arith::Multiply),
+        REMAINDER => Binary::Arithmetic(Arith::Remainder),
+        LESS => Binary::Order(Comparison::Less),
+        LESS_EQUALS => Binary::Order(Comparison::LessEquals),
+        GREATER => Binary::Order(Comparison::Greater),
+        GREATER_EQUALS => Binary::Order(Comparison::GreaterEquals),
+        IN => Binary::In,
         _ => Binary::Equals,
     }
 }
@@ -77,11 +100,11 @@ fn call_shape(number: u8) -> Shape
     ensures { λ r. ⌜ r ≡ callShape number ⌝ }
 {
     match number {
-        1 => Shape::Operands(Fixed::Call(Function::Size)),
-        2 => Shape::Operands(Fixed::Call(Function::Of)),
-        4 => Shape::Operands(Fixed::Call(Function::HasValue)),
-        5 => Shape::Operands(Fixed::Call(Function::Value)),
-        6 => Shape::Operands(Fixed::OrValue),
+        SIZE => Shape::Operands(Fixed::Call(Function::Size)),
+        OPTIONAL_OF => Shape::Operands(Fixed::Call(Function::Of)),
+        HAS_VALUE => Shape::Operands(Fixed::Call(Function::HasValue)),
+        VALUE => Shape::Operands(Fixed::Call(Function::Value)),
+        OR_VALUE => Shape::Operands(Fixed::OrValue),
         _ => Shape::None,
     }
 }

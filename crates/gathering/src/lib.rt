@@ -37,7 +37,7 @@ fn gather_elements(
         return Gather::Ends(out_of_cells(used));
     };
     let to = base as u16;
-    copy_cells(binding_cells, cells, space, first, length, to);
+    copy_cells(binding_cells, cells, space, first, length, base);
     Gather::Run(to, length, nesting, with_cells(used, end))
 }
 

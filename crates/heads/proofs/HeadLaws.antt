@@ -2,19 +2,17 @@
 use mathlib.Core.Path.{_≡_, refl, ap, sym}
 use mathlib.Core.Bool.{Bool, true, false, false≢true, _&&_}
 use mathlib.Core.List.{List, [], _∷_}
-use Prim.Native.Nat.{ℕ, _+_, _*_, _<_, _≤_}
+use Prim.Native.Nat.{ℕ, _+_, _<_, _≤_}
 use native.Mathlib.Omega.{arith}
 use native.Mathlib.Nat.{le-trans}
-use native.Mathlib.Numerals.{add-one}
 use lib.Dec.{eqb, leb, ltb}
 use lib.ListN.{length, getD}
 use borrow.Author.Tests.{le-leb, lt-leb, eqb-true, eqb-false, leb-true, ltb-true, ltb-false}
 use Rattle.meaning.specs.Errors.{Refusal, WrongExtent, UnknownKind, refusalNumber}
 use Rattle.meaning.specs.Kinds.{byte, word, markRow, kinds}
-use Rattle.meaning.specs.Heads.{got, refused, _>>=_, _>>_, demand, orRefuse, first, fieldsBytes, fieldBytes, littleEndian, numbersAt, rowAt, extentFits, headAt}
+use Rattle.meaning.specs.Heads.{got, refused, _>>=_, _>>_, demand, orRefuse, first, fieldsBytes, fieldBytes, numbersAt, rowAt, extentFits, headAt}
 use Rattle.meaning.specs.Heads as heads
 use Rattle.meaning.specs.Table.{wordBytes}
-use Rattle.heads.specs.declared.Head.{Head}
 use Rattle.heads.specs.declared.Head.the-variants.{Whole, Refused}
 use Rattle.layout.specs.Layout.{rowOf, headBytes, wordAt}
 use Rattle.heads.specs.Shapes.{numbersOf, countOf, fitsExtent, headOf}

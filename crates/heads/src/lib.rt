@@ -18,7 +18,7 @@ use layout::kinds::KINDS;
 use layout::kinds::LIST;
 use layout::kinds::MAP;
 use layout::kinds::MARK;
-use layout::kinds::NONE_CALL;
+use layout::kinds::OPTIONAL_NONE;
 use layout::kinds::OR_VALUE;
 use layout::kinds::SELECT;
 use layout::kinds::UNARY;
@@ -31,7 +31,7 @@ fn function_operands(number: u8) -> usize
     ensures { λ r. ⌜ r ≡ calledCount (numbered functions number) ⌝ }
 {
     match number {
-        NONE_CALL => 0,
+        OPTIONAL_NONE => 0,
         OR_VALUE => 2,
         _ => 1,
     }

@@ -2,6 +2,7 @@
 use Prim.Native.Nat.{ℕ, zero, suc, _<_}
 use mathlib.Core.List.{List, [], _∷_}
 use mathlib.Core.Option.{Option, none, some}
+use Rattle.meaning.specs.Limits.{names}
 use Rattle.meaning.specs.Value as Meaning
 use Rattle.meaning.specs.Comprehension as Loops
 use Rattle.meaning.specs.Bindings.{BindingRoom}
@@ -31,7 +32,7 @@ boundFrom s n zero = []
 boundFrom s n (suc count) = alsoBound n (s n) (boundFrom s (suc n) count)
 
 unfoldable pub roomOf : (words text : List ℕ) → Bindings → BindingRoom
-roomOf w t b = record { bound = boundFrom (heldScope w t b) 0 128; usedCells = b .cells; usedBytes = b .bytes }
+roomOf w t b = record { bound = boundFrom (heldScope w t b) 0 names; usedCells = b .cells; usedBytes = b .bytes }
 
 -- the cells of the bindings below the used count are alive, and none of the evaluation's
 abbrev pub aliveIn : ℕ → CellSpace → ℕ → Type 0

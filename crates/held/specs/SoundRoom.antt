@@ -3,6 +3,7 @@ use Prim.Native.Nat.{ℕ, suc, _≤_, _<_}
 use mathlib.Core.Path.{_≡_}
 use mathlib.Core.Bool.{true}
 use mathlib.Core.List.{List}
+use Rattle.meaning.specs.Limits.{names}
 use Rattle.rooms.specs.Cells.{cellIn}
 use Rattle.rooms.specs.Scope.{slotOf}
 use Rattle.building.specs.Building.{cellRoom, textRoom}
@@ -14,4 +15,4 @@ pub record SoundRoom (w t : List ℕ) (b : Bindings) : Type 0 where
   pub cellsIn : b .cells ≤ cellRoom w
   pub bytesIn : b .bytes ≤ textRoom t
   pub cells : (i : ℕ) → i < b .cells → valueFits w t (b .cells) (b .bytes) (suc i) (cellIn w i) ≡ true
-  pub slots : (n : ℕ) → n < 128 → slotFits w t (b .cells) (b .bytes) (slotOf (b .scope) n) ≡ true
+  pub slots : (n : ℕ) → n < names → slotFits w t (b .cells) (b .bytes) (slotOf (b .scope) n) ≡ true

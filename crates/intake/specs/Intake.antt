@@ -9,7 +9,7 @@ use Rattle.admission.specs.declared.Answer.{Answer}
 use Rattle.admission.specs.declared.Answer.the-variants as Bringing
 use Rattle.admission.specs.Bringing.{emptied}
 use Rattle.overlay.specs.Over.{noRoom, handed}
-use Rattle.slots.specs.State.{stateOf}
+use Rattle.slots.specs.State.{stateWords, stateOf}
 use Rattle.stowing.specs.Stowing.{BindingRoom, stows}
 use Rattle.reports.specs.Report.{whichDone, whichRefused, done, refusal, whichChecked, reportChecked}
 
@@ -21,7 +21,7 @@ checks table literal answer = handed (whichChecked (checkOf table literal)) (rep
 
 -- what is returned, and the state
 abbrev pub empties : (state : List ℕ) → ℕ × List ℕ
-empties state = cond (eqb (length state) 259) (whichDone, stateOf emptied) (noRoom, state)
+empties state = cond (eqb (length state) stateWords) (whichDone, stateOf emptied) (noRoom, state)
 
 -- ---- bringing in: what is returned with the answer's words; and the binding room
 

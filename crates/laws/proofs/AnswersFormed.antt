@@ -13,7 +13,7 @@ use Rattle.meaning.specs.Expr.{Expr}
 use Rattle.meaning.specs.Run.{step, cells, text, nest, Trace, Result, Eval}
 use Rattle.meaning.specs.Comprehension.{Scope}
 use Rattle.meaning.specs.Meaning.{run}
-use Rattle.meaning.specs.Limited.{Spent, through, stopped, spend, value, error, ended, outcome, limited, zeroCell, holding, cellsBuilt, textBuilt, roomsBuilt, cleared, roomsAfter}
+use Rattle.meaning.specs.Limited.{Spent, through, stopped, spend, value, ended, outcome, limited, zeroCell, holding, cellsBuilt, textBuilt, roomsBuilt, cleared, roomsAfter}
 use Rattle.meaning.specs.Heads.{Got, got, refused}
 use Rattle.meaning.specs.Table.{readTable}
 use Rattle.meaning.specs.Bindings.{BindingRoom, scopeOf}

@@ -1,4 +1,4 @@
-// The numbers in tables: the kinds of records, how many operators, functions and names there are, and the functions that do not have one operand.
+// The numbers in tables: the kinds of records, flags and names, operators and functions.
 
 // Kinds are the numbers below this one.
 pub const KINDS: u8 = 17;
@@ -43,13 +43,63 @@ pub const LAST_FLAG: u8 = 1;
 // Names are the numbers below this one.
 pub const NAMES: u8 = 128;
 
-// Operators and functions are the numbers from 1 to these.
+// The operators of one operand, from 1 on, and how many there are.
+pub const NOT: u8 = 1;
+
+pub const NEGATE: u8 = 2;
+
+pub const NOT_STRICTLY_FALSE: u8 = 3;
+
 pub const UNARIES: u8 = 3;
+
+// The operators of two.
+pub const OR: u8 = 1;
+
+pub const AND: u8 = 2;
+
+pub const EQUALS: u8 = 3;
+
+pub const NOT_EQUALS: u8 = 4;
+
+pub const INDEX: u8 = 5;
+
+pub const OPTIONAL_INDEX: u8 = 6;
+
+pub const OPTIONAL_SELECT: u8 = 7;
+
+pub const ADD: u8 = 8;
+
+pub const SUBTRACT: u8 = 9;
+
+pub const DIVIDE: u8 = 10;
+
+pub const MULTIPLY: u8 = 11;
+
+pub const REMAINDER: u8 = 12;
+
+pub const LESS: u8 = 13;
+
+pub const LESS_EQUALS: u8 = 14;
+
+pub const GREATER: u8 = 15;
+
+pub const GREATER_EQUALS: u8 = 16;
+
+pub const IN: u8 = 17;
 
 pub const BINARIES: u8 = 17;
 
-pub const FUNCTIONS: u8 = 6;
+// The functions: optional.none has no operand, orValue two, any other one.
+pub const SIZE: u8 = 1;
 
-pub const NONE_CALL: u8 = 3;
+pub const OPTIONAL_OF: u8 = 2;
+
+pub const OPTIONAL_NONE: u8 = 3;
+
+pub const HAS_VALUE: u8 = 4;
+
+pub const VALUE: u8 = 5;
 
 pub const OR_VALUE: u8 = 6;
+
+pub const FUNCTIONS: u8 = 6;

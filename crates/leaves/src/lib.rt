@@ -2,6 +2,7 @@
 ghost use mathlib.Core.Path.{_≡_};
 ghost use Prim.Native.Nat.{_+_, _<_, _≤_};
 ghost use lib.ListN.{length, getD};
+ghost use Rattle.meaning.specs.Limits.{names};
 ghost use Rattle.layout.specs.Layout.{wordAt};
 ghost use Rattle.accepted.specs.Records.{Sound, SoundPart, exprOf};
 ghost use Rattle.machine.specs.Literals.{nameOut};
@@ -9,8 +10,14 @@ ghost use lib.Dec.{eqb, ltb};
 ghost use Rattle.leaves.specs.Leaf.{leafKinds, literalOf, slotIn, leafOut, leafStep, unmarkedAt};
 use bodies::number_at;
 use bodies::span_at;
+use layout::kinds::BOOL;
+use layout::kinds::BYTES;
+use layout::kinds::DOUBLE;
+use layout::kinds::INT;
 use layout::kinds::MARK;
 use layout::kinds::NAME;
+use layout::kinds::STRING;
+use layout::kinds::UINT;
 use longs::bits_at;
 use longs::int_at;
 use machine::outcome::Error;
@@ -50,12 +57,12 @@ fn literal_at(table: &[u8], literal: &[u8], at: usize, kind: u8) -> Value
     ensures { λ r. ⌜ r ≡ literalOf (now (table .entry)) (exprOf (now (table .entry)) (now (literal .entry)) at) ⌝ }
 {
     match kind {
-        1 => Value::Bool(number_at(table, at) == 1),
-        2 => Value::Int(int_at(table, at)),
-        3 => Value::Uint(bits_at(table, at)),
-        4 => rooms::value::double_value(bits_at(table, at)),
-        5 => string_at(table, at),
-        6 => bytes_at(table, at),
+        BOOL => Value::Bool(number_at(table, at) == 1),
+        INT => Value::Int(int_at(table, at)),
+        UINT => Value::Uint(bits_at(table, at)),
+        DOUBLE => rooms::value::double_value(bits_at(table, at)),
+        STRING => string_at(table, at),
+        BYTES => bytes_at(table, at),
         _ => Value::Null,
     }
 }
@@ -79,7 +86,7 @@ pub fn is_leaf(table: &[u8], at: usize) -> bool
 // The slot of a name's record; of any other 0, whose value is not looked at.
 pub fn slot_at(table: &[u8], literal: &[u8], at: usize) -> usize
     requires { ⌜ Sound (now table) (now literal) at ⌝ }
-    ensures { λ r. ⌜ (r ≡ slotIn (exprOf (now (table .entry)) (now (literal .entry)) at)) × (r < 128) ⌝ }
+    ensures { λ r. ⌜ (r ≡ slotIn (exprOf (now (table .entry)) (now (literal .entry)) at)) × (r < names) ⌝ }
 {
     if kind_at(table, at) == NAME {
         number_at(table, at) as usize

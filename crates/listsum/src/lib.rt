@@ -7,6 +7,7 @@ ghost use Rattle.machine.specs.Numbers.{bothLists, listSum};
 ghost use Rattle.outcomes.specs.Gives.{Gives};
 ghost use Rattle.listsum.specs.ListSums.{sumParts};
 use building::Taken;
+use copying::copy_cells;
 use machine::outcome::Outcome;
 use machine::outcome::Used;
 use outcomes::outcomes::deeper;
@@ -40,8 +41,9 @@ fn join_lists(
         return out_of_cells(used);
     };
     let to = base as u16;
-    copying::copy_cells(binding_cells, cells, space, first, length, to);
-    copying::copy_cells(binding_cells, cells, other, from, count, to + length);
+    copy_cells(binding_cells, cells, space, first, length, base);
+    let behind = base + (length as usize);
+    copy_cells(binding_cells, cells, other, from, count, behind);
     Outcome::Value(
         Value::List(deep, CellSpace::Evaluation, to, all as u16),
         with_cells(used, end),

@@ -12,7 +12,7 @@ use borrow.Author.Tests.{leb-true, leb-false}
 use Rattle.meaning.specs.Limits.{Counts, deepestValue}
 use Rattle.meaning.specs.Value as Meaning
 use Rattle.meaning.specs.Value.{Values, count, nesting}
-use Rattle.meaning.specs.Run.{step, cells, text, nest, Trace, value, error, Rule, charged, placed, here, begin}
+use Rattle.meaning.specs.Run.{step, cells, text, nest, Trace, value, Rule, charged, placed, here, begin}
 use Rattle.meaning.specs.Comprehension as Comprehension
 use Rattle.meaning.specs.Limited as Limited
 use Rattle.meaning.specs.Limited.{spend, onward, make, ended, outcome, cellsBuilt, textBuilt, charge, fits, through, stopped}
@@ -30,7 +30,7 @@ use Rattle.machine.specs.declared.outcome.Outcome.{Outcome}
 use Rattle.machine.specs.declared.outcome.Outcome.the-variants as Outcome
 use Rattle.machine.specs.Outcomes.{Res, Does, withCells, withWords, afterStep, recorded, onTaken, taking, whole}
 use Rattle.laws.specs.Charges.{countsOf}
-use Rattle.machine.specs.Refines.{usedOf, from, Live, Roomy, Keeps, Logged, Good, Matches, Start, Meets}
+use Rattle.machine.specs.Refines.{usedOf, Live, Roomy, Keeps, Logged, Good, Matches, Start, Meets}
 use Rattle.machine.proofs.Keeping.{upto-same, keeps-same, keeps-steps}
 use Rattle.machine.proofs.Taking.{took, taken}
 use Rattle.machine.proofs.Traces.{paid, from-charge, cells-step, text-step}

@@ -3,18 +3,16 @@ use Prim.Native.Nat.{ℕ, suc, _^_, _<_}
 use mathlib.Core.Path.{_≡_, refl, ap, _∙_}
 use mathlib.Core.List.{List}
 use mathlib.Core.Option.{Option, none, some, bind}
-use mathlib.Core.Bool.{Bool}
 use native.Mathlib.Omega.{arith}
 use lib.IntN.{ℤ}
 use lib.Signed.{mag}
 use lib.ListN.{length}
 use Rattle.numbers.specs.declared.double.Double.{Double}
 use Rattle.numbers.specs.declared.double.Double.the-variants as Bits
-use Rattle.numbers.specs.declared.order.Number.{Number}
 use Rattle.numbers.specs.declared.order.Number.the-variants as Number
 use Rattle.numbers.specs.Double.{bitsOf, doubleOf}
 use Rattle.numbers.proofs.DoubleLaws.{bits-back}
-use Rattle.meaning.specs.Errors.{NoOverload, Arithmetic}
+use Rattle.meaning.specs.Errors.{NoOverload}
 use Rattle.meaning.specs.Value as Meaning
 use Rattle.meaning.specs.Value.{null, bool, int, uint, double, string, bytes, Values, scalar, list, map, optionalNone, optionalOf, scalarOf, elementsOf, stringIn, nesting, nestingIn, count}
 use Rattle.meaning.specs.Expr.{Arith}
@@ -27,7 +25,6 @@ use Rattle.rooms.specs.declared.value.TextSpace.the-variants as Text
 use Rattle.rooms.specs.declared.value.CellSpace.{CellSpace}
 use Rattle.rooms.specs.declared.value.Plain.{Plain}
 use Rattle.rooms.specs.declared.value.Plain.the-variants as Plain
-use Rattle.rooms.specs.declared.value.Parts.{Parts}
 use Rattle.rooms.specs.declared.value.Parts.the-variants as Parts
 use Rattle.rooms.specs.Value.{plainOf, partsOf, nestingOf, doubleValue}
 use Rattle.rooms.specs.Rooms.{Rooms}

@@ -6,7 +6,7 @@ use mathlib.Core.Bool.{Bool, true, false, cond, true≢false}
 use mathlib.Core.List.{List}
 use native.Mathlib.Omega.{arith}
 use lib.Dec.{ltb, eqb}
-use lib.Ieee.{binary64, ofBits}
+use lib.Ieee.{binary64}
 use lib.Ieee.Bits.{toBits-lt, ofBits-fits}
 use lib.ListN.{length, getD, set, take, drop}
 use lib.Seq.{getD-take, getD-drop, take-set-le, drop-set-lt, take-take, drop-drop}

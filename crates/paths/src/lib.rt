@@ -11,10 +11,13 @@ ghost use Rattle.loops.specs.Loops.{foldsSeen};
 ghost use Rattle.paths.specs.Paths.{placesAt, foldIn, pathOf, pathSeen, PathIn, itemsSeen, ItemsIn};
 use bodies::number_at;
 use bodies::second_at;
+use layout::kinds::ADD;
+use layout::kinds::AND;
 use layout::kinds::BINARY;
 use layout::kinds::CONDITIONAL;
 use layout::kinds::LIST;
 use layout::kinds::NAME;
+use layout::kinds::OR;
 use loops::Folds;
 use outcomes::operators::Fold;
 use outline::end_at;
@@ -63,8 +66,8 @@ fn fold_of(number: u8) -> Folds
     ensures { λ r. ⌜ foldsSeen r ≡ foldIn (binaryOf number) ⌝ }
 {
     match number {
-        1 => Folds::With(Fold::Or),
-        2 => Folds::With(Fold::And),
+        OR => Folds::With(Fold::Or),
+        AND => Folds::With(Fold::And),
         _ => Folds::No,
     }
 }
@@ -106,7 +109,7 @@ fn items_of(table: &[u8], literal: &[u8], at: usize, accumulator: usize) -> List
     if kind_at(table, at) != BINARY {
         return Listed::No;
     }
-    if number_at(table, at) != 8 {
+    if number_at(table, at) != ADD {
         return Listed::No;
     }
     let first = first_operand(table, at);

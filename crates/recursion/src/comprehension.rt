@@ -3,6 +3,7 @@ ghost use mathlib.Core.Path.{_≡_};
 ghost use mathlib.Core.Option.{none};
 ghost use Prim.Native.Nat.{_<_};
 ghost use lib.ListN.{getD};
+ghost use Rattle.meaning.specs.Limits.{names};
 ghost use Rattle.rooms.specs.Rooms.{rooms};
 ghost use Rattle.rooms.specs.Scope.{stored};
 ghost use Rattle.accepted.specs.Records.{Sound, exprOf};
@@ -175,7 +176,7 @@ pub fn turns(
     count: u16,
     each: u16,
 ) -> Outcome
-    requires { ⌜ Sound (now table) (now literal) (places .condition) × Sound (now table) (now literal) (places .step) × Sound (now table) (now literal) (places .result) × (places .accumulator < 128) × (places .item < 128) ⌝ }
+    requires { ⌜ Sound (now table) (now literal) (places .condition) × Sound (now table) (now literal) (places .step) × Sound (now table) (now literal) (places .result) × (places .accumulator < names) × (places .item < names) ⌝ }
     ensures { λ r. ⌜ Gives r (now (literal .entry)) (now («binding_cells» .entry)) (now («binding_text» .entry)) (now (cells .exit)) (now (text .exit)) (turns (loopAt (now (table .entry)) (now (literal .entry)) limit at places) space each count first none (stored scope (places .accumulator) start) used (rooms (now (literal .entry)) (now («binding_cells» .entry)) (now («binding_text» .entry)) (now (cells .entry)) (now (text .entry)))) ⌝ }
 {
     let accumulator = places.accumulator;

@@ -1,4 +1,4 @@
--- An answer as eight words: which it is, its number and place, the counts of steps, cells and bytes, and the two words of a value. What does
+-- An answer as words: which it is, its number and place, the counts of steps, cells and bytes, and the two words of a value. What does
 -- not apply is 0, and a value that there is none of is that of kind 16.
 use Prim.Native.Nat.{ℕ}
 use mathlib.Core.List.{List, [], _∷_}
@@ -12,6 +12,9 @@ use Rattle.machine.specs.declared.outcome.Used.{Used}
 use Rattle.reasons.specs.Numbers.{errorMeant, limitMeant, limitNumber}
 use Rattle.answers.specs.declared.Answer.{Answer}
 use Rattle.answers.specs.declared.Answer.the-variants as Answer
+
+abbrev pub answerWords : ℕ
+answerWords = 8
 
 abbrev pub report : (which number place : ℕ) → Used → Value → List ℕ
 report which number place u v = which ∷ number ∷ place ∷ u .steps ∷ u .cells ∷ u .bytes ∷ headOf v ∷ payloadOf v ∷ []

@@ -3,10 +3,10 @@ use Prim.Native.Nat.{ℕ, zero, suc, _+_, _≤_, _<_}
 use mathlib.Core.Path.{_≡_, refl, sym, ap, _∙_, subst}
 use mathlib.Core.List.{List, [], _∷_}
 use native.Mathlib.Omega.{arith}
-use lib.ListN.{length, getD, take, drop}
+use lib.ListN.{length, getD, take}
 use lib.Seq.{take-take, drop-cons}
 use Rattle.meaning.specs.Value as Meaning
-use Rattle.meaning.specs.Value.{null, bool, int, uint, double, string, bytes, scalar, list, map, optionalNone, optionalOf, nil, cons, empty, entry, keyScalar, join, count}
+use Rattle.meaning.specs.Value.{null, bool, int, uint, double, string, bytes, scalar, list, map, optionalNone, optionalOf, nil, cons, empty, entry, keyScalar}
 use Rattle.rooms.specs.declared.value.Value.{Value}
 use Rattle.rooms.specs.declared.value.TextSpace.{TextSpace}
 use Rattle.rooms.specs.declared.value.TextSpace.the-variants as Text

@@ -1,7 +1,7 @@
 -- Numbers and spaces as words: the steps of the code, and that a word gives back its number. Assumes nothing.
-use mathlib.Core.Path.{_≡_, refl, sym, ap, _∙_}
+use mathlib.Core.Path.{_≡_, refl, ap, _∙_}
 use mathlib.Core.Bool.{true, false, true≢false}
-use Prim.Native.Nat.{ℕ, zero, suc, _+_, _-_, _^_, _≤_, _<_}
+use Prim.Native.Nat.{ℕ, _-_, _^_, _≤_, _<_}
 use native.Mathlib.Omega.{arith}
 use lib.IntN.{ℤ, pos, negsuc, negℤ, natAbs, _-ℤ_, -ℤ-one}
 use lib.Signed.{mag, ltZ}
@@ -10,7 +10,7 @@ use borrow.Author.Needs.{sfits-of}
 use mir.Syntax.{w64}
 use mir.Val.{toZ, ofZ}
 use mir.ValLaws.{toZ-ofZ}
-use Rattle.numbers.proofs.IntMag.{suc-in, is-positive, pred-neg, minus}
+use Rattle.numbers.proofs.IntMag.{pred-neg, minus}
 use Rattle.rooms.specs.declared.value.TextSpace.{TextSpace}
 use Rattle.rooms.specs.declared.value.TextSpace.the-variants as Text
 use Rattle.rooms.specs.declared.value.CellSpace.{CellSpace}

@@ -5,14 +5,12 @@ ghost use Prim.Native.Nat.{ℕ, _<_, _^_};
 ghost use lib.Dec.{eqb};
 ghost use lib.ListN.{getD, set};
 ghost use Rattle.rooms.specs.Rooms.{rooms};
-ghost use Rattle.building.specs.Building.{copied};
 ghost use Rattle.machine.specs.Comprehension.{addRun, runsCopied, gathered};
 ghost use Rattle.outcomes.specs.Gives.{Gives};
 ghost use Rattle.runs.specs.Collects.{gatheredIn};
 use building::Taken;
-use cells::cell_at;
-use cells::write_cell;
 use clearing::take_cells;
+use copying::copy_cells;
 use machine::outcome::Outcome;
 use machine::outcome::Used;
 use outcomes::outcomes::deeper;
@@ -73,24 +71,7 @@ pub fn add_run(
     }
 }
 
-// A run of the evaluation's cells is copied to those from `to` on.
-fn copy_run(binding_cells: &[u64], cells: &mut [u64], first: u16, length: u16, to: usize)
-    requires { ⌜ to < 2 ^ 48 ⌝ }
-    ensures { λ _. ⌜ (now (cells .exit)) ≡ copied (now («binding_cells» .entry)) CellSpace.Evaluation (now (cells .entry)) first to length ⌝ }
-{
-    let mut at = first as usize;
-    let mut place = to;
-    let mut left = length as usize;
-    while 0 < left {
-        let v = cell_at(binding_cells, cells, CellSpace::Evaluation, at);
-        write_cell(cells, place, v);
-        at += 1;
-        place += 1;
-        left -= 1;
-    }
-}
-
-// The runs, one after the other.
+// The runs, one after the other, are copied to the cells from `to` on.
 fn copy_runs(
     binding_cells: &[u64],
     cells: &mut [u64],
@@ -107,7 +88,14 @@ fn copy_runs(
     let mut place = to;
     while 0 < left {
         let length = run_at(counts, i);
-        copy_run(binding_cells, cells, run_at(firsts, i), length, place);
+        copy_cells(
+            binding_cells,
+            cells,
+            CellSpace::Evaluation,
+            run_at(firsts, i),
+            length,
+            place,
+        );
         place += length as usize;
         i += 1;
         left -= 1;

@@ -1,11 +1,11 @@
 -- The literals of an accepted table: for each kind of record, what the value is that the code makes of it. Assumes nothing.
-use Prim.Native.Nat.{ℕ, zero, suc, _+_, _*_, _^_, _≤_, _<_}
+use Prim.Native.Nat.{ℕ, zero, suc, _+_, _^_, _≤_, _<_}
 use mathlib.Core.Path.{_≡_, refl, sym, ap, _∙_}
 use mathlib.Core.List.{List, []}
-use mathlib.Core.Bool.{Bool, true, false, cond}
+use mathlib.Core.Bool.{true, false}
 use mathlib.Core.Option.{Option, none, some}
 use native.Mathlib.Omega.{arith}
-use lib.Dec.{leb, eqb}
+use lib.Dec.{eqb}
 use lib.ListN.{length, take, drop, getD, set, length-take, length-drop}
 use lib.Seq.{drop-cons}
 use borrow.Author.Tests.{ne-eqb}
@@ -17,12 +17,12 @@ use Rattle.numbers.specs.Double.{bitsOf, doubleOf}
 use Rattle.numbers.proofs.DoubleLaws.{bits-back}
 use Rattle.meaning.specs.Errors.{NotALiteral}
 use Rattle.meaning.specs.Value.{Scalar, null, bool, int, uint, double, string, bytes, keyIn}
-use Rattle.meaning.specs.Expr.{Expr, literal, noneCall}
+use Rattle.meaning.specs.Expr.{literal}
 use Rattle.meaning.specs.Kinds.{ExprKind, nullKind, boolKind, intKind, uintKind, doubleKind, stringKind, bytesKind, nameKind, unaryKind, binaryKind, conditionalKind, selectKind, listKind, mapKind, comprehensionKind, functionKind, Called, toOne, toNone, toTwo, numbered, functions}
-use Rattle.meaning.specs.Heads.{Got, got, refused}
+use Rattle.meaning.specs.Heads.{refused}
 use Rattle.meaning.specs.Table.{utf8}
 use Rattle.meaning.specs.Bindings.{textBytes}
-use Rattle.meaning.specs.Spelling.{Literal, scalarAt, listAt, mapAt, Literals, LiteralPairs, literalOf}
+use Rattle.meaning.specs.Spelling.{scalarAt, listAt, mapAt, Literals, LiteralPairs, literalOf}
 use Rattle.layout.specs.Layout.{wordAt}
 use Rattle.fields.specs.Fits.{isSome}
 use Rattle.layout.specs.Layout.{longAt}

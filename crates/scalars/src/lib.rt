@@ -8,21 +8,17 @@ use bodies::number_at;
 use bodies::span_at;
 use layout::kinds::BOOL;
 use layout::kinds::BYTES;
+use layout::kinds::DOUBLE;
+use layout::kinds::INT;
+use layout::kinds::NULL;
 use layout::kinds::STRING;
+use layout::kinds::UINT;
 use longs::bits_at;
 use longs::int_at;
 use outline::kind_at;
 use rooms::value::TextSpace;
 use rooms::value::Value;
 use rooms::value::double_value;
-
-const NULL: u8 = 0;
-
-const INT: u8 = 2;
-
-const UINT: u8 = 3;
-
-const DOUBLE: u8 = 4;
 
 // The value of a literal, its text where it lies; absent for any other record.
 pub fn literal_at(table: &[u8], at: usize) -> Value

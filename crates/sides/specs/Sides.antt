@@ -4,6 +4,7 @@ use mathlib.Core.Path.{_≡_}
 use mathlib.Core.Bool.{Bool, true, false, cond}
 use mathlib.Core.List.{List}
 use mathlib.Core.Option.{Option, none, some}
+use Rattle.meaning.specs.Limits.{names}
 use Rattle.meaning.specs.Expr.{Expr, literal, name, unary, binary, conditional, select, listOf, mapOf, comprehension, call, noneCall, orValue}
 use Rattle.meaning.specs.Kinds.{Called, toOne, toNone, toTwo, numbered, functions}
 use Rattle.rooms.specs.declared.value.Value.{Value}
@@ -114,7 +115,7 @@ IsPair (Pair.Slots a b) = Unit {0}
 
 abbrev pub PairBelow : Pair → Type 0
 PairBelow Pair.No = Unit {0}
-PairBelow (Pair.Slots a b) = (a < 128) × (b < 128)
+PairBelow (Pair.Slots a b) = (a < names) × (b < names)
 
 abbrev pub PairHolds : Scope → Pair → (v w : Value) → Type 0
 PairHolds s Pair.No v w = ⊥
@@ -126,7 +127,7 @@ IsQuad (Quad.Slots a b c d) = Unit {0}
 
 abbrev pub QuadBelow : Quad → Type 0
 QuadBelow Quad.No = Unit {0}
-QuadBelow (Quad.Slots a b c d) = (a < 128) × (b < 128) × (c < 128) × (d < 128)
+QuadBelow (Quad.Slots a b c d) = (a < names) × (b < names) × (c < names) × (d < names)
 
 abbrev pub QuadHolds : Scope → Quad → (v w x y : Value) → Type 0
 QuadHolds s Quad.No v w x y = ⊥

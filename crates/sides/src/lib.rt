@@ -6,8 +6,12 @@ ghost use Rattle.sides.specs.Sides.{operandsOf, callSides, sidesSeen, So
 use bodies::number_at;
 use layout::kinds::BINARY;
 use layout::kinds::FUNCTION;
+use layout::kinds::HAS_VALUE;
+use layout::kinds::OPTIONAL_OF;
 use layout::kinds::SELECT;
+use layout::kinds::SIZE;
 use layout::kinds::UNARY;
+use layout::kinds::VALUE;
 use leaves::is_leaf;
 use leaves::slot_at;
 use outline::end_at;
@@ -33,15 +37,15 @@ pub enum Quad {
     Slots(usize, usize, usize, usize),
 }
 
-// Of a function, by its number: 3 is optional.none and 6 is orValue, which have none and two; no accepted table has a number above.
+// Of a function, by its number: optional.none and orValue have none and two; no accepted table has another number.
 fn call_sides(number: u8, one: usize) -> Sides
     ensures { λ r. ⌜ r ≡ callSides number one ⌝ }
 {
     match number {
-        1 => Sides::One(one),
-        2 => Sides::One(one),
-        4 => Sides::One(one),
-        5 => Sides::One(one),
+        SIZE => Sides::One(one),
+        OPTIONAL_OF => Sides::One(one),
+        HAS_VALUE => Sides::One(one),
+        VALUE => Sides::One(one),
         _ => Sides::Neither,
     }
 }

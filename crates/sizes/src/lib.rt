@@ -6,21 +6,22 @@ use spans::part_points;
 
 // How much a value holds, or that it has no size.
 pub enum Size {
-    Is(usize),
+    Is(u16),
     Unsized,
 }
 
-// The code points of a String, the bytes of Bytes, the elements of a List, the entries of a Map.
+// The code points of a String, which are no more than its bytes, the bytes of Bytes, the elements of a List, the entries of a Map.
 pub fn size_in(literal: &[u8], binding_text: &[u8], text: &[u8], value: Value) -> Size
     ensures { λ r. ⌜ r ≡ sizeOf (now (literal .entry)) (now («binding_text» .entry)) (now (text .entry)) value ⌝ }
 {
     match value {
         Value::String(space, first, length) => {
-            Size::Is(part_points(literal, binding_text, text, space, first, length))
+            let points = part_points(literal, binding_text, text, space, first, length);
+            Size::Is(points as u16)
         }
-        Value::Bytes(_, _, length) => Size::Is(length as usize),
-        Value::List(_, _, _, length) => Size::Is(length as usize),
-        Value::Map(_, _, _, length) => Size::Is(length as usize),
+        Value::Bytes(_, _, length) => Size::Is(length),
+        Value::List(_, _, _, length) => Size::Is(length),
+        Value::Map(_, _, _, length) => Size::Is(length),
         _ => Size::Unsized,
     }
 }

@@ -232,9 +232,9 @@ pub other-length : (w : List ℕ) → (length w ≡ 259 → ⊥) → noBindings 
 unfolding bindingsIn
 other-length w h = rw (ne-eqb (length w) 259 h) refl
 
-pub other-mark : (w : List ℕ) → length w ≡ 259 → (getD w 258 0 ≡ 128 → ⊥) → noBindings ≡ bindingsIn w
+pub other-count : (w : List ℕ) → length w ≡ 259 → (getD w 258 0 ≡ 128 → ⊥) → noBindings ≡ bindingsIn w
 unfolding bindingsIn
-other-mark w e h = rw (eq-eqb (length w) 259 e) (rw (ne-eqb (getD w 258 0) 128 h) refl)
+other-count w e h = rw (eq-eqb (length w) 259 e) (rw (ne-eqb (getD w 258 0) 128 h) refl)
 
 pub is-state : (w : List ℕ) (s : Scope) → length w ≡ 259 → getD w 258 0 ≡ 128 → s ≡ scopeIn w → record { scope = s; cells = getD w 256 0; bytes = getD w 257 0 } ≡ bindingsIn w
 unfolding bindingsIn

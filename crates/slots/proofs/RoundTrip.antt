@@ -99,9 +99,9 @@ module _ (b : Bindings) (whole : length (b .scope .slots) ≡ 128) where
       ap (λ (l : List ℕ). getD l 257 0) (sym (append-assoc (slotWords (b .scope .slots)) (b .cells ∷ []) (b .bytes ∷ 128 ∷ [])))
       ∙ getD-at (slotWords (b .scope .slots) ++ b .cells ∷ []) (b .bytes) (128 ∷ []) 0 257 (omega (arith, length-append (slotWords (b .scope .slots)) (b .cells ∷ []), slots-take))
 
-  mark-at : getD (stateOf b) 258 0 ≡ 128
+  count-at : getD (stateOf b) 258 0 ≡ 128
   unfolding stateOf
-  mark-at =
+  count-at =
       ap (λ (l : List ℕ). getD l 258 0) (sym (append-assoc (slotWords (b .scope .slots)) (b .cells ∷ b .bytes ∷ []) (128 ∷ [])))
       ∙ getD-at (slotWords (b .scope .slots) ++ b .cells ∷ b .bytes ∷ []) 128 [] 0 258 (omega (arith, length-append (slotWords (b .scope .slots)) (b .cells ∷ b .bytes ∷ []), slots-take))
 
@@ -114,5 +114,5 @@ module _ (b : Bindings) (whole : length (b .scope .slots) ≡ 128) where
   -- What is put into a state is what it stands for.
   pub round-trip : AllFit (b .scope .slots) → bindingsIn (stateOf b) ≡ settledBindings b
   round-trip f =
-      sym (is-state (stateOf b) (scopeIn (stateOf b)) state-long mark-at refl)
+      sym (is-state (stateOf b) (scopeIn (stateOf b)) state-long count-at refl)
       ∙ (λ i. record { scope = scope-again f i; cells = cells-at i; bytes = bytes-at i })

@@ -4,7 +4,7 @@ ghost use mathlib.Core.Path.{_≡_};
 ghost use Prim.Native.Nat.{_≤_};
 ghost use mathlib.Core.List.{_++_};
 ghost use lib.ListN.{length, drop};
-ghost use Rattle.slots.specs.State.{saysAbsent, slotIn, scopeIn, noBindings, bindingsIn, slotWords, statePut};
+ghost use Rattle.slots.specs.State.{cellsAt, saysAbsent, slotIn, scopeIn, noBindings, bindingsIn, slotWords, statePut};
 use cells::read_cell;
 use cells::write_cell;
 use fitting::is_absent;
@@ -21,10 +21,10 @@ const CELLS_AT: usize = 256;
 
 const BYTES_AT: usize = 257;
 
-const MARK_AT: usize = 258;
+const SLOTS_AT: usize = 258;
 
-// The number of slots.
-const MARK: u64 = 128;
+// How many slots a state has.
+const SLOTS: u64 = 128;
 
 // The head of a slot that is absent.
 const ABSENT: u64 = 16;
@@ -94,7 +94,7 @@ pub fn bindings_in(words: &[u64]) -> Bindings
     if words.len() != STATE_WORDS {
         return no_bindings();
     }
-    if words[MARK_AT] != MARK {
+    if words[SLOTS_AT] != SLOTS {
         return no_bindings();
     }
     Bindings {
@@ -105,8 +105,8 @@ pub fn bindings_in(words: &[u64]) -> Bindings
 }
 
 fn put_scope(words: &mut [u64], scope: Scope)
-    requires { ⌜ 256 ≤ length (now words) ⌝ }
-    ensures { λ _. ⌜ now (words .exit) ≡ slotWords (scope .slots) ++ drop 256 (now (words .entry)) ⌝ }
+    requires { ⌜ cellsAt ≤ length (now words) ⌝ }
+    ensures { λ _. ⌜ now (words .exit) ≡ slotWords (scope .slots) ++ drop cellsAt (now (words .entry)) ⌝ }
 {
     let mut at = 0;
     while at < NAMES {
@@ -128,5 +128,5 @@ pub fn put_bindings(words: &mut [u64], bindings: Bindings)
     put_scope(words, scope);
     words[CELLS_AT] = bindings.cells as u64;
     words[BYTES_AT] = bindings.bytes as u64;
-    words[MARK_AT] = MARK;
+    words[SLOTS_AT] = SLOTS;
 }

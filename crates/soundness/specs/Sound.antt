@@ -1,13 +1,9 @@
 -- When a room is sound, and if it is not, the first cell at fault. All contents are the caller's.
-use Prim.Native.Nat.{ℕ, zero, suc, _+_, min}
-use mathlib.Core.List.{List, [], _∷_}
-use mathlib.Core.Bool.{Bool, true, false, _&&_, cond}
+use Prim.Native.Nat.{ℕ, zero, suc, min}
+use mathlib.Core.List.{List}
+use mathlib.Core.Bool.{Bool, true, _&&_, cond}
 use lib.Dec.{leb, ltb}
-use lib.ListN.{take}
-use Rattle.meaning.specs.Errors.{UnsoundBinding}
-use Rattle.meaning.specs.Heads.{Got, refused}
-use Rattle.rooms.specs.declared.value.Value.{Value}
-use Rattle.rooms.specs.declared.scope.Slot.{Slot}
+use Rattle.meaning.specs.Limits.{names}
 use Rattle.rooms.specs.Cells.{cellIn}
 use Rattle.building.specs.Building.{cellRoom, textRoom}
 use Rattle.rooms.specs.Scope.{slotOf}
@@ -42,9 +38,4 @@ module _ (words text : List ℕ) where
   unfoldable pub soundOf : Bindings → Soundness
   soundOf b =
       cond (ltb (firstBad (usedCells b) (usedBytes b) 0 (usedCells b)) (usedCells b)) (Unsound (firstBad (usedCells b) (usedBytes b) 0 (usedCells b)))
-      (cond (leb (b .cells) (cellRoom words) && (leb (b .bytes) (textRoom text) && slotsFit (usedCells b) (usedBytes b) (b .scope) 0 128)) Sound (Unsound 0))
-
--- what is got over a sound room; an unsound one is refused
-abbrev pub ifSound : {A : Type 0} → Soundness → Got A → Got A
-ifSound Sound g = g
-ifSound (Unsound p) g = refused UnsoundBinding p
+      (cond (leb (b .cells) (cellRoom words) && (leb (b .bytes) (textRoom text) && slotsFit (usedCells b) (usedBytes b) (b .scope) 0 names)) Sound (Unsound 0))

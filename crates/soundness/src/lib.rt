@@ -1,6 +1,7 @@
 // A binding room as a caller lends it, with any contents: whether it is one that bindings make, and if not, the first bad cell.
 ghost use mathlib.Core.Path.{_≡_};
 ghost use Prim.Native.Nat.{min, _<_};
+ghost use Rattle.meaning.specs.Limits.{names};
 ghost use Rattle.soundness.specs.Sound.{firstBad, slotsFit, soundOf};
 use building::cell_room;
 use building::text_room;
@@ -45,7 +46,7 @@ fn first_bad(cells: &[u64], text: &[u8], used: usize, bytes: usize) -> usize
 }
 
 fn slots_fit(cells: &[u64], text: &[u8], used: usize, bytes: usize, scope: Scope) -> bool
-    ensures { λ r. ⌜ r ≡ slotsFit (now (cells .entry)) (now (text .entry)) used bytes scope 0 128 ⌝ }
+    ensures { λ r. ⌜ r ≡ slotsFit (now (cells .entry)) (now (text .entry)) used bytes scope 0 names ⌝ }
 {
     let mut at = 0;
     let mut left = NAMES;

@@ -30,8 +30,8 @@ module _ (w : List ℕ) (s : isState w ≡ true) where
   pub state-long : length w ≡ 259
   state-long = eqb-true (length w) 259 (both-true s .0)
 
-  mark : getD w 258 0 ≡ 128
-  mark = eqb-true (getD w 258 0) 128 (both-true {a = eqb (length w) 259} s .1)
+  slot-count : getD w 258 0 ≡ 128
+  slot-count = eqb-true (getD w 258 0) 128 (both-true {a = eqb (length w) 259} s .1)
 
   pub is-bindings : bindingsIn w ≡ record { scope = scopeIn w; cells = getD w 256 0; bytes = getD w 257 0 }
   unfolding bindingsIn
@@ -77,7 +77,7 @@ module _ (w : List ℕ) (s : isState w ≡ true) where
         drop-cons w 256 0 (omega (arith, state-long))
         ∙ ap (λ (l : List ℕ). getD w 256 0 ∷ l) (drop-cons w 257 0 (omega (arith, state-long)))
         ∙ ap (λ (l : List ℕ). getD w 256 0 ∷ getD w 257 0 ∷ l) (drop-cons w 258 0 (omega (arith, state-long)))
-        ∙ (λ i. getD w 256 0 ∷ getD w 257 0 ∷ mark i ∷ drop-of-length-le w {i = 259} (omega (arith, state-long)) i)
+        ∙ (λ i. getD w 256 0 ∷ getD w 257 0 ∷ slot-count i ∷ drop-of-length-le w {i = 259} (omega (arith, state-long)) i)
 
     all-again : stateOf (bindingsIn w) ≡ w
     unfolding stateOf scopeIn

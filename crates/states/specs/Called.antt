@@ -27,9 +27,9 @@ use Rattle.reasons.specs.Numbers.{limitNumber}
 use Rattle.answers.specs.declared.Answer.{Answer as Said}
 use Rattle.answers.specs.Meant.{Says}
 use Rattle.overlay.specs.Over.{over, noRoom}
-use Rattle.slots.specs.State.{bindingsIn}
+use Rattle.slots.specs.State.{stateWords, bindingsIn}
 use Rattle.stowing.specs.Stowing.{BindingRoom, bindingRoom}
-use Rattle.reports.specs.Report.{report, whichDone, whichValue, whichError, whichExhausted, whichRefused, done, refusal}
+use Rattle.reports.specs.Report.{answerWords, report, whichDone, whichValue, whichError, whichExhausted, whichRefused, done, refusal}
 use Rattle.intake.specs.Intake.{empties, brings}
 use Rattle.states.specs.InOrder.{Words}
 
@@ -68,12 +68,12 @@ AsMeant (refused why place) before room answer left = RefusedAt (refusalNumber w
 
 pub record BringsIn (before : BindingRoom) (name : ℕ) (table literal answer : List ℕ) (left : Left) : Type 0 where
   -- without room for an answer nothing is done
-  pub short : length answer < 8 → left ≡ record { returned = noRoom; answer = answer; room = before }
+  pub short : length answer < answerWords → left ≡ record { returned = noRoom; answer = answer; room = before }
   -- a room that is not sound is refused before anything else
-  pub unsound : 8 ≤ length answer → (place : ℕ) → soundOf (before .cells) (before .text) (bindingsIn (before .state)) ≡ Unsound place
+  pub unsound : answerWords ≤ length answer → (place : ℕ) → soundOf (before .cells) (before .text) (bindingsIn (before .state)) ≡ Unsound place
       → RefusedAt (refusalNumber UnsoundBinding) place before answer left
   -- in every other the definition decides
-  pub sound : 8 ≤ length answer → (room : Meaning.BindingRoom) → Stands before room
+  pub sound : answerWords ≤ length answer → (room : Meaning.BindingRoom) → Stands before room
       → AsMeant (bring (length (before .cells) / 2) (length (before .text)) room name table literal) before room answer left
 
 -- ---- evaluating
@@ -107,7 +107,7 @@ pub record EvaluatesAs (m : Answered) (lent : Rooms) (said : Said) (answer : Lis
 
 -- emptied, and then a binding after the other brought in, with 0 returned; and the room that the definition makes by the same bindings
 pub data Made : BindingRoom → Meaning.BindingRoom → Type 0 where
-  emptied : (state cells text : List ℕ) → length state ≡ 259 → Made (bindingRoom (empties state .1) cells text) emptyRoom
+  emptied : (state cells text : List ℕ) → length state ≡ stateWords → Made (bindingRoom (empties state .1) cells text) emptyRoom
   brought : (before : BindingRoom) (room more : Meaning.BindingRoom) (name : ℕ) (table literal answer : List ℕ) → Made before room
       → Words (before .state) → AllBytes table → AllBytes literal → brings before name table literal answer .0 .0 ≡ whichDone
       → bring (length (before .cells) / 2) (length (before .text)) room name table literal ≡ got more → Made (brings before name table literal answer .1) more

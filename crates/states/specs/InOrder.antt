@@ -1,10 +1,11 @@
--- The words that are in order as a state: as many as one has, with its mark, and for each name a value's words or those that say there is none.
+-- The words that are in order as a state: as many as one has, with the number of slots, and for each name a value's words or those that say there is none.
 use Prim.Native.Nat.{ℕ, _^_, _<_}
 use mathlib.Core.Path.{_≡_}
 use mathlib.Core.Logic.{_⊎_}
 use mathlib.Core.Bool.{true, false}
 use mathlib.Core.List.{List}
 use lib.ListN.{getD}
+use Rattle.meaning.specs.Limits.{names}
 use Rattle.rooms.specs.Cells.{cellIn}
 use Rattle.references.specs.Fits.{isAbsent}
 use Rattle.slots.specs.State.{saysAbsent, isState}
@@ -15,4 +16,4 @@ Words w = (i : ℕ) → getD w i 0 < 2 ^ 64
 
 pub record InOrder (w : List ℕ) : Type 0 where
   pub state : isState w ≡ true
-  pub slots : (n : ℕ) → n < 128 → (isAbsent (cellIn w n) ≡ false) ⊎ (saysAbsent w n ≡ true)
+  pub slots : (n : ℕ) → n < names → (isAbsent (cellIn w n) ≡ false) ⊎ (saysAbsent w n ≡ true)

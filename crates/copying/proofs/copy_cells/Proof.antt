@@ -12,13 +12,13 @@ use Rattle.copying.proofs.copy_cells.Statement.{statement}
 use Rattle.copying.proofs.copy_cells.Tie as tie
 
 abbrev Inv-loop : tie.InvT-loop
-Inv-loop binding-cells cells₀ space first length to at₀ place₀ left₀ cells at place left = (Lists.length cells ≡ Lists.length cells₀) × (at + left ≤ 200000) × (place + left ≤ 200000) × (copied binding-cells space cells at place left ≡ copied binding-cells space cells₀ first to length)
+Inv-loop binding-cells cells₀ space first length to at₀ place₀ left₀ cells at place left = (Lists.length cells ≡ Lists.length cells₀) × (at + left ≤ 200000) × (place + left ≤ 300000000000000) × (copied binding-cells space cells at place left ≡ copied binding-cells space cells₀ first to length)
 
 abbrev μ-loop : tie.MeasureT-loop
 μ-loop binding-cells cells₀ space first length to at₀ place₀ left₀ cells at place left = left
 
 loop-holds : tie.Need-loop-holds Inv-loop μ-loop
-loop-holds c = (refl, omega (arith, c .before .before .fits .first .fits, c .before .before .fits .length .fits), omega (arith, c .before .before .fits .to .fits, c .before .before .fits .length .fits), refl)
+loop-holds c = (refl, omega (arith, c .before .before .fits .first .fits, c .before .before .fits .length .fits), omega (arith, c .before .before .pre, c .before .before .fits .length .fits), refl)
 
 cell-at-requires : tie.Need-cell-at-requires Inv-loop μ-loop
 cell-at-requires c κs = search needs

@@ -28,7 +28,7 @@ cast-to : tie.Need-cast-to
 cast-to c = record { fits = omega (arith, cells-within (c .before .before .before .before .before .before .before .before .before .args .cells .now) (c .before .before .before .before .before .before .before .before .before .args .used .cells) _ _ (sym (c .before .end .given .1) ∙ c .before .before .before .before .before .take-cells .ensures .0)) }
 
 copy-cells-requires : tie.Need-copy-cells-requires
-copy-cells-requires c κs = search needs
+copy-cells-requires c κs = omega (arith, cells-within (c .before .before .before .before .before .before .before .before .before .before .args .cells .now) (c .before .before .before .before .before .before .before .before .before .before .args .used .cells) _ _ (sym (c .before .before .end .given .1) ∙ c .before .before .before .before .before .before .take-cells .ensures .0))
 
 with-cells-requires : tie.Need-with-cells-requires
 with-cells-requires c κs = search needs

@@ -31,16 +31,16 @@ cast-to : tie.Need-cast-to
 cast-to c = record { fits = omega (arith, cells-within (c .before .before .before .before .before .before .before .before .before .args .cells .now) (c .before .before .before .before .before .before .before .before .before .args .used .cells) _ _ (sym (c .before .end .given .1) ∙ c .before .before .before .before .before .take-cells .ensures .0)) }
 
 copy-cells-requires : tie.Need-copy-cells-requires
-copy-cells-requires c κs = search needs
+copy-cells-requires c κs = omega (arith, cells-within (c .before .before .before .before .before .before .before .before .before .before .args .cells .now) (c .before .before .before .before .before .before .before .before .before .before .args .used .cells) _ _ (sym (c .before .before .end .given .1) ∙ c .before .before .before .before .before .before .take-cells .ensures .0))
 
-add-copy-cells : tie.Need-add-copy-cells
-add-copy-cells c = record { fits = omega (arith, cells-within (c .before .before .before .before .before .before .before .before .before .before .before .before .before .before .args .cells .now) (c .before .before .before .before .before .before .before .before .before .before .before .before .before .before .args .used .cells) _ _ (sym (c .before .before .before .before .before .before .end .given .1) ∙ c .before .before .before .before .before .before .before .before .before .before .take-cells .ensures .0)) }
+add-behind : tie.Need-add-behind
+add-behind c = record { fits = omega (arith, cells-within (c .before .before .before .before .before .before .before .before .before .before .before .before .before .args .cells .now) (c .before .before .before .before .before .before .before .before .before .before .before .before .before .args .used .cells) _ _ (sym (c .before .before .before .before .before .end .given .1) ∙ c .before .before .before .before .before .before .before .before .before .take-cells .ensures .0)) }
 
 copy-cells-requires-2 : tie.Need-copy-cells-requires-2
-copy-cells-requires-2 c κs = search needs
+copy-cells-requires-2 c κs = omega (arith, cells-within (c .before .before .before .before .before .before .before .before .before .before .before .before .before .before .args .cells .now) (c .before .before .before .before .before .before .before .before .before .before .before .before .before .before .args .used .cells) _ _ (sym (c .before .before .before .before .before .before .end .given .1) ∙ c .before .before .before .before .before .before .before .before .before .before .take-cells .ensures .0))
 
-cast-t25 : tie.Need-cast-t25
-cast-t25 c = record { fits = omega (arith, cells-within (c .before .before .before .before .before .before .before .before .before .before .before .before .before .before .before .before .before .args .cells .now) (c .before .before .before .before .before .before .before .before .before .before .before .before .before .before .before .before .before .args .used .cells) _ _ (sym (c .before .before .before .before .before .before .before .before .before .end .given .1) ∙ c .before .before .before .before .before .before .before .before .before .before .before .before .before .take-cells .ensures .0)) }
+cast-t27 : tie.Need-cast-t27
+cast-t27 c = record { fits = omega (arith, cells-within (c .before .before .before .before .before .before .before .before .before .before .before .before .before .before .before .before .before .args .cells .now) (c .before .before .before .before .before .before .before .before .before .before .before .before .before .before .before .before .before .args .used .cells) _ _ (sym (c .before .before .before .before .before .before .before .before .before .end .given .1) ∙ c .before .before .before .before .before .before .before .before .before .before .before .before .before .take-cells .ensures .0)) }
 
 with-cells-requires : tie.Need-with-cells-requires
 with-cells-requires c κs = search needs
@@ -53,4 +53,4 @@ returns-2 c = λ l1 t1 x1. simp (← c .before .before .before .before .before .
 
 pub join-lists-spec : {M : Type 1} → statement M
 join-lists-spec =
-    tie.close (tie.spec add-all take-cells-requires enum-known-end enum-told out-of-cells-requires same-length returns cast-to copy-cells-requires add-copy-cells copy-cells-requires-2 cast-t25 with-cells-requires same-length-2 returns-2)
+    tie.close (tie.spec add-all take-cells-requires enum-known-end enum-told out-of-cells-requires same-length returns cast-to copy-cells-requires add-behind copy-cells-requires-2 cast-t27 with-cells-requires same-length-2 returns-2)

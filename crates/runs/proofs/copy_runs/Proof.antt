@@ -26,8 +26,8 @@ run-at-requires c κs = search needs
 run-at-requires-2 : tie.Need-run-at-requires-2 Inv-loop μ-loop
 run-at-requires-2 c κs = search needs
 
-copy-run-requires : tie.Need-copy-run-requires Inv-loop μ-loop
-copy-run-requires c κs = omega (arith, c .before .before .before .before .loop .inv .2)
+copy-cells-requires : tie.Need-copy-cells-requires Inv-loop μ-loop
+copy-cells-requires c κs = omega (arith, c .before .before .before .before .loop .inv .2)
 
 cast-place : tie.Need-cast-place Inv-loop μ-loop
 cast-place c = record { fits = omega (arith, c .before .before .before .before .before .run-at .ok) }
@@ -50,7 +50,7 @@ loop-again c =
     let a = c .before .before .before .before .before .before .before .before .before .before .before .before .args in
     let one = c .before .before .before .before .before .run-at in
     let two = c .before .before .before .run-at2 in
-    let ran = c .before .before .copy-run in
+    let ran = c .before .before .copy-cells in
     let same = ran .ensures ∙ ap (λ z. copied (a .binding-cells .now) Cells.Evaluation (l .cells) z (l .place) (one .result)) (two .ensures) ∙ ap (λ z. copied (a .binding-cells .now) Cells.Evaluation (l .cells) (Lists.getD (a .firsts .now) (l .i) 0) (l .place) z) (one .ensures) in
     (ap Lists.length (ran .ensures) ∙ copied-length (a .binding-cells .now) Cells.Evaluation (l .cells) (two .result) (l .place) (one .result) ∙ l .inv .0, omega (arith, l .inv .1, c .before .before .before .before .before .before .loop-test .taken), omega (arith, l .inv .2, c .before .before .before .before .before .before .loop-test .taken, one .ok), ap (λ z. runsCopied (a .binding-cells .now) (a .firsts .now) (a .counts .now) (l .left - 1) (l .i + 1) (l .place + z) (ran .last .1 .0)) (one .ensures) ∙ runs-on (a .binding-cells .now) (a .firsts .now) (a .counts .now) (l .cells) (ran .last .1 .0) (l .left) (l .i) (l .place) (c .before .before .before .before .before .before .loop-test .taken) same ∙ l .inv .3)
 
@@ -61,4 +61,4 @@ returns : tie.Need-returns Inv-loop μ-loop
 returns c = runs-none (c .before .before .before .before .before .before .args .binding-cells .now) (c .before .before .before .before .before .before .args .firsts .now) (c .before .before .before .before .before .before .args .counts .now) (c .before .loop .cells) (c .before .loop .left) (c .before .loop .i) (c .before .loop .place) (c .loop-test .left) ∙ c .before .loop .inv .3
 
 pub copy-runs-spec : {M : Type 1} → statement M
-copy-runs-spec = tie.close (tie.spec Inv-loop μ-loop loop-holds run-at-requires run-at-requires-2 copy-run-requires cast-place add-place add-i sub-left loop-less loop-again same-length returns)
+copy-runs-spec = tie.close (tie.spec Inv-loop μ-loop loop-holds run-at-requires run-at-requires-2 copy-cells-requires cast-place add-place add-i sub-left loop-less loop-again same-length returns)

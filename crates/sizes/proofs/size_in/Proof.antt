@@ -1,5 +1,8 @@
 -- `sizes::size_in` meets its contract. Assumes nothing.
+use native.Mathlib.Omega.{arith}
+use Rattle.rooms.specs.Rooms.{textOf}
 use Rattle.sizes.proofs.Others.{no-size}
+use Rattle.sizes.proofs.Small.{points-small}
 use borrow.Author.Needs.{needs}
 use Rattle.sizes.proofs.size_in.Statement.{statement}
 use Rattle.sizes.proofs.size_in.Tie as tie
@@ -10,23 +13,20 @@ enum-known-value c = search needs
 part-points-requires : tie.Need-part-points-requires
 part-points-requires c κs = search needs
 
+cast-t13 : tie.Need-cast-t13
+cast-t13 c =
+    record {
+      fits = omega (arith, points-small (textOf (c .before .before .before .before .before .before .before .args .literal .now) (c .before .before .before .before .before .before .before .args .binding-text .now) (c .before .before .before .before .before .before .before .args .text .now) (c .before .before .value .given .0 .0)) (c .before .before .value .given .0 .1 .0) (c .before .before .value .given .0 .1 .1 .0), c .part-points .ensures, c .before .known-told .given);
+    }
+
 enum-known-value-2 : tie.Need-enum-known-value-2
 enum-known-value-2 c = search needs
-
-cast-t13 : tie.Need-cast-t13
-cast-t13 c = search needs
 
 enum-known-value-3 : tie.Need-enum-known-value-3
 enum-known-value-3 c = search needs
 
-cast-t14 : tie.Need-cast-t14
-cast-t14 c = search needs
-
 enum-known-value-4 : tie.Need-enum-known-value-4
 enum-known-value-4 c = search needs
-
-cast-t15 : tie.Need-cast-t15
-cast-t15 c = search needs
 
 returns : tie.Need-returns
 returns c = simp (c .before .before .value .given .1, ← c .part-points .ensures)
@@ -49,12 +49,10 @@ size-in-spec =
     (tie.spec
     enum-known-value
     part-points-requires
-    enum-known-value-2
     cast-t13
+    enum-known-value-2
     enum-known-value-3
-    cast-t14
     enum-known-value-4
-    cast-t15
     returns
     returns-2
     returns-3

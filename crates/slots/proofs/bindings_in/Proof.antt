@@ -1,6 +1,6 @@
 -- `slots::bindings_in`. Assumes nothing.
 use mathlib.Core.Path.{_∙_}
-use Rattle.slots.proofs.Filling.{other-length, other-mark, is-state}
+use Rattle.slots.proofs.Filling.{other-length, other-count, is-state}
 use borrow.Author.Needs.{needs}
 use Rattle.slots.proofs.bindings_in.Statement.{statement}
 use Rattle.slots.proofs.bindings_in.Tie as tie
@@ -23,7 +23,7 @@ no-bindings-requires-2 c κs = search needs
 
 -- src/lib.rt:98:9
 returns-2 : tie.Need-returns-2
-returns-2 c = c .no-bindings2 .ensures ∙ other-mark (c .before .before .before .before .before .args .words .now) (c .before .before .before .if1 .left) (c .before .if2 .taken)
+returns-2 c = c .no-bindings2 .ensures ∙ other-count (c .before .before .before .before .before .args .words .now) (c .before .before .before .if1 .left) (c .before .if2 .taken)
 
 -- src/lib.rt:101:16
 scope-in-requires : tie.Need-scope-in-requires
