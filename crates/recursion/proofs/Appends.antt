@@ -123,8 +123,9 @@ module _ (c : Loop) (path : AppendStep) (space : CellSpace) (stride : ℕ) where
       pub append-ends : {e : Outcome} → a ≡ Asked.Ends e → Is e z all
       append-ends is = ap (λ a. onAsked a z inItem (λ w q. gathered g w q)) (sym is) ∙ this-turn
 
-      pub append-fails : {w : Used} → a ≡ Asked.Fails w → {e : Outcome} {y : Rooms} → Is e y (gathered g w z) → Is e y all
-      append-fails is f = f ∙ (ap (λ a. onAsked a z inItem (λ w q. gathered g w q)) (sym is) ∙ this-turn)
+      -- no turn is left then
+      pub append-fails : {w : Used} → a ≡ Asked.Fails w → appendTurns c path space stride 0 at g s w z ≡ all
+      append-fails {w} is = no-append 0 at refl g s w z ∙ (ap (λ a. onAsked a z inItem (λ w q. gathered g w q)) (sym is) ∙ this-turn)
 
       module _ {w : Used} (is : a ≡ Asked.Holds w) {v : Value} (cell : v ≡ cellIn (wordsOf (z .bindingCells) (z .cells) space) at)
           {b : Asked} {z′ : Rooms} (passed : Passed (c .place) (path .guard) (stored s (c .item) v) w z b z′) where
@@ -176,6 +177,12 @@ module _ (t x : List ℕ) (limit p : ℕ) (isGuarded : Bool) (guard list : ℕ) 
       (places : Places) → places .item ≡ item → places .condition ≡ condition →
       appendTurns (loopAt t x limit p places) (appendAt t x limit isGuarded guard list) space stride n at g s u r ≡
       appendTurns (loopAt t x limit p places) (appendAt t x limit isGuarded guard list) space stride m q k e w z
+
+  pub none-again : (n at : ℕ) → 0 < n → (g : Gathered) (s : Scope) (u : Used) (r : Rooms) {o : Outcome} {z : Rooms} →
+      Is o z (machine t limit (exprOf t x condition) s u r) → {a : Asked} → a ≡ askedOf p o → {w : Used} → a ≡ Asked.Fails w → Same 0 at g s w z n at g s u r
+  none-again n at h g s u r test asking is places e f =
+      let k = rw (sym f) at test in
+      append-fails (loopAt t x limit p places) path space stride n at h g s u r k asking is
 
   module _ (n at : ℕ) (h : 0 < n) (g : Gathered) (s : Scope) (u : Used) (r : Rooms) {o : Outcome} {z : Rooms}
       (test : Is o z (machine t limit (exprOf t x condition) s u r)) {a : Asked} (asking : a ≡ askedOf p o) {w : Used} (is : a ≡ Asked.Holds w)
@@ -259,5 +266,24 @@ module _ (t x b y cells₀ text₀ : List ℕ) (limit p : ℕ) (isGuarded : Bool
         below = omega (arith, v .below, h, w);
         runs = omega (arith, v .runs, h, m .0);
         elements = omega (arith, v .elements, h, m .1);
+        same = λ places c d. e places c d ∙ v .same places c d;
+      }
+
+  -- after a condition that fails
+  pub appends-over : {cells text firsts counts : List ℕ} {s : Scope} {g : Collected} {u : Used} {cell left : ℕ} →
+      AppendsLoop t x b y cells₀ text₀ limit p isGuarded guard list space first count stride item condition s₀ u₀ cells text firsts counts s g u cell left → {u₁ : Used} →
+      Same t x limit p isGuarded guard list space stride item condition 0 cell (gatheredIn firsts counts g) s u₁ (rooms x b y cells text)
+      left cell (gatheredIn firsts counts g) s u (rooms x b y cells text) →
+      AppendsLoop t x b y cells₀ text₀ limit p isGuarded guard list space first count stride item condition s₀ u₀ cells text firsts counts s g u₁ cell 0
+  appends-over v e =
+      record {
+        kept = v .kept;
+        keptx = v .keptx;
+        long = v .long;
+        firsts-long = v .firsts-long;
+        counts-long = v .counts-long;
+        below = omega (arith, v .below);
+        runs = omega (arith, v .runs);
+        elements = omega (arith, v .elements);
         same = λ places c d. e places c d ∙ v .same places c d;
       }

@@ -15,7 +15,7 @@ use Rattle.rooms.specs.declared.scope.Scope.{Scope}
 use Rattle.rooms.specs.Value.{partsOf}
 use Rattle.rooms.specs.Rooms.{Rooms}
 use Rattle.rooms.specs.Scope.{stored}
-use Rattle.layout.specs.Layout.{wordAt, after}
+use Rattle.layout.specs.Layout.{wordAt, after, headBytes}
 use Rattle.accepted.specs.Records.{exprOf, Sound}
 use Rattle.machine.specs.declared.outcome.Used.{Used}
 use Rattle.machine.specs.declared.outcome.Error.the-variants as Error
@@ -56,7 +56,9 @@ literal-condition t x limit c start s e =
 
 -- ---- the record
 
-module _ (t x : List ℕ) (limit p : ℕ) (at : ComprehensionAt t x p) (s : Scope) (u : Used) (r : Rooms) where
+-- the range is the first operand, and the init follows it
+module _ (t x : List ℕ) (limit p : ℕ) (at : ComprehensionAt t x p) {over second : ℕ} (first-is : over ≡ p + headBytes (getD t p 0)) (second-is : second ≡ after t over)
+    (s : Scope) (u : Used) (r : Rooms) where
   abbrev whole : Res
   whole = body t limit (exprOf t x p) s u r
 
@@ -66,21 +68,33 @@ module _ (t x : List ℕ) (limit p : ℕ) (at : ComprehensionAt t x p) (s : Scop
   abbrev range : Used → Rooms → Res
   range w z = machine t limit (exprOf t x (p + 5)) s w z
 
-  pub init-stops : {o : Outcome} {z : Rooms} → Is o z init → Stops o → Is o z whole
-  init-stops e h = stops-there init e h _ ∙ sym (at .does limit s u r)
+  over-is : over ≡ p + 5
+  over-is = first-is ∙ at .first
 
-  module _ {o : Outcome} {z : Rooms} (one : Is o z init) {start : Value} {w : Used} (begun : o ≡ Outcome.Value start w)
-      {o′ : Outcome} {z′ : Rooms} (two : Is o′ z′ (range w z)) where
+  second-at : second ≡ after t (p + 5)
+  second-at = second-is ∙ ap (λ (n : ℕ). after t n) over-is
+
+  init-is : {o : Outcome} {z : Rooms} → Is o z (machine t limit (exprOf t x second) s u r) → Is o z init
+  init-is e = e ∙ ap (λ (n : ℕ). machine t limit (exprOf t x n) s u r) second-at
+
+  range-is : {o : Outcome} {z : Rooms} (w : Used) (y : Rooms) → Is o z (machine t limit (exprOf t x over) s w y) → Is o z (range w y)
+  range-is w y e = e ∙ ap (λ (n : ℕ). machine t limit (exprOf t x n) s w y) over-is
+
+  pub init-stops : {o : Outcome} {z : Rooms} → Is o z (machine t limit (exprOf t x second) s u r) → Stops o → Is o z whole
+  init-stops e h = stops-there init (init-is e) h _ ∙ sym (at .does limit s u r)
+
+  module _ {o : Outcome} {z : Rooms} (one : Is o z (machine t limit (exprOf t x second) s u r)) {start : Value} {w : Used} (begun : o ≡ Outcome.Value start w)
+      {o′ : Outcome} {z′ : Rooms} (two : Is o′ z′ (machine t limit (exprOf t x over) s w z)) where
     pub range-stops : Stops o′ → Is o′ z′ whole
-    range-stops h = stops-there (range w z) two h _ ∙ (goes-on init one begun _ ∙ sym (at .does limit s u r))
+    range-stops h = stops-there (range w z) (range-is w z two) h _ ∙ (goes-on init (init-is one) begun _ ∙ sym (at .does limit s u r))
 
-    module _ {v : Value} {y : Used} (over : o′ ≡ Outcome.Value v y) (k : Range) (seen : rangeSeen k ≡ itemsParts (partsOf v)) where
+    module _ {v : Value} {y : Used} (value : o′ ≡ Outcome.Value v y) (k : Range) (seen : rangeSeen k ≡ itemsParts (partsOf v)) where
       abbrev from : Items → Res
       from items = loopFrom (loopAt t x limit p (placesAt t p)) (openPath t x limit (placesAt t p)) start items s y z′
 
       goes : onItems p y z′ (rangeSeen k) (λ items. from items) ≡ whole
       goes =
-          ap (λ i. onItems p y z′ i (λ items. from items)) seen ∙ (goes-on (range w z) two over _ ∙ (goes-on init one begun _ ∙ sym (at .does limit s u r)))
+          ap (λ i. onItems p y z′ i (λ items. from items)) seen ∙ (goes-on (range w z) (range-is w z two) value _ ∙ (goes-on init (init-is one) begun _ ∙ sym (at .does limit s u r)))
 
       pub no-range : k ≡ Range.Not → Is (Outcome.Error Error.IterableWanted p y) z′ whole
       no-range e = ap (λ k. onItems p y z′ (rangeSeen k) (λ items. from items)) (sym e) ∙ goes

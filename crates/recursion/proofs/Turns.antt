@@ -70,6 +70,10 @@ module _ (c : Loop) (space : CellSpace) (stride : ℕ) where
   unfolding turns
   no-turn n at e held s u r f = rw e (f ∙ finished-by c (pendingSeen held) s u r)
 
+  turns-done : (at : ℕ) (held : Pending) (s : Scope) (u : Used) (r : Rooms) → fromTurn 0 at held s u r ≡ finish c (pendingSeen held) s u r
+  unfolding turns
+  turns-done at held s u r = refl
+
   module _ (n at : ℕ) (h : 0 < n) (held : Pending) (s : Scope) (u : Used) (r : Rooms) where
     abbrev inTurn : Used → Rooms → Res
     inTurn w q = turn c (cellAt q space at) (pendingSeen held) (λ e t z o. turns c space stride (n - 1) (at + stride) e t z o) s w q
@@ -91,9 +95,9 @@ module _ (c : Loop) (space : CellSpace) (stride : ℕ) where
       pub turn-ends : {e : Outcome} → a ≡ Asked.Ends e → Is e z (fromTurn n at held s u r)
       turn-ends is = ap (λ a. onAsked a z inTurn atEnd) (sym is) ∙ this-turn
 
-      pub turn-fails : {w : Used} → a ≡ Asked.Fails w → {e : Outcome} {y : Rooms} → Is e y (finishWith (c .result) (pendingSeen held) s w z) →
-          Is e y (fromTurn n at held s u r)
-      turn-fails {w} is f = f ∙ (finished-by c (pendingSeen held) s w z ∙ (ap (λ a. onAsked a z inTurn atEnd) (sym is) ∙ this-turn))
+      -- no turn is left then
+      pub turn-fails : {w : Used} → a ≡ Asked.Fails w → fromTurn 0 at held s w z ≡ fromTurn n at held s u r
+      turn-fails {w} is = turns-done at held s w z ∙ (ap (λ a. onAsked a z inTurn atEnd) (sym is) ∙ this-turn)
 
       module _ {w : Used} (is : a ≡ Asked.Holds w) {v : Value} (cell : v ≡ cellIn (wordsOf (z .bindingCells) (z .cells) space) at)
           {o′ : Outcome} {z′ : Rooms} (step : Is o′ z′ (c .step (stored s (c .item) v) w z))
@@ -155,3 +159,12 @@ module _ (t x b y cells₀ text₀ : List ℕ) (limit p : ℕ) (space : CellSpac
       TurnsLoop t x b y cells₀ text₀ limit p space first count stride places s₀ u₀ cells₁ text₁ s₁ held₁ u₁ (cell + stride) (left - 1)
   turns-again v h w i j k e =
       record { kept = i ∙ v .kept; keptx = j ∙ v .keptx; long = k ∙ v .long; below = omega (arith, v .below, h, w); same = e ∙ v .same }
+
+  -- after a condition that fails
+  pub turns-over : {cells text : List ℕ} {s : Scope} {held : Pending} {u : Used} {cell left : ℕ} →
+      TurnsLoop t x b y cells₀ text₀ limit p space first count stride places s₀ u₀ cells text s held u cell left →
+      {cells₁ text₁ : List ℕ} {u₁ : Used} → length cells₁ ≡ length cells → length text₁ ≡ length text →
+      fromTurn (loopAt t x limit p places) space stride 0 cell held s u₁ (rooms x b y cells₁ text₁) ≡
+      fromTurn (loopAt t x limit p places) space stride left cell held s u (rooms x b y cells text) →
+      TurnsLoop t x b y cells₀ text₀ limit p space first count stride places s₀ u₀ cells₁ text₁ s held u₁ cell 0
+  turns-over v i j e = record { kept = i ∙ v .kept; keptx = j ∙ v .keptx; long = v .long; below = omega (arith, v .below); same = e ∙ v .same }

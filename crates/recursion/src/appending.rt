@@ -27,12 +27,13 @@ use rooms::scope::Slot;
 use rooms::value::CellSpace;
 use rooms::value::Value;
 use runs::Collected;
+use runs::MOST_RUNS;
 use runs::add_run;
 use runs::collected_list;
 use sides::Quad;
 
-// The append path: the accumulator is not stored, and the step and the result are not begun. The condition is a literal. A turn that gathers takes
-// at least two cells, and there are at most 4,096: 2,048 runs are enough.
+// The append path: the accumulator is not stored, and the step and the result are not begun. The condition is a literal. Without a guard, `guard` is
+// the place of the items list, and nothing is asked of it in a turn.
 pub fn appends(
     table: &[u8],
     literal: &[u8],
@@ -60,8 +61,8 @@ pub fn appends(
     let condition = places.condition;
     let guard_slots = reach_at(table, literal, guard);
     let list_slots = single_at(table, literal, list);
-    let mut firsts = [0u16; 2048];
-    let mut counts = [0u16; 2048];
+    let mut firsts = [0u16; MOST_RUNS];
+    let mut counts = [0u16; MOST_RUNS];
     let mut inner = scope;
     let mut collected = Collected {
         runs: 0,
@@ -86,8 +87,10 @@ pub fn appends(
             Asked::Ends(outcome) => {
                 return outcome;
             }
+            // no turn is left
             Asked::Fails(more) => {
-                return collected_list(binding_cells, cells, &firsts, &counts, collected, more);
+                spent = more;
+                left = 0;
             }
             Asked::Holds(more) => {
                 inner.slots[item] = Slot {
@@ -96,6 +99,7 @@ pub fn appends(
                 cell += each as usize;
                 left -= 1;
                 let passes = if guarded {
+                    // a copy is taken apart: what a loop takes apart is one of the things that its invariant speaks of
                     let reads = guard_slots;
                     let test = match reads {
                         Quad::Slots(first_slot, second_slot, third_slot, fourth_slot) => reach(

@@ -194,6 +194,7 @@ pub fn turns(
     let mut cell = first as usize;
     let mut left = count as usize;
     while 0 < left {
+        // a copy is taken apart: what a loop takes apart is one of the things that its invariant speaks of
         let reads = condition_slots;
         let test = match reads {
             Quad::Slots(first_slot, second_slot, third_slot, fourth_slot) => reach(
@@ -229,20 +230,10 @@ pub fn turns(
             Asked::Ends(outcome) => {
                 return outcome;
             }
+            // no turn is left
             Asked::Fails(more) => {
-                return finish(
-                    table,
-                    literal,
-                    binding_cells,
-                    binding_text,
-                    cells,
-                    text,
-                    limit,
-                    result,
-                    inner,
-                    more,
-                    held,
-                );
+                spent = more;
+                left = 0;
             }
             Asked::Holds(more) => {
                 inner.slots[item] = Slot {

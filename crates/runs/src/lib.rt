@@ -19,6 +19,9 @@ use outcomes::outcomes::with_cells;
 use rooms::value::CellSpace;
 use rooms::value::Value;
 
+// A turn that gathers takes at least two cells, and there are at most 4,096: so many runs are enough.
+pub const MOST_RUNS: usize = 2048;
+
 // How many runs of cells, how many elements in them, and the nesting of a list of those.
 pub struct Collected {
     pub runs: usize,

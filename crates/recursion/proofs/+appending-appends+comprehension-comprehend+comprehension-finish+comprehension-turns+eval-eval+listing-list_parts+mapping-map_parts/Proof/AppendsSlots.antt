@@ -16,8 +16,8 @@ appends-single-at-requires t c κs =
     let pre = c .before .before .before .before .before .before .before .pre in
     pre .1 .3
 
-pub appends-mul-t69 : (t : ℕ) → appends-lts.Need-mul-t69 (appends-claims t) (appends-at t) appends.Post appends-Inv-loop appends-μ-loop
-appends-mul-t69 t c =
+pub appends-mul-t63 : (t : ℕ) → appends-lts.Need-mul-t63 (appends-claims t) (appends-at t) appends.Post appends-Inv-loop appends-μ-loop
+appends-mul-t63 t c =
     let pre = c .before .before .before .before .before .before .before .before .before .before .before .before .before .before .before .before .before .pre in
     omega (arith, pre .1 .6)
 

@@ -19,8 +19,9 @@ comprehend-first-operand-requires t c κs =
 
 pub comprehend-end-at-requires : (t : ℕ) → comprehend-lts.Need-end-at-requires (comprehend-claims t) (comprehend-at t) comprehend.Post
 comprehend-end-at-requires t c κs =
-    let args = c .before .before .before .before .before .before .before .args in
-    let pre = c .before .before .before .before .before .before .before .pre in
+    let start = c .before .before .before .before .before .before .before in
+    let args = start .args in
+    let pre = start .pre in
     let table = args .table .now in
     let literal = args .literal .now in
     let z = comprehension-at table literal (args .at) (pre .1 .0) (pre .1 .1) in
@@ -29,8 +30,9 @@ comprehend-end-at-requires t c κs =
 pub comprehend-eval-requires : (t : ℕ) → comprehend-lts.Need-eval-requires (comprehend-claims t) (comprehend-at t) comprehend.Post
 comprehend-eval-requires t c κs =
     let first-operand = c .before .before .before .first-operand in
-    let args = c .before .before .before .before .before .before .before .before .before .before .args in
-    let pre = c .before .before .before .before .before .before .before .before .before .before .pre in
+    let start = c .before .before .before .before .before .before .before .before .before .before in
+    let args = start .args in
+    let pre = start .pre in
     let table = args .table .now in
     let z = comprehension-at table (args .literal .now) (args .at) (pre .1 .0) (pre .1 .1) in
     let f : first-operand .result ≡ (args .at) + 5 = first-operand .ensures ∙ z .first in
@@ -49,20 +51,20 @@ pub comprehend-returns : (t : ℕ) → comprehend-lts.Need-returns (comprehend-c
 comprehend-returns t c =
     let first-operand = c .before .before .before .before .before .before .before .before .before .first-operand in
     let end-at = c .before .before .before .before .before .before .before .before .end-at in
-    let args = c .before .before .before .before .before .before .before .before .before .before .before .before .before .before .before .before .args in
-    let pre = c .before .before .before .before .before .before .before .before .before .before .before .before .before .before .before .before .pre in
+    let start = c .before .before .before .before .before .before .before .before .before .before .before .before .before .before .before .before in
+    let args = start .args in
+    let pre = start .pre in
     let table = args .table .now in
     let literal = args .literal .now in
     let z = comprehension-at table literal (args .at) (pre .1 .0) (pre .1 .1) in
-    let f : first-operand .result ≡ (args .at) + 5 = first-operand .ensures ∙ z .first in
-    let g : end-at .result ≡ after table ((args .at) + 5) = end-at .ensures ∙ ap (λ (n : ℕ). after table n) f in
-    let k = rw g at (c .before .before .before .before .before .eval .ensures) in init-stops table literal (args .limit) (args .at) z (args .scope) (args .used) (rooms literal (args .binding-cells .now) (args .binding-text .now) (args .cells .now) (args .text .now)) k (c .match .keys2)
+    init-stops table literal (args .limit) (args .at) z (first-operand .ensures) (end-at .ensures) (args .scope) (args .used) (rooms literal (args .binding-cells .now) (args .binding-text .now) (args .cells .now) (args .text .now)) (c .before .before .before .before .before .eval .ensures) (c .match .keys2)
 
 pub comprehend-eval-requires-2 : (t : ℕ) → comprehend-lts.Need-eval-requires-2 (comprehend-claims t) (comprehend-at t) comprehend.Post
 comprehend-eval-requires-2 t c κs =
     let first-operand = c .before .before .before .before .before .before .before .before .before .before .before .before .before .first-operand in
-    let args = c .before .before .before .before .before .before .before .before .before .before .before .before .before .before .before .before .before .before .before .before .args in
-    let pre = c .before .before .before .before .before .before .before .before .before .before .before .before .before .before .before .before .before .before .before .before .pre in
+    let start = c .before .before .before .before .before .before .before .before .before .before .before .before .before .before .before .before .before .before .before .before in
+    let args = start .args in
+    let pre = start .pre in
     let z = comprehension-at (args .table .now) (args .literal .now) (args .at) (pre .1 .0) (pre .1 .1) in
     let f : first-operand .result ≡ (args .at) + 5 = first-operand .ensures ∙ z .first in rw f (omega (arith, z .extents, pre .0), z .range)
 
@@ -85,15 +87,13 @@ comprehend-returns-2 t c =
     let end-at = c .before .before .before .before .before .before .before .before .before .before .before .before .before .before .before .before .before .before .end-at in
     let eval-call = c .before .before .before .before .before .before .before .before .before .before .before .before .before .before .before .eval in
     let one = c .before .before .before .before .before .before .before .before .before .one in
-    let args = c .before .before .before .before .before .before .before .before .before .before .before .before .before .before .before .before .before .before .before .before .before .before .before .before .before .before .args in
-    let pre = c .before .before .before .before .before .before .before .before .before .before .before .before .before .before .before .before .before .before .before .before .before .before .before .before .before .before .pre in
+    let start = c .before .before .before .before .before .before .before .before .before .before .before .before .before .before .before .before .before .before .before .before .before .before .before .before .before .before in
+    let args = start .args in
+    let pre = start .pre in
     let table = args .table .now in
     let literal = args .literal .now in
     let z = comprehension-at table literal (args .at) (pre .1 .0) (pre .1 .1) in
-    let f : first-operand .result ≡ (args .at) + 5 = first-operand .ensures ∙ z .first in
-    let g : end-at .result ≡ after table ((args .at) + 5) = end-at .ensures ∙ ap (λ (n : ℕ). after table n) f in
-    let k = rw g at (eval-call .ensures) in
-    let l = rw f at (c .before .before .before .before .before .eval2 .ensures) in range-stops table literal (args .limit) (args .at) z (args .scope) (args .used) (rooms literal (args .binding-cells .now) (args .binding-text .now) (args .cells .now) (args .text .now)) k (one .given .1) l (c .match2 .keys2)
+    range-stops table literal (args .limit) (args .at) z (first-operand .ensures) (end-at .ensures) (args .scope) (args .used) (rooms literal (args .binding-cells .now) (args .binding-text .now) (args .cells .now) (args .text .now)) (eval-call .ensures) (one .given .1) (c .before .before .before .before .before .eval2 .ensures) (c .match2 .keys2)
 
 pub comprehend-range-of-requires : (t : ℕ) → comprehend-lts.Need-range-of-requires (comprehend-claims t) (comprehend-at t) comprehend.Post
 comprehend-range-of-requires t c κs = search needs
@@ -123,22 +123,21 @@ comprehend-returns-3 t c =
     let eval-call = c .before .before .before .before .before .before .before .before .before .before .before .before .before .before .before .before .before .before .before .before .eval in
     let one = c .before .before .before .before .before .before .before .before .before .before .before .before .before .before .one in
     let eval2 = c .before .before .before .before .before .before .before .before .before .before .eval2 in
-    let args = c .before .before .before .before .before .before .before .before .before .before .before .before .before .before .before .before .before .before .before .before .before .before .before .before .before .before .before .before .before .before .before .args in
-    let pre = c .before .before .before .before .before .before .before .before .before .before .before .before .before .before .before .before .before .before .before .before .before .before .before .before .before .before .before .before .before .before .before .pre in
+    let start = c .before .before .before .before .before .before .before .before .before .before .before .before .before .before .before .before .before .before .before .before .before .before .before .before .before .before .before .before .before .before .before in
+    let args = start .args in
+    let pre = start .pre in
     let table = args .table .now in
     let literal = args .literal .now in
     let z = comprehension-at table literal (args .at) (pre .1 .0) (pre .1 .1) in
-    let f : first-operand .result ≡ (args .at) + 5 = first-operand .ensures ∙ z .first in
-    let g : end-at .result ≡ after table ((args .at) + 5) = end-at .ensures ∙ ap (λ (n : ℕ). after table n) f in
-    let k = rw g at (eval-call .ensures) in
-    let l = rw f at (eval2 .ensures) in no-range table literal (args .limit) (args .at) z (args .scope) (args .used) (rooms literal (args .binding-cells .now) (args .binding-text .now) (args .cells .now) (args .text .now)) k (one .given .1) l (c .before .before .before .before .two .given .1) (c .before .before .range-of .result) (c .before .before .range-of .ensures) (c .enum-told .given .1)
+    no-range table literal (args .limit) (args .at) z (first-operand .ensures) (end-at .ensures) (args .scope) (args .used) (rooms literal (args .binding-cells .now) (args .binding-text .now) (args .cells .now) (args .text .now)) (eval-call .ensures) (one .given .1) (eval2 .ensures) (c .before .before .before .before .two .given .1) (c .before .before .range-of .result) (c .before .before .range-of .ensures) (c .enum-told .given .1)
 
 pub comprehend-places-at-requires : (t : ℕ) → comprehend-lts.Need-places-at-requires (comprehend-claims t) (comprehend-at t) comprehend.Post
 comprehend-places-at-requires t c κs =
     let first-operand = c .before .before .before .before .before .before .before .before .before .before .before .before .before .before .before .before .before .before .before .before .before .before .before .before .before .first-operand in
     let end-at = c .before .before .before .before .before .before .before .before .before .before .before .before .before .before .before .before .before .before .before .before .before .before .before .before .end-at in
-    let args = c .before .before .before .before .before .before .before .before .before .before .before .before .before .before .before .before .before .before .before .before .before .before .before .before .before .before .before .before .before .before .before .before .args in
-    let pre = c .before .before .before .before .before .before .before .before .before .before .before .before .before .before .before .before .before .before .before .before .before .before .before .before .before .before .before .before .before .before .before .before .pre in
+    let start = c .before .before .before .before .before .before .before .before .before .before .before .before .before .before .before .before .before .before .before .before .before .before .before .before .before .before .before .before .before .before .before .before in
+    let args = start .args in
+    let pre = start .pre in
     let table = args .table .now in
     let z = comprehension-at table (args .literal .now) (args .at) (pre .1 .0) (pre .1 .1) in
     let f : first-operand .result ≡ (args .at) + 5 = first-operand .ensures ∙ z .first in
@@ -147,8 +146,9 @@ comprehend-places-at-requires t c κs =
 pub comprehend-append-path-requires : (t : ℕ) → comprehend-lts.Need-append-path-requires (comprehend-claims t) (comprehend-at t) comprehend.Post
 comprehend-append-path-requires t c κs =
     let places-at = c .places-at in
-    let args = c .before .before .before .before .before .before .before .before .before .before .before .before .before .before .before .before .before .before .before .before .before .before .before .before .before .before .before .before .before .before .before .before .before .args in
-    let pre = c .before .before .before .before .before .before .before .before .before .before .before .before .before .before .before .before .before .before .before .before .before .before .before .before .before .before .before .before .before .before .before .before .before .pre in
+    let start = c .before .before .before .before .before .before .before .before .before .before .before .before .before .before .before .before .before .before .before .before .before .before .before .before .before .before .before .before .before .before .before .before .before in
+    let args = start .args in
+    let pre = start .pre in
     let table = args .table .now in
     let literal = args .literal .now in
     let z = comprehension-at table literal (args .at) (pre .1 .0) (pre .1 .1) in (condition-sound table literal (args .at) z (places-at .ensures), step-sound table literal (args .at) z (places-at .ensures), result-sound table literal (args .at) z (places-at .ensures))
@@ -159,8 +159,9 @@ comprehend-enum-told-2 t c = search needs
 pub comprehend-turns-requires : (t : ℕ) → comprehend-lts.Need-turns-requires (comprehend-claims t) (comprehend-at t) comprehend.Post
 comprehend-turns-requires t c κs =
     let places-at = c .before .before .before .before .before .places-at in
-    let args = c .before .before .before .before .before .before .before .before .before .before .before .before .before .before .before .before .before .before .before .before .before .before .before .before .before .before .before .before .before .before .before .before .before .before .before .before .before .before .args in
-    let pre = c .before .before .before .before .before .before .before .before .before .before .before .before .before .before .before .before .before .before .before .before .before .before .before .before .before .before .before .before .before .before .before .before .before .before .before .before .before .before .pre in
+    let start = c .before .before .before .before .before .before .before .before .before .before .before .before .before .before .before .before .before .before .before .before .before .before .before .before .before .before .before .before .before .before .before .before .before .before .before .before .before .before in
+    let args = start .args in
+    let pre = start .pre in
     let table = args .table .now in
     let literal = args .literal .now in
     let z = comprehension-at table literal (args .at) (pre .1 .0) (pre .1 .1) in (let q = operands-smaller table literal (args .at) z (places-at .ensures) in omega (arith, q, pre .0), (condition-sound table literal (args .at) z (places-at .ensures), step-sound table literal (args .at) z (places-at .ensures), result-sound table literal (args .at) z (places-at .ensures), accumulator-small table literal (args .at) z (places-at .ensures), item-small table literal (args .at) z (places-at .ensures)))
@@ -173,8 +174,9 @@ comprehend-appends-requires t c κs =
     let one = c .before .before .before .before .before .before .before .before .before .before .before .before .before .before .before .before .before .before .before .before .before .before .one in
     let places-at = c .before .before .before .before .before .before .places-at in
     let append-path = c .before .before .before .before .before .append-path in
-    let args = c .before .before .before .before .before .before .before .before .before .before .before .before .before .before .before .before .before .before .before .before .before .before .before .before .before .before .before .before .before .before .before .before .before .before .before .before .before .before .before .args in
-    let pre = c .before .before .before .before .before .before .before .before .before .before .before .before .before .before .before .before .before .before .before .before .before .before .before .before .before .before .before .before .before .before .before .before .before .before .before .before .before .before .before .pre in
+    let start = c .before .before .before .before .before .before .before .before .before .before .before .before .before .before .before .before .before .before .before .before .before .before .before .before .before .before .before .before .before .before .before .before .before .before .before .before .before .before .before in
+    let args = start .args in
+    let pre = start .pre in
     let table = args .table .now in
     let literal = args .literal .now in
     let z = comprehension-at table literal (args .at) (pre .1 .0) (pre .1 .1) in
@@ -188,8 +190,9 @@ comprehend-appends-requires-2 t c κs =
     let one = c .before .before .before .before .before .before .before .before .before .before .before .before .before .before .before .before .before .before .before .before .before .before .one in
     let places-at = c .before .before .before .before .before .before .places-at in
     let append-path = c .before .before .before .before .before .append-path in
-    let args = c .before .before .before .before .before .before .before .before .before .before .before .before .before .before .before .before .before .before .before .before .before .before .before .before .before .before .before .before .before .before .before .before .before .before .before .before .before .before .before .args in
-    let pre = c .before .before .before .before .before .before .before .before .before .before .before .before .before .before .before .before .before .before .before .before .before .before .before .before .before .before .before .before .before .before .before .before .before .before .before .before .before .before .before .pre in
+    let start = c .before .before .before .before .before .before .before .before .before .before .before .before .before .before .before .before .before .before .before .before .before .before .before .before .before .before .before .before .before .before .before .before .before .before .before .before .before .before .before in
+    let args = start .args in
+    let pre = start .pre in
     let table = args .table .now in
     let literal = args .literal .now in
     let z = comprehension-at table literal (args .at) (pre .1 .0) (pre .1 .1) in
@@ -220,15 +223,13 @@ comprehend-returns-4 t c =
     let places-at = c .before .before .before .before .before .before .before .before .before .before .places-at in
     let append-path = c .before .before .before .before .before .before .before .before .before .append-path in
     let enum-told2 = c .before .before .before .before .before .before .before .enum-told2 in
-    let args = c .before .before .before .before .before .before .before .before .before .before .before .before .before .before .before .before .before .before .before .before .before .before .before .before .before .before .before .before .before .before .before .before .before .before .before .before .before .before .before .before .before .before .before .args in
-    let pre = c .before .before .before .before .before .before .before .before .before .before .before .before .before .before .before .before .before .before .before .before .before .before .before .before .before .before .before .before .before .before .before .before .before .before .before .before .before .before .before .before .before .before .before .pre in
+    let start = c .before .before .before .before .before .before .before .before .before .before .before .before .before .before .before .before .before .before .before .before .before .before .before .before .before .before .before .before .before .before .before .before .before .before .before .before .before .before .before .before .before .before .before in
+    let args = start .args in
+    let pre = start .pre in
     let table = args .table .now in
     let literal = args .literal .now in
     let z = comprehension-at table literal (args .at) (pre .1 .0) (pre .1 .1) in
-    let f : first-operand .result ≡ (args .at) + 5 = first-operand .ensures ∙ z .first in
-    let g : end-at .result ≡ after table ((args .at) + 5) = end-at .ensures ∙ ap (λ (n : ℕ). after table n) f in
-    let k = rw g at (eval-call .ensures) in
-    let l = rw f at (eval2 .ensures) in turns-are table literal (args .limit) (args .at) z (args .scope) (args .used) (rooms literal (args .binding-cells .now) (args .binding-text .now) (args .cells .now) (args .text .now)) k (one .given .1) l (two .given .1) (range-of .result) (range-of .ensures) (space .given .1) (places-at .ensures) (append-path .result) (append-path .ensures .0) (enum-told2 .given .1) (c .before .before .before .before .turns .ensures)
+    turns-are table literal (args .limit) (args .at) z (first-operand .ensures) (end-at .ensures) (args .scope) (args .used) (rooms literal (args .binding-cells .now) (args .binding-text .now) (args .cells .now) (args .text .now)) (eval-call .ensures) (one .given .1) (eval2 .ensures) (two .given .1) (range-of .result) (range-of .ensures) (space .given .1) (places-at .ensures) (append-path .result) (append-path .ensures .0) (enum-told2 .given .1) (c .before .before .before .before .turns .ensures)
 
 pub comprehend-same-length-9 : (t : ℕ) → comprehend-lts.Need-same-length-9 (comprehend-claims t) (comprehend-at t) comprehend.Post
 comprehend-same-length-9 t c =
@@ -255,15 +256,13 @@ comprehend-returns-5 t c =
     let places-at = c .before .before .before .before .before .before .before .before .before .before .before .places-at in
     let append-path = c .before .before .before .before .before .before .before .before .before .before .append-path in
     let list = c .before .before .before .before .before .before .before .before .list in
-    let args = c .before .before .before .before .before .before .before .before .before .before .before .before .before .before .before .before .before .before .before .before .before .before .before .before .before .before .before .before .before .before .before .before .before .before .before .before .before .before .before .before .before .before .before .before .args in
-    let pre = c .before .before .before .before .before .before .before .before .before .before .before .before .before .before .before .before .before .before .before .before .before .before .before .before .before .before .before .before .before .before .before .before .before .before .before .before .before .before .before .before .before .before .before .before .pre in
+    let start = c .before .before .before .before .before .before .before .before .before .before .before .before .before .before .before .before .before .before .before .before .before .before .before .before .before .before .before .before .before .before .before .before .before .before .before .before .before .before .before .before .before .before .before .before in
+    let args = start .args in
+    let pre = start .pre in
     let table = args .table .now in
     let literal = args .literal .now in
     let z = comprehension-at table literal (args .at) (pre .1 .0) (pre .1 .1) in
-    let f : first-operand .result ≡ (args .at) + 5 = first-operand .ensures ∙ z .first in
-    let g : end-at .result ≡ after table ((args .at) + 5) = end-at .ensures ∙ ap (λ (n : ℕ). after table n) f in
-    let k = rw g at (eval-call .ensures) in
-    let l = rw f at (eval2 .ensures) in plain-are table literal (args .limit) (args .at) z (args .scope) (args .used) (rooms literal (args .binding-cells .now) (args .binding-text .now) (args .cells .now) (args .text .now)) k (one .given .1) l (two .given .1) (range-of .result) (range-of .ensures) (space .given .1) (places-at .ensures) (append-path .result) (append-path .ensures .0) (list .given .1) (c .before .before .before .before .appends .ensures)
+    plain-are table literal (args .limit) (args .at) z (first-operand .ensures) (end-at .ensures) (args .scope) (args .used) (rooms literal (args .binding-cells .now) (args .binding-text .now) (args .cells .now) (args .text .now)) (eval-call .ensures) (one .given .1) (eval2 .ensures) (two .given .1) (range-of .result) (range-of .ensures) (space .given .1) (places-at .ensures) (append-path .result) (append-path .ensures .0) (list .given .1) (c .before .before .before .before .appends .ensures)
 
 pub comprehend-same-length-11 : (t : ℕ) → comprehend-lts.Need-same-length-11 (comprehend-claims t) (comprehend-at t) comprehend.Post
 comprehend-same-length-11 t c =
@@ -290,12 +289,10 @@ comprehend-returns-6 t c =
     let places-at = c .before .before .before .before .before .before .before .before .before .before .before .places-at in
     let append-path = c .before .before .before .before .before .before .before .before .before .before .append-path in
     let guard = c .before .before .before .before .before .before .before .before .guard in
-    let args = c .before .before .before .before .before .before .before .before .before .before .before .before .before .before .before .before .before .before .before .before .before .before .before .before .before .before .before .before .before .before .before .before .before .before .before .before .before .before .before .before .before .before .before .before .args in
-    let pre = c .before .before .before .before .before .before .before .before .before .before .before .before .before .before .before .before .before .before .before .before .before .before .before .before .before .before .before .before .before .before .before .before .before .before .before .before .before .before .before .before .before .before .before .before .pre in
+    let start = c .before .before .before .before .before .before .before .before .before .before .before .before .before .before .before .before .before .before .before .before .before .before .before .before .before .before .before .before .before .before .before .before .before .before .before .before .before .before .before .before .before .before .before .before in
+    let args = start .args in
+    let pre = start .pre in
     let table = args .table .now in
     let literal = args .literal .now in
     let z = comprehension-at table literal (args .at) (pre .1 .0) (pre .1 .1) in
-    let f : first-operand .result ≡ (args .at) + 5 = first-operand .ensures ∙ z .first in
-    let g : end-at .result ≡ after table ((args .at) + 5) = end-at .ensures ∙ ap (λ (n : ℕ). after table n) f in
-    let k = rw g at (eval-call .ensures) in
-    let l = rw f at (eval2 .ensures) in guarded-are table literal (args .limit) (args .at) z (args .scope) (args .used) (rooms literal (args .binding-cells .now) (args .binding-text .now) (args .cells .now) (args .text .now)) k (one .given .1) l (two .given .1) (range-of .result) (range-of .ensures) (space .given .1) (places-at .ensures) (append-path .result) (append-path .ensures .0) (guard .given .1) (c .before .before .before .before .appends2 .ensures)
+    guarded-are table literal (args .limit) (args .at) z (first-operand .ensures) (end-at .ensures) (args .scope) (args .used) (rooms literal (args .binding-cells .now) (args .binding-text .now) (args .cells .now) (args .text .now)) (eval-call .ensures) (one .given .1) (eval2 .ensures) (two .given .1) (range-of .result) (range-of .ensures) (space .given .1) (places-at .ensures) (append-path .result) (append-path .ensures .0) (guard .given .1) (c .before .before .before .before .appends2 .ensures)

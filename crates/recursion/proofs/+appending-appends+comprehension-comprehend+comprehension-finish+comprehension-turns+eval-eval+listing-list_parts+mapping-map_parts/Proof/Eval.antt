@@ -49,8 +49,9 @@ eval-element-copy-out-leaf-value t c = c .slot-at .ensures .1
 
 pub eval-leaf-value-requires : (t : ℕ) → eval-lts.Need-leaf-value-requires (eval-claims t) (eval-at t) eval.Post
 eval-leaf-value-requires t c κs =
-    let args = c .before .before .before .before .before .before .before .before .before .before .before .before .before .before .args in
-    let pre = c .before .before .before .before .before .before .before .before .before .before .before .before .before .before .pre in
+    let start = c .before .before .before .before .before .before .before .before .before .before .before .before .before .before in
+    let args = start .args in
+    let pre = start .pre in
     (pre .1, leaf-byte (args .table .now) (args .literal .now) (args .at) (pre .1) (sym (c .before .before .before .before .shape-at .ensures) ∙ c .before .before .enum-told .given .1))
 
 pub eval-enum-told-2 : (t : ℕ) → eval-lts.Need-enum-told-2 (eval-claims t) (eval-at t) eval.Post
@@ -61,8 +62,9 @@ eval-enum-told-3 t c = search needs
 
 pub eval-count-at-requires : (t : ℕ) → eval-lts.Need-count-at-requires (eval-claims t) (eval-at t) eval.Post
 eval-count-at-requires t c κs =
-    let args = c .before .before .before .before .before .before .before .before .before .before .before .before .args in
-    let pre = c .before .before .before .before .before .before .before .before .before .before .before .before .pre in
+    let start = c .before .before .before .before .before .before .before .before .before .before .before .before in
+    let args = start .args in
+    let pre = start .pre in
     let table = args .table .now in
     let literal = args .literal .now in list-at table literal (args .at) (pre .1) (shape-byte table literal (args .at) (pre .1) Shape.List (sym (c .before .before .shape-at .ensures) ∙ c .enum-told3 .given .1) (omega arith)) .start
 
@@ -85,8 +87,9 @@ eval-list-parts-requires t c κs =
     let enum-told3 = c .before .before .before .before .before .before .before .before .before .before .enum-told3 in
     let count-at = c .before .before .before .before .before .before .before .before .before .count-at in
     let begin = c .before .before .before .before .before .before .before .begin in
-    let args = c .before .before .before .before .before .before .before .before .before .before .before .before .before .before .before .before .before .before .before .before .before .before .args in
-    let pre = c .before .before .before .before .before .before .before .before .before .before .before .before .before .before .before .before .before .before .before .before .before .before .pre in
+    let start = c .before .before .before .before .before .before .before .before .before .before .before .before .before .before .before .before .before .before .before .before .before .before in
+    let args = start .args in
+    let pre = start .pre in
     let literal = args .literal .now in (omega (arith, pre .0), (pre .1, (shape-byte (args .table .now) literal (args .at) (pre .1) Shape.List (sym (shape-at .ensures) ∙ enum-told3 .given .1) (omega arith)), begun-places (count-at .result) (count-at .result) (stepped .result) (rooms literal (args .binding-cells .now) (args .binding-text .now) (args .cells .now) (args .text .now)) (begin .ensures) (c .before .before .before .first .given .1) .1 ∙ count-at .ensures .0))
 
 pub eval-enum-told-5 : (t : ℕ) → eval-lts.Need-enum-told-5 (eval-claims t) (eval-at t) eval.Post
@@ -94,8 +97,9 @@ eval-enum-told-5 t c = search needs
 
 pub eval-count-at-requires-2 : (t : ℕ) → eval-lts.Need-count-at-requires-2 (eval-claims t) (eval-at t) eval.Post
 eval-count-at-requires-2 t c κs =
-    let args = c .before .before .before .before .before .before .before .before .before .before .before .before .args in
-    let pre = c .before .before .before .before .before .before .before .before .before .before .before .before .pre in
+    let start = c .before .before .before .before .before .before .before .before .before .before .before .before in
+    let args = start .args in
+    let pre = start .pre in
     let table = args .table .now in
     let literal = args .literal .now in map-at table literal (args .at) (pre .1) (shape-byte table literal (args .at) (pre .1) Shape.Map (sym (c .before .before .shape-at .ensures) ∙ c .enum-told5 .given .1) (omega arith)) .start
 
@@ -121,8 +125,9 @@ eval-map-parts-requires t c κs =
     let enum-told5 = c .before .before .before .before .before .before .before .before .before .before .enum-told5 in
     let count-at2 = c .before .before .before .before .before .before .before .before .before .count-at2 in
     let begin2 = c .before .before .before .before .before .before .before .begin2 in
-    let args = c .before .before .before .before .before .before .before .before .before .before .before .before .before .before .before .before .before .before .before .before .before .before .args in
-    let pre = c .before .before .before .before .before .before .before .before .before .before .before .before .before .before .before .before .before .before .before .before .before .before .pre in
+    let start = c .before .before .before .before .before .before .before .before .before .before .before .before .before .before .before .before .before .before .before .before .before .before in
+    let args = start .args in
+    let pre = start .pre in
     let literal = args .literal .now in (omega (arith, pre .0), (pre .1, (shape-byte (args .table .now) literal (args .at) (pre .1) Shape.Map (sym (shape-at .ensures) ∙ enum-told5 .given .1) (omega arith)), begun-places (count-at2 .result) (2 * count-at2 .result) (stepped .result) (rooms literal (args .binding-cells .now) (args .binding-text .now) (args .cells .now) (args .text .now)) (begin2 .ensures) (c .before .before .before .first2 .given .1) .1 ∙ count-at2 .ensures .0))
 
 pub eval-enum-told-7 : (t : ℕ) → eval-lts.Need-enum-told-7 (eval-claims t) (eval-at t) eval.Post
@@ -130,8 +135,9 @@ eval-enum-told-7 t c = search needs
 
 pub eval-comprehend-requires : (t : ℕ) → eval-lts.Need-comprehend-requires (eval-claims t) (eval-at t) eval.Post
 eval-comprehend-requires t c κs =
-    let args = c .before .before .before .before .before .before .before .before .before .before .before .before .before .before .args in
-    let pre = c .before .before .before .before .before .before .before .before .before .before .before .before .before .before .pre in
+    let start = c .before .before .before .before .before .before .before .before .before .before .before .before .before .before in
+    let args = start .args in
+    let pre = start .pre in
     (omega (arith, pre .0), (pre .1, shape-byte (args .table .now) (args .literal .now) (args .at) (pre .1) Shape.Comprehension (sym (c .before .before .before .before .shape-at .ensures) ∙ c .before .before .enum-told7 .given .1) (omega arith)))
 
 pub eval-enum-known-fixed : (t : ℕ) → eval-lts.Need-enum-known-fixed (eval-claims t) (eval-at t) eval.Post
@@ -141,9 +147,10 @@ pub eval-returns-2 : (t : ℕ) → eval-lts.Need-returns-2 (eval-claims t) (eval
 eval-returns-2 t c =
     let if1 = c .before .before .before .before .before .before .before .if1 in
     let stepped = c .before .before .before .before .before .before .stepped in
-    let args = c .before .before .before .before .before .before .before .before .before .before .before .before .before .before .before .args in
-    let pre = c .before .before .before .before .before .before .before .before .before .before .before .before .before .before .before .pre in
-    let good = c .before .before .before .before .before .before .before .before .before .before .before .before .before .before .before .good in
+    let start = c .before .before .before .before .before .before .before .before .before .before .before .before .before .before .before in
+    let args = start .args in
+    let pre = start .pre in
+    let good = start .good in
     let table = args .table .now in
     let literal = args .literal .now in
     let bindings = args .binding-cells .now in
@@ -152,8 +159,9 @@ eval-returns-2 t c =
 pub eval-returns-3 : (t : ℕ) → eval-lts.Need-returns-3 (eval-claims t) (eval-at t) eval.Post
 eval-returns-3 t c =
     let stepped = c .before .before .before .stepped in
-    let args = c .before .before .before .before .before .before .before .before .before .before .before .before .args in
-    let pre = c .before .before .before .before .before .before .before .before .before .before .before .before .pre in
+    let start = c .before .before .before .before .before .before .before .before .before .before .before .before in
+    let args = start .args in
+    let pre = start .pre in
     let table = args .table .now in
     let literal = args .literal .now in
     let bindings = args .binding-cells .now in
@@ -169,8 +177,9 @@ eval-returns-4 t c =
     let shape-at = c .before .before .before .before .before .before .before .before .before .before .shape-at in
     let enum-told3 = c .before .before .before .before .before .before .before .before .enum-told3 in
     let count-at = c .before .before .before .before .before .before .before .count-at in
-    let args = c .before .before .before .before .before .before .before .before .before .before .before .before .before .before .before .before .before .before .before .before .args in
-    let pre = c .before .before .before .before .before .before .before .before .before .before .before .before .before .before .before .before .before .before .before .before .pre in
+    let start = c .before .before .before .before .before .before .before .before .before .before .before .before .before .before .before .before .before .before .before .before in
+    let args = start .args in
+    let pre = start .pre in
     let table = args .table .now in
     let literal = args .literal .now in
     let bindings = args .binding-cells .now in
@@ -193,8 +202,9 @@ eval-returns-5 t c =
     let count-at = c .before .before .before .before .before .before .before .before .before .before .before .before .before .before .count-at in
     let begin = c .before .before .before .before .before .before .before .before .before .before .before .before .begin in
     let first = c .before .before .before .before .before .before .before .before .first in
-    let args = c .before .before .before .before .before .before .before .before .before .before .before .before .before .before .before .before .before .before .before .before .before .before .before .before .before .before .before .args in
-    let pre = c .before .before .before .before .before .before .before .before .before .before .before .before .before .before .before .before .before .before .before .before .before .before .before .before .before .before .before .pre in
+    let start = c .before .before .before .before .before .before .before .before .before .before .before .before .before .before .before .before .before .before .before .before .before .before .before .before .before .before .before in
+    let args = start .args in
+    let pre = start .pre in
     let table = args .table .now in
     let literal = args .literal .now in
     let bindings = args .binding-cells .now in
@@ -210,8 +220,9 @@ eval-returns-6 t c =
     let shape-at = c .before .before .before .before .before .before .before .before .before .before .shape-at in
     let enum-told5 = c .before .before .before .before .before .before .before .before .enum-told5 in
     let count-at2 = c .before .before .before .before .before .before .before .count-at2 in
-    let args = c .before .before .before .before .before .before .before .before .before .before .before .before .before .before .before .before .before .before .before .before .args in
-    let pre = c .before .before .before .before .before .before .before .before .before .before .before .before .before .before .before .before .before .before .before .before .pre in
+    let start = c .before .before .before .before .before .before .before .before .before .before .before .before .before .before .before .before .before .before .before .before in
+    let args = start .args in
+    let pre = start .pre in
     let table = args .table .now in
     let literal = args .literal .now in
     let bindings = args .binding-cells .now in
@@ -234,8 +245,9 @@ eval-returns-7 t c =
     let count-at2 = c .before .before .before .before .before .before .before .before .before .before .before .before .before .before .count-at2 in
     let begin2 = c .before .before .before .before .before .before .before .before .before .before .before .before .begin2 in
     let first2 = c .before .before .before .before .before .before .before .before .first2 in
-    let args = c .before .before .before .before .before .before .before .before .before .before .before .before .before .before .before .before .before .before .before .before .before .before .before .before .before .before .before .args in
-    let pre = c .before .before .before .before .before .before .before .before .before .before .before .before .before .before .before .before .before .before .before .before .before .before .before .before .before .before .before .pre in
+    let start = c .before .before .before .before .before .before .before .before .before .before .before .before .before .before .before .before .before .before .before .before .before .before .before .before .before .before .before in
+    let args = start .args in
+    let pre = start .pre in
     let table = args .table .now in
     let literal = args .literal .now in
     let bindings = args .binding-cells .now in

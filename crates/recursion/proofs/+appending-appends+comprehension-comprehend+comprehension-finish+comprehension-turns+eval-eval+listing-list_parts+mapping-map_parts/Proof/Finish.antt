@@ -22,8 +22,9 @@ finish-enum-told t c = search needs
 
 pub finish-is-leaf-requires : (t : ℕ) → finish-lts.Need-is-leaf-requires (finish-claims t) (finish-at t) finish.Post
 finish-is-leaf-requires t c κs =
-    let args = c .before .before .before .before .before .before .before .before .args in
-    let pre = c .before .before .before .before .before .before .before .before .pre in
+    let start = c .before .before .before .before .before .before .before .before in
+    let args = start .args in
+    let pre = start .pre in
     sound-stands (args .table .now) (args .literal .now) (args .result) (pre .1) .here
 
 pub finish-slot-at-requires : (t : ℕ) → finish-lts.Need-slot-at-requires (finish-claims t) (finish-at t) finish.Post
@@ -39,8 +40,9 @@ finish-element-copy-out-leaf t c = c .slot-at .ensures .1
 
 pub finish-leaf-requires : (t : ℕ) → finish-lts.Need-leaf-requires (finish-claims t) (finish-at t) finish.Post
 finish-leaf-requires t c κs =
-    let args = c .before .before .before .before .before .before .before .before .before .before .before .before .args in
-    let pre = c .before .before .before .before .before .before .before .before .before .before .before .before .pre in
+    let start = c .before .before .before .before .before .before .before .before .before .before .before .before in
+    let args = start .args in
+    let pre = start .pre in
     (pre .1, leaf-here (args .table .now) (args .result) (c .before .before .before .is-leaf .ensures) (c .before .before .if1 .taken))
 
 pub finish-eval-requires : (t : ℕ) → finish-lts.Need-eval-requires (finish-claims t) (finish-at t) finish.Post
@@ -56,9 +58,10 @@ finish-returns t c =
 
 pub finish-returns-2 : (t : ℕ) → finish-lts.Need-returns-2 (finish-claims t) (finish-at t) finish.Post
 finish-returns-2 t c =
-    let args = c .before .before .before .before .before .before .before .before .before .before .before .before .before .args in
-    let pre = c .before .before .before .before .before .before .before .before .before .before .before .before .before .pre in
-    let good = c .before .before .before .before .before .before .before .before .before .before .before .before .before .good in
+    let start = c .before .before .before .before .before .before .before .before .before .before .before .before .before in
+    let args = start .args in
+    let pre = start .pre in
+    let good = start .good in
     let table = args .table .now in
     let literal = args .literal .now in
     let bindings = args .binding-cells .now in

@@ -131,7 +131,7 @@ abbrev pub turns-below : ℕ → In 6 turns-kinds.ps
 turns-below t = and 6 turns-kinds.ps (falls 6 turns-kinds.ps _<_ μ-turns t) turns.Pre
 
 abbrev pub appends-claims : ℕ → appends-lts.Claims
-appends-claims t = (reach-at-reads.Asked, reach-at-reads.Learnt, single-at-reads.Asked, single-at-reads.Learnt, leaf-reads.Asked, leaf-reads.Learnt, asks-reads.Asked, asks-reads.Learnt, collected-list-reads.Asked, collected-list-reads.Learnt, cell-at-reads.Asked, cell-at-reads.Learnt, reach-reads.Asked, reach-reads.Learnt, eval-below t, eval.Post, single-reads.Asked, single-reads.Learnt, gather-items-reads.Asked, gather-items-reads.Learnt, add-run-reads.Asked, add-run-reads.Learnt)
+appends-claims t = (reach-at-reads.Asked, reach-at-reads.Learnt, single-at-reads.Asked, single-at-reads.Learnt, leaf-reads.Asked, leaf-reads.Learnt, asks-reads.Asked, asks-reads.Learnt, cell-at-reads.Asked, cell-at-reads.Learnt, reach-reads.Asked, reach-reads.Learnt, eval-below t, eval.Post, single-reads.Asked, single-reads.Learnt, gather-items-reads.Asked, gather-items-reads.Learnt, add-run-reads.Asked, add-run-reads.Learnt, collected-list-reads.Asked, collected-list-reads.Learnt)
 
 abbrev pub comprehend-claims : ℕ → comprehend-lts.Claims
 comprehend-claims t = (first-operand-reads.Asked, first-operand-reads.Learnt, end-at-reads.Asked, end-at-reads.Learnt, eval-below t, eval.Post, range-of-reads.Asked, range-of-reads.Learnt, places-at-reads.Asked, places-at-reads.Learnt, append-path-reads.Asked, append-path-reads.Learnt, turns-below t, turns.Post, appends-below t, appends.Post)
@@ -149,4 +149,4 @@ abbrev pub map-parts-claims : ℕ → map-parts-lts.Claims
 map-parts-claims t = (first-operand-reads.Asked, first-operand-reads.Learnt, is-leaf-reads.Asked, is-leaf-reads.Learnt, slot-at-reads.Asked, slot-at-reads.Learnt, leaf-reads.Asked, leaf-reads.Learnt, eval-below t, eval.Post, key-of-reads.Asked, key-of-reads.Learnt, end-at-reads.Asked, end-at-reads.Learnt, is-marked-reads.Asked, is-marked-reads.Learnt, unmarked-reads.Asked, unmarked-reads.Learnt, add-entry-reads.Asked, add-entry-reads.Learnt, whole-map-reads.Asked, whole-map-reads.Learnt)
 
 abbrev pub turns-claims : ℕ → turns-lts.Claims
-turns-claims t = (folds-at-reads.Asked, folds-at-reads.Learnt, reach-at-reads.Asked, reach-at-reads.Learnt, reach-reads.Asked, reach-reads.Learnt, eval-below t, eval.Post, asks-reads.Asked, asks-reads.Learnt, finish-below t, finish.Post, cell-at-reads.Asked, cell-at-reads.Learnt, step-of-reads.Asked, step-of-reads.Learnt)
+turns-claims t = (folds-at-reads.Asked, folds-at-reads.Learnt, reach-at-reads.Asked, reach-at-reads.Learnt, reach-reads.Asked, reach-reads.Learnt, eval-below t, eval.Post, asks-reads.Asked, asks-reads.Learnt, cell-at-reads.Asked, cell-at-reads.Learnt, step-of-reads.Asked, step-of-reads.Learnt, finish-below t, finish.Post)

@@ -22,8 +22,9 @@ list-parts-first-operand-requires t c κs =
 
 pub list-parts-loop-holds : (t : ℕ) → list-parts-lts.Need-loop-holds (list-parts-claims t) (list-parts-at t) list-parts.Post list-parts-Inv-loop list-parts-μ-loop
 list-parts-loop-holds t c =
-    let args = c .before .before .before .before .before .before .before .args in
-    let pre = c .before .before .before .before .before .before .before .pre in
+    let start = c .before .before .before .before .before .before .before in
+    let args = start .args in
+    let pre = start .pre in
     list-begins (args .table .now) (args .literal .now) (args .binding-cells .now) (args .binding-text .now) (args .cells .now) (args .text .now) (args .limit) (args .at) (args .first) (args .count) (args .t9) (args .used) (pre .1 .0) (pre .1 .1) (pre .1 .2) (c .first-operand .ensures)
 
 pub list-parts-is-marked-requires : (t : ℕ) → list-parts-lts.Need-is-marked-requires (list-parts-claims t) (list-parts-at t) list-parts.Post list-parts-Inv-loop list-parts-μ-loop
@@ -73,8 +74,9 @@ pub list-parts-eval-requires : (t : ℕ) → list-parts-lts.Need-eval-requires (
 list-parts-eval-requires t c κs =
     let loop = c .before .before .before .before .before .before .before .loop in
     let unmarked = c .before .before .before .before .unmarked in
-    let args = c .before .before .before .before .before .before .before .before .before .before .before .before .before .before .before .args in
-    let pre = c .before .before .before .before .before .before .before .before .before .before .before .before .before .before .before .pre in
+    let start = c .before .before .before .before .before .before .before .before .before .before .before .before .before .before .before in
+    let args = start .args in
+    let pre = start .pre in
     let f = element-next (args .table .now) (args .literal .now) (args .at) (loop .left) (loop .place) (c .before .before .before .before .before .before .loop-test .taken) (loop .inv .row) in
     let s = rw (sym (unmarked .ensures)) at (f .part .sound) in (let q = rw (sym (unmarked .ensures)) at (f .smaller) in omega (arith, q, pre .0), s)
 
@@ -120,6 +122,7 @@ list-parts-loop-less t c = search needs
 
 pub list-parts-loop-again : (t : ℕ) → list-parts-lts.Need-loop-again (list-parts-claims t) (list-parts-at t) list-parts.Post list-parts-Inv-loop list-parts-μ-loop
 list-parts-loop-again t c =
+    let placed = element-came t (c .before .before .before .before .before .before .before .before) in
     let loop = c .before .before .before .before .before .before .before .before .before .before .before .before .before .loop in
     let loop-test = c .before .before .before .before .before .before .before .before .before .before .before .before .loop-test in
     let is-marked = c .before .before .before .before .before .before .before .before .before .before .before .is-marked in
@@ -132,7 +135,7 @@ list-parts-loop-again t c =
     let bindings = args .binding-cells .now in
     let texts = args .binding-text .now in
     let f = element-next table literal (args .at) (loop .left) (loop .place) (loop-test .taken) (loop .inv .row) in
-    rw (c .end-at .ensures) (record { row = f .rest; kept = add-element .kept .1 .0 ∙ ((element-came t (c .before .before .before .before .before .before .before .before)) .kept ∙ loop .inv .kept); keptx = (element-came t (c .before .before .before .before .before .before .before .before)) .keptx ∙ loop .inv .keptx; room = let n = added-count (partIn (rooms literal bindings texts (if1 .cells) (if1 .text)) (is-marked .result) (part .given .0 .0)) (args .first) (loop .ready) (if1 .cells) (add-element .ensures literal texts (if1 .text)) in omega (arith, n, loop .inv .room, loop-test .taken); same = element-again table literal (args .limit) (args .first) (args .t9) (loop .left) (loop .place) (loop-test .taken) (f .sound) (loop .ready) (loop .spent) (rooms literal bindings texts (loop .cells) (loop .text)) ((element-came t (c .before .before .before .before .before .before .before .before)) .is) (part .given .1) (is-marked .ensures) (add-element .ensures literal texts (if1 .text)) ∙ loop .inv .same })
+    rw (c .end-at .ensures) (record { row = f .rest; kept = add-element .kept .1 .0 ∙ (placed .kept ∙ loop .inv .kept); keptx = placed .keptx ∙ loop .inv .keptx; room = let n = added-count (partIn (rooms literal bindings texts (if1 .cells) (if1 .text)) (is-marked .result) (part .given .0 .0)) (args .first) (loop .ready) (if1 .cells) (add-element .ensures literal texts (if1 .text)) in omega (arith, n, loop .inv .room, loop-test .taken); same = element-again table literal (args .limit) (args .first) (args .t9) (loop .left) (loop .place) (loop-test .taken) (f .sound) (loop .ready) (loop .spent) (rooms literal bindings texts (loop .cells) (loop .text)) (placed .is) (part .given .1) (is-marked .ensures) (add-element .ensures literal texts (if1 .text)) ∙ loop .inv .same })
 
 pub list-parts-whole-list-requires : (t : ℕ) → list-parts-lts.Need-whole-list-requires (list-parts-claims t) (list-parts-at t) list-parts.Post list-parts-Inv-loop list-parts-μ-loop
 list-parts-whole-list-requires t c κs = omega (arith, c .before .loop .inv .room)

@@ -22,8 +22,9 @@ pub element-came : (t : ℕ) (c : list-parts-lts.Joined1 (list-parts-claims t) (
 element-came t c =
     let loop = c .before .before .before .before .before .loop in
     let unmarked = c .before .before .unmarked in
-    let args = c .before .before .before .before .before .before .before .before .before .before .before .before .before .args in
-    let good = c .before .before .before .before .before .before .before .before .before .before .before .before .before .good in
+    let start = c .before .before .before .before .before .before .before .before .before .before .before .before .before in
+    let args = start .args in
+    let good = start .good in
     let table = args .table .now in
     let literal = args .literal .now in
     let bindings = args .binding-cells .now in

@@ -25,8 +25,9 @@ map-parts-first-operand-requires t c κs =
 
 pub map-parts-loop-holds : (t : ℕ) → map-parts-lts.Need-loop-holds (map-parts-claims t) (map-parts-at t) map-parts.Post map-parts-Inv-loop map-parts-μ-loop
 map-parts-loop-holds t c =
-    let args = c .before .before .before .before .before .before .before .args in
-    let pre = c .before .before .before .before .before .before .before .pre in
+    let start = c .before .before .before .before .before .before .before in
+    let args = start .args in
+    let pre = start .pre in
     map-begins (args .table .now) (args .literal .now) (args .binding-cells .now) (args .binding-text .now) (args .cells .now) (args .text .now) (args .limit) (args .at) (args .first) (args .count) (args .t9) (args .used) (pre .1 .0) (pre .1 .1) (pre .1 .2) (c .first-operand .ensures)
 
 pub map-parts-is-leaf-requires : (t : ℕ) → map-parts-lts.Need-is-leaf-requires (map-parts-claims t) (map-parts-at t) map-parts.Post map-parts-Inv-loop map-parts-μ-loop
@@ -57,8 +58,9 @@ map-parts-leaf-requires t c κs =
 pub map-parts-eval-requires : (t : ℕ) → map-parts-lts.Need-eval-requires (map-parts-claims t) (map-parts-at t) map-parts.Post map-parts-Inv-loop map-parts-μ-loop
 map-parts-eval-requires t c κs =
     let loop = c .before .before .before .before .before .loop in
-    let args = c .before .before .before .before .before .before .before .before .before .before .before .before .before .args in
-    let pre = c .before .before .before .before .before .before .before .before .before .before .before .before .before .pre in
+    let start = c .before .before .before .before .before .before .before .before .before .before .before .before .before in
+    let args = start .args in
+    let pre = start .pre in
     let f = entry-next (args .table .now) (args .literal .now) (args .at) (loop .left) (loop .place) (c .before .before .before .before .loop-test .taken) (loop .inv .row) in (omega (arith, f .key-smaller, pre .0), f .key)
 
 pub map-parts-key-of-requires : (t : ℕ) → map-parts-lts.Need-key-of-requires (map-parts-claims t) (map-parts-at t) map-parts.Post map-parts-Inv-loop map-parts-μ-loop
@@ -156,8 +158,9 @@ map-parts-eval-requires-2 t c κs =
     let loop = c .before .before .before .before .before .before .before .before .before .before .before .before .before .before .loop in
     let loop-test = c .before .before .before .before .before .before .before .before .before .before .before .before .before .loop-test in
     let unmarked = c .before .before .before .before .unmarked in
-    let args = c .before .before .before .before .before .before .before .before .before .before .before .before .before .before .before .before .before .before .before .before .before .before .args in
-    let pre = c .before .before .before .before .before .before .before .before .before .before .before .before .before .before .before .before .before .before .before .before .before .before .pre in
+    let start = c .before .before .before .before .before .before .before .before .before .before .before .before .before .before .before .before .before .before .before .before .before .before in
+    let args = start .args in
+    let pre = start .pre in
     let table = args .table .now in
     let f = entry-next table (args .literal .now) (args .at) (loop .left) (loop .place) (loop-test .taken) (loop .inv .row) in
     let u2 : unmarked .result ≡ unmarkedAt table (after table (loop .place)) = unmarked .ensures ∙ ap (λ (n : ℕ). unmarkedAt table n) (c .before .before .before .before .before .before .end-at .ensures) in
@@ -248,6 +251,8 @@ map-parts-loop-less t c =
 
 pub map-parts-loop-again : (t : ℕ) → map-parts-lts.Need-loop-again (map-parts-claims t) (map-parts-at t) map-parts.Post map-parts-Inv-loop map-parts-μ-loop
 map-parts-loop-again t c =
+    let valued = value-came t (c .before .before .before .before .before .before .before .before .before .before .before .before) in
+    let keyed = key-came t (c .before .before .before .before .before .before .before .before .before .before .before .before .before .before .before .before .before .before .before .before .before) in
     let loop = c .before .before .before .before .before .before .before .before .before .before .before .before .before .before .before .before .before .before .before .before .before .before .before .before .loop in
     let loop-test = c .before .before .before .before .before .before .before .before .before .before .before .before .before .before .before .before .before .before .before .before .before .before .before .loop-test in
     let key-of = c .before .before .before .before .before .before .before .before .before .before .before .before .before .before .before .before .before .before .before .before .key-of in
@@ -264,7 +269,7 @@ map-parts-loop-again t c =
     let bindings = args .binding-cells .now in
     let texts = args .binding-text .now in
     let f = entry-next table literal (args .at) (loop .left) (loop .place) (loop-test .taken) (loop .inv .row) in
-    rw (end-at2 .ensures, end-at .ensures) (record { row = f .rest; kept = add-entry .kept .1 .1 .1 .0 ∙ ((value-came t (c .before .before .before .before .before .before .before .before .before .before .before .before)) .kept ∙ ((key-came t (c .before .before .before .before .before .before .before .before .before .before .before .before .before .before .before .before .before .before .before .before .before)) .kept ∙ loop .inv .kept)); keptx = (value-came t (c .before .before .before .before .before .before .before .before .before .before .before .before)) .keptx ∙ ((key-came t (c .before .before .before .before .before .before .before .before .before .before .before .before .before .before .before .before .before .before .before .before .before)) .keptx ∙ loop .inv .keptx); room = let n = entered-count (partIn (rooms literal bindings texts (if2 .cells) (if2 .text)) (is-marked .result) (part .given .0 .0)) (args .limit) (args .at) (args .first) (loop .ready) (key .given .0 .0) (part .given .0 .1 .0) (rooms literal bindings texts (if2 .cells) (if2 .text)) (add-entry .ensures) (c .before .grown .given .1) in omega (arith, n, loop .inv .room, loop-test .taken); same = entry-again table literal (args .limit) (args .at) (args .first) (args .t9) (loop .left) (loop .place) (loop-test .taken) (f .sound) (loop .ready) (loop .spent) (rooms literal bindings texts (loop .cells) (loop .text)) ((key-came t (c .before .before .before .before .before .before .before .before .before .before .before .before .before .before .before .before .before .before .before .before .before)) .is) (key-of .ensures) (key .given .1) ((value-came t (c .before .before .before .before .before .before .before .before .before .before .before .before)) .is) (part .given .1) (is-marked .ensures ∙ ap (λ (n : ℕ). eqb (getD table n 0) 14) (end-at .ensures)) (add-entry .ensures) (c .before .grown .given .1) ∙ loop .inv .same })
+    rw (end-at2 .ensures, end-at .ensures) (record { row = f .rest; kept = add-entry .kept .1 .1 .1 .0 ∙ (valued .kept ∙ (keyed .kept ∙ loop .inv .kept)); keptx = valued .keptx ∙ (keyed .keptx ∙ loop .inv .keptx); room = let n = entered-count (partIn (rooms literal bindings texts (if2 .cells) (if2 .text)) (is-marked .result) (part .given .0 .0)) (args .limit) (args .at) (args .first) (loop .ready) (key .given .0 .0) (part .given .0 .1 .0) (rooms literal bindings texts (if2 .cells) (if2 .text)) (add-entry .ensures) (c .before .grown .given .1) in omega (arith, n, loop .inv .room, loop-test .taken); same = entry-again table literal (args .limit) (args .at) (args .first) (args .t9) (loop .left) (loop .place) (loop-test .taken) (f .sound) (loop .ready) (loop .spent) (rooms literal bindings texts (loop .cells) (loop .text)) (keyed .is) (key-of .ensures) (key .given .1) (valued .is) (part .given .1) (is-marked .ensures ∙ ap (λ (n : ℕ). eqb (getD table n 0) 14) (end-at .ensures)) (add-entry .ensures) (c .before .grown .given .1) ∙ loop .inv .same })
 
 pub map-parts-whole-map-requires : (t : ℕ) → map-parts-lts.Need-whole-map-requires (map-parts-claims t) (map-parts-at t) map-parts.Post map-parts-Inv-loop map-parts-μ-loop
 map-parts-whole-map-requires t c κs = omega (arith, c .before .loop .inv .room)

@@ -22,8 +22,9 @@ map-parts-μ-loop table literal binding-cells binding-text cells₀ text₀ limi
 pub key-came : (t : ℕ) (c : map-parts-lts.Joined1 (map-parts-claims t) (map-parts-at t) map-parts.Post map-parts-Inv-loop map-parts-μ-loop) → Came (c .before .before .before .before .before .before .before .before .before .before .before .args .table .now) (c .before .before .before .before .before .before .before .before .before .before .before .args .literal .now) (c .before .before .before .before .before .before .before .before .before .before .before .args .binding-cells .now) (c .before .before .before .before .before .before .before .before .before .before .before .args .binding-text .now) (c .before .before .before .before .before .before .before .before .before .before .before .args .limit) (c .before .before .before .loop .place) (c .before .before .before .before .before .before .before .before .before .before .before .args .t9) (c .before .before .before .loop .spent) (c .before .before .before .loop .cells) (c .before .before .before .loop .text) (c .if1 .one) (c .if1 .cells) (c .if1 .text)
 key-came t c =
     let loop = c .before .before .before .loop in
-    let args = c .before .before .before .before .before .before .before .before .before .before .before .args in
-    let good = c .before .before .before .before .before .before .before .before .before .before .before .good in
+    let start = c .before .before .before .before .before .before .before .before .before .before .before in
+    let args = start .args in
+    let good = start .good in
     let table = args .table .now in
     let literal = args .literal .now in
     let bindings = args .binding-cells .now in
@@ -39,8 +40,9 @@ value-came t c =
     let if1 = c .before .before .before .before .before .before .before .before .before .if1 in
     let key = c .before .before .before .before .before .before .key in
     let unmarked = c .before .before .unmarked in
-    let args = c .before .before .before .before .before .before .before .before .before .before .before .before .before .before .before .before .before .before .before .before .args in
-    let good = c .before .before .before .before .before .before .before .before .before .before .before .before .before .before .before .before .before .before .before .before .good in
+    let start = c .before .before .before .before .before .before .before .before .before .before .before .before .before .before .before .before .before .before .before .before in
+    let args = start .args in
+    let good = start .good in
     let table = args .table .now in
     let literal = args .literal .now in
     let bindings = args .binding-cells .now in

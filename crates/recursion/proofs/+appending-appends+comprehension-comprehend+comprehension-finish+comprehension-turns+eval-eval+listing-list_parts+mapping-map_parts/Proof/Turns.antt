@@ -8,7 +8,7 @@ use Rattle.paths.specs.Paths.{loopAt}
 use Prim.Native.Nat.{ℕ}
 use Rattle.rooms.proofs.Scopes.{mapped-length}
 use lib.ListN.{length-set}
-use Rattle.recursion.proofs.Turns.{no-turn, turn-ends, turn-fails, step-ends, step-holds, step-binds, extent-least, turns-begin, turns-again}
+use Rattle.recursion.proofs.Turns.{no-turn, turn-ends, turn-fails, step-ends, step-holds, step-binds, extent-least, turns-begin, turns-again, turns-over}
 use Rattle.recursion.proofs.Operands.{slots-asked, slots-below}
 use Rattle.recursion.proofs.comprehension.turns.Reads as turns
 use Rattle.recursion.proofs.+appending-appends+comprehension-comprehend+comprehension-finish+comprehension-turns+eval-eval+listing-list_parts+mapping-map_parts.Lts-comprehension-turns as turns-lts
@@ -38,9 +38,10 @@ turns-element-set-from-inner t c =
 
 pub turns-loop-holds : (t : ℕ) → turns-lts.Need-loop-holds (turns-claims t) (turns-at t) turns.Post turns-Inv-loop turns-μ-loop
 turns-loop-holds t c =
-    let args = c .before .before .before .before .before .before .before .before .before .args in
-    let fits = c .before .before .before .before .before .before .before .before .before .fits in
-    let good = c .before .before .before .before .before .before .before .before .before .good in
+    let start = c .before .before .before .before .before .before .before .before .before in
+    let args = start .args in
+    let fits = start .fits in
+    let good = start .good in
     turns-begin (args .table .now) (args .literal .now) (args .binding-cells .now) (args .binding-text .now) (args .cells .now) (args .text .now) (args .limit) (args .at) (args .space) (args .first) (args .count) (args .each) (args .places) (stored (args .scope) ((args .places) .accumulator) (args .start)) (args .used) (length-set (args .scope .slots) ((args .places) .accumulator) (record { value = args .start }) ∙ (mapped-length (args .scope .slots) _ 128 (good .1 .1 .1 .1 .1 .1 .1 .1 .0 .1 .1 .0 .1 .0 .1))) (fits .first .fits) (fits .count .fits)
 
 pub turns-enum-known-reads : (t : ℕ) → turns-lts.Need-enum-known-reads (turns-claims t) (turns-at t) turns.Post turns-Inv-loop turns-μ-loop
@@ -126,34 +127,19 @@ turns-returns t c =
 pub turns-enum-known-more : (t : ℕ) → turns-lts.Need-enum-known-more (turns-claims t) (turns-at t) turns.Post turns-Inv-loop turns-μ-loop
 turns-enum-known-more t c = search needs
 
-pub turns-finish-requires : (t : ℕ) → turns-lts.Need-finish-requires (turns-claims t) (turns-at t) turns.Post turns-Inv-loop turns-μ-loop
-turns-finish-requires t c κs =
-    let args = c .before .before .before .before .before .before .before .before .before .before .before .before .before .before .before .before .before .before .args in
-    let pre = c .before .before .before .before .before .before .before .before .before .before .before .before .before .before .before .before .before .before .pre in
-    (omega (arith, pre .0, extent-least (args .table .now) (args .literal .now) ((args .places) .condition) (pre .1 .0)), pre .1 .2)
+pub turns-loop-less : (t : ℕ) → turns-lts.Need-loop-less (turns-claims t) (turns-at t) turns.Post turns-Inv-loop turns-μ-loop
+turns-loop-less t c = search needs
 
-pub turns-same-length-3 : (t : ℕ) → turns-lts.Need-same-length-3 (turns-claims t) (turns-at t) turns.Post turns-Inv-loop turns-μ-loop
-turns-same-length-3 t c =
-    let loop = c .before .before .before .before .before .before .before .before .before .before .before .before .before .loop in
-    c .before .before .before .before .finish .kept .1 .1 .1 .1 .0 ∙ ((condition-came t (c .before .before .before .before .before .before .before .before .before .before .before)) .kept ∙ loop .inv .kept)
-
-pub turns-same-length-4 : (t : ℕ) → turns-lts.Need-same-length-4 (turns-claims t) (turns-at t) turns.Post turns-Inv-loop turns-μ-loop
-turns-same-length-4 t c =
-    let loop = c .before .before .before .before .before .before .before .before .before .before .before .before .before .loop in
-    c .before .before .before .before .finish .kept .1 .1 .1 .1 .1 .0 ∙ ((condition-came t (c .before .before .before .before .before .before .before .before .before .before .before)) .keptx ∙ loop .inv .keptx)
-
-pub turns-returns-2 : (t : ℕ) → turns-lts.Need-returns-2 (turns-claims t) (turns-at t) turns.Post turns-Inv-loop turns-μ-loop
-turns-returns-2 t c =
-    let loop = c .before .before .before .before .before .before .before .before .before .before .before .before .before .loop in
-    let loop-test = c .before .before .before .before .before .before .before .before .before .before .before .before .loop-test in
-    let asks = c .before .before .before .before .before .before .before .before .before .before .asks in
-    let more = c .before .before .before .before .before .before .before .before .more in
-    let args = c .before .before .before .before .before .before .before .before .before .before .before .before .before .before .before .before .before .before .before .before .before .before .before .args in
+pub turns-loop-again : (t : ℕ) → turns-lts.Need-loop-again (turns-claims t) (turns-at t) turns.Post turns-Inv-loop turns-μ-loop
+turns-loop-again t c =
+    let loop = c .before .before .before .before .before .before .loop in
+    let args = c .before .before .before .before .before .before .before .before .before .before .before .before .before .before .before .before .args in
+    let came = condition-came t (c .before .before .before .before) in
     let table = args .table .now in
     let literal = args .literal .now in
     let bindings = args .binding-cells .now in
     let texts = args .binding-text .now in
-    turn-fails (loopAt table literal (args .limit) (args .at) (args .places)) (args .space) (args .each) (loop .left) (loop .cell) (loop-test .taken) (loop .held) (loop .inner) (loop .spent) (rooms literal bindings texts (loop .cells) (loop .text)) ((condition-came t (c .before .before .before .before .before .before .before .before .before .before .before)) .is) (asks .ensures) (more .given .1) (c .before .before .before .before .finish .ensures) ∙ loop .inv .same
+    turns-over table literal bindings texts (args .cells .now) (args .text .now) (args .limit) (args .at) (args .space) (args .first) (args .count) (args .each) (args .places) (stored (args .scope) ((args .places) .accumulator) (args .start)) (args .used) (loop .inv) (came .kept) (came .keptx) (turn-fails (loopAt table literal (args .limit) (args .at) (args .places)) (args .space) (args .each) (loop .left) (loop .cell) (c .before .before .before .before .before .loop-test .taken) (loop .held) (loop .inner) (loop .spent) (rooms literal bindings texts (loop .cells) (loop .text)) (came .is) (c .before .before .before .asks .ensures) (c .before .more .given .1))
 
 pub turns-enum-known-more-2 : (t : ℕ) → turns-lts.Need-enum-known-more-2 (turns-claims t) (turns-at t) turns.Post turns-Inv-loop turns-μ-loop
 turns-enum-known-more-2 t c = search needs
@@ -161,8 +147,8 @@ turns-enum-known-more-2 t c = search needs
 pub turns-cell-at-requires : (t : ℕ) → turns-lts.Need-cell-at-requires (turns-claims t) (turns-at t) turns.Post turns-Inv-loop turns-μ-loop
 turns-cell-at-requires t c κs = search needs
 
-pub turns-mul-t91 : (t : ℕ) → turns-lts.Need-mul-t91 (turns-claims t) (turns-at t) turns.Post turns-Inv-loop turns-μ-loop
-turns-mul-t91 t c =
+pub turns-mul-t86 : (t : ℕ) → turns-lts.Need-mul-t86 (turns-claims t) (turns-at t) turns.Post turns-Inv-loop turns-μ-loop
+turns-mul-t86 t c =
     let pre = c .before .before .before .before .before .before .before .before .before .before .before .before .before .before .before .before .before .before .pre in
     omega (arith, pre .1 .4)
 
@@ -245,18 +231,18 @@ turns-step-of-requires t c κs = search needs
 pub turns-enum-known-outcome-2 : (t : ℕ) → turns-lts.Need-enum-known-outcome-2 (turns-claims t) (turns-at t) turns.Post turns-Inv-loop turns-μ-loop
 turns-enum-known-outcome-2 t c = search needs
 
-pub turns-same-length-5 : (t : ℕ) → turns-lts.Need-same-length-5 (turns-claims t) (turns-at t) turns.Post turns-Inv-loop turns-μ-loop
-turns-same-length-5 t c =
+pub turns-same-length-3 : (t : ℕ) → turns-lts.Need-same-length-3 (turns-claims t) (turns-at t) turns.Post turns-Inv-loop turns-μ-loop
+turns-same-length-3 t c =
     let loop = c .before .before .before .before .before .before .before .before .before .before .before .before .before .loop in
     (step-came t (c .before .before .before .before)) .kept ∙ ((condition-came t (c .before .before .before .before .before .before .before .before .before .before .before)) .kept ∙ loop .inv .kept)
 
-pub turns-same-length-6 : (t : ℕ) → turns-lts.Need-same-length-6 (turns-claims t) (turns-at t) turns.Post turns-Inv-loop turns-μ-loop
-turns-same-length-6 t c =
+pub turns-same-length-4 : (t : ℕ) → turns-lts.Need-same-length-4 (turns-claims t) (turns-at t) turns.Post turns-Inv-loop turns-μ-loop
+turns-same-length-4 t c =
     let loop = c .before .before .before .before .before .before .before .before .before .before .before .before .before .loop in
     (step-came t (c .before .before .before .before)) .keptx ∙ ((condition-came t (c .before .before .before .before .before .before .before .before .before .before .before)) .keptx ∙ loop .inv .keptx)
 
-pub turns-returns-3 : (t : ℕ) → turns-lts.Need-returns-3 (turns-claims t) (turns-at t) turns.Post turns-Inv-loop turns-μ-loop
-turns-returns-3 t c =
+pub turns-returns-2 : (t : ℕ) → turns-lts.Need-returns-2 (turns-claims t) (turns-at t) turns.Post turns-Inv-loop turns-μ-loop
+turns-returns-2 t c =
     let folds-at = c .before .before .before .before .before .before .before .before .before .before .before .before .before .before .before .before .folds-at in
     let loop = c .before .before .before .before .before .before .before .before .before .before .before .before .before .loop in
     let loop-test = c .before .before .before .before .before .before .before .before .before .before .before .before .loop-test in
@@ -272,30 +258,33 @@ turns-returns-3 t c =
 pub turns-enum-known-pending : (t : ℕ) → turns-lts.Need-enum-known-pending (turns-claims t) (turns-at t) turns.Post turns-Inv-loop turns-μ-loop
 turns-enum-known-pending t c = search needs
 
-pub turns-loop-less : (t : ℕ) → turns-lts.Need-loop-less (turns-claims t) (turns-at t) turns.Post turns-Inv-loop turns-μ-loop
-turns-loop-less t c = search needs
+pub turns-loop-less-2 : (t : ℕ) → turns-lts.Need-loop-less-2 (turns-claims t) (turns-at t) turns.Post turns-Inv-loop turns-μ-loop
+turns-loop-less-2 t c = search needs
 
-pub turns-loop-again : (t : ℕ) → turns-lts.Need-loop-again (turns-claims t) (turns-at t) turns.Post turns-Inv-loop turns-μ-loop
-turns-loop-again t c =
+pub turns-loop-again-2 : (t : ℕ) → turns-lts.Need-loop-again-2 (turns-claims t) (turns-at t) turns.Post turns-Inv-loop turns-μ-loop
+turns-loop-again-2 t c =
+    let stepped = step-came t (c .before .before .before .before) in
+    let tested = condition-came t (c .before .before .before .before .before .before .before .before .before .before .before) in
     let folds-at = c .before .before .before .before .before .before .before .before .before .before .before .before .before .before .before .before .folds-at in
     let loop = c .before .before .before .before .before .before .before .before .before .before .before .before .before .loop in
     let loop-test = c .before .before .before .before .before .before .before .before .before .before .before .before .loop-test in
     let asks = c .before .before .before .before .before .before .before .before .before .before .asks in
     let more2 = c .before .before .before .before .before .before .before .before .more2 in
     let cell-at = c .before .before .before .before .before .cell-at in
-    let args = c .before .before .before .before .before .before .before .before .before .before .before .before .before .before .before .before .before .before .before .before .before .before .before .args in
-    let fits = c .before .before .before .before .before .before .before .before .before .before .before .before .before .before .before .before .before .before .before .before .before .before .before .fits in
+    let start = c .before .before .before .before .before .before .before .before .before .before .before .before .before .before .before .before .before .before .before .before .before .before .before in
+    let args = start .args in
+    let fits = start .fits in
     let table = args .table .now in
     let literal = args .literal .now in
     let bindings = args .binding-cells .now in
     let texts = args .binding-text .now in
-    turns-again table literal bindings texts (args .cells .now) (args .text .now) (args .limit) (args .at) (args .space) (args .first) (args .count) (args .each) (args .places) (stored (args .scope) ((args .places) .accumulator) (args .start)) (args .used) (loop .inv) (loop-test .taken) (fits .each .fits) ((step-came t (c .before .before .before .before)) .kept ∙ (condition-came t (c .before .before .before .before .before .before .before .before .before .before .before)) .kept) ((step-came t (c .before .before .before .before)) .keptx ∙ (condition-came t (c .before .before .before .before .before .before .before .before .before .before .before)) .keptx) (length-set (loop .inner .slots) ((args .places) .item) (record { value = cell-at .result })) (step-holds (loopAt table literal (args .limit) (args .at) (args .places)) (args .space) (args .each) (loop .left) (loop .cell) (loop-test .taken) (loop .held) (loop .inner) (loop .spent) (rooms literal bindings texts (loop .cells) (loop .text)) ((condition-came t (c .before .before .before .before .before .before .before .before .before .before .before)) .is) (asks .ensures) (more2 .given .1) (cell-at .ensures) ((step-came t (c .before .before .before .before)) .is) (folds-at .ensures) (c .before .before .before .step-of .ensures) (c .before .pending .given .1))
+    turns-again table literal bindings texts (args .cells .now) (args .text .now) (args .limit) (args .at) (args .space) (args .first) (args .count) (args .each) (args .places) (stored (args .scope) ((args .places) .accumulator) (args .start)) (args .used) (loop .inv) (loop-test .taken) (fits .each .fits) (stepped .kept ∙ tested .kept) (stepped .keptx ∙ tested .keptx) (length-set (loop .inner .slots) ((args .places) .item) (record { value = cell-at .result })) (step-holds (loopAt table literal (args .limit) (args .at) (args .places)) (args .space) (args .each) (loop .left) (loop .cell) (loop-test .taken) (loop .held) (loop .inner) (loop .spent) (rooms literal bindings texts (loop .cells) (loop .text)) (tested .is) (asks .ensures) (more2 .given .1) (cell-at .ensures) (stepped .is) (folds-at .ensures) (c .before .before .before .step-of .ensures) (c .before .pending .given .1))
 
 pub turns-enum-known-v : (t : ℕ) → turns-lts.Need-enum-known-v (turns-claims t) (turns-at t) turns.Post turns-Inv-loop turns-μ-loop
 turns-enum-known-v t c = search needs
 
-pub turns-mul-t122 : (t : ℕ) → turns-lts.Need-mul-t122 (turns-claims t) (turns-at t) turns.Post turns-Inv-loop turns-μ-loop
-turns-mul-t122 t c =
+pub turns-mul-t117 : (t : ℕ) → turns-lts.Need-mul-t117 (turns-claims t) (turns-at t) turns.Post turns-Inv-loop turns-μ-loop
+turns-mul-t117 t c =
     let pre = c .before .before .before .before .before .before .before .before .before .before .before .before .before .before .before .before .before .before .before .before .before .before .before .pre in
     omega (arith, pre .1 .3)
 
@@ -304,44 +293,48 @@ turns-element-set-from-inner-3 t c =
     let pre = c .before .before .before .before .before .before .before .before .before .before .before .before .before .before .before .before .before .before .before .before .before .before .before .pre in
     pre .1 .3
 
-pub turns-loop-less-2 : (t : ℕ) → turns-lts.Need-loop-less-2 (turns-claims t) (turns-at t) turns.Post turns-Inv-loop turns-μ-loop
-turns-loop-less-2 t c = search needs
+pub turns-loop-less-3 : (t : ℕ) → turns-lts.Need-loop-less-3 (turns-claims t) (turns-at t) turns.Post turns-Inv-loop turns-μ-loop
+turns-loop-less-3 t c = search needs
 
-pub turns-loop-again-2 : (t : ℕ) → turns-lts.Need-loop-again-2 (turns-claims t) (turns-at t) turns.Post turns-Inv-loop turns-μ-loop
-turns-loop-again-2 t c =
+pub turns-loop-again-3 : (t : ℕ) → turns-lts.Need-loop-again-3 (turns-claims t) (turns-at t) turns.Post turns-Inv-loop turns-μ-loop
+turns-loop-again-3 t c =
+    let stepped = step-came t (c .before .before .before .before) in
+    let tested = condition-came t (c .before .before .before .before .before .before .before .before .before .before .before) in
     let folds-at = c .before .before .before .before .before .before .before .before .before .before .before .before .before .before .before .before .folds-at in
     let loop = c .before .before .before .before .before .before .before .before .before .before .before .before .before .loop in
     let loop-test = c .before .before .before .before .before .before .before .before .before .before .before .before .loop-test in
     let asks = c .before .before .before .before .before .before .before .before .before .before .asks in
     let more2 = c .before .before .before .before .before .before .before .before .more2 in
     let cell-at = c .before .before .before .before .before .cell-at in
-    let args = c .before .before .before .before .before .before .before .before .before .before .before .before .before .before .before .before .before .before .before .before .before .before .before .args in
-    let fits = c .before .before .before .before .before .before .before .before .before .before .before .before .before .before .before .before .before .before .before .before .before .before .before .fits in
+    let start = c .before .before .before .before .before .before .before .before .before .before .before .before .before .before .before .before .before .before .before .before .before .before .before in
+    let args = start .args in
+    let fits = start .fits in
     let table = args .table .now in
     let literal = args .literal .now in
     let bindings = args .binding-cells .now in
     let texts = args .binding-text .now in
-    turns-again table literal bindings texts (args .cells .now) (args .text .now) (args .limit) (args .at) (args .space) (args .first) (args .count) (args .each) (args .places) (stored (args .scope) ((args .places) .accumulator) (args .start)) (args .used) (loop .inv) (loop-test .taken) (fits .each .fits) ((step-came t (c .before .before .before .before)) .kept ∙ (condition-came t (c .before .before .before .before .before .before .before .before .before .before .before)) .kept) ((step-came t (c .before .before .before .before)) .keptx ∙ (condition-came t (c .before .before .before .before .before .before .before .before .before .before .before)) .keptx) (length-set (stored (loop .inner) ((args .places) .item) (cell-at .result) .slots) ((args .places) .accumulator) (record { value = c .before .v .given .0 .0 }) ∙ length-set (loop .inner .slots) ((args .places) .item) (record { value = cell-at .result })) (step-binds (loopAt table literal (args .limit) (args .at) (args .places)) (args .space) (args .each) (loop .left) (loop .cell) (loop-test .taken) (loop .held) (loop .inner) (loop .spent) (rooms literal bindings texts (loop .cells) (loop .text)) ((condition-came t (c .before .before .before .before .before .before .before .before .before .before .before)) .is) (asks .ensures) (more2 .given .1) (cell-at .ensures) ((step-came t (c .before .before .before .before)) .is) (folds-at .ensures) (c .before .before .before .step-of .ensures) (c .before .v .given .1))
+    turns-again table literal bindings texts (args .cells .now) (args .text .now) (args .limit) (args .at) (args .space) (args .first) (args .count) (args .each) (args .places) (stored (args .scope) ((args .places) .accumulator) (args .start)) (args .used) (loop .inv) (loop-test .taken) (fits .each .fits) (stepped .kept ∙ tested .kept) (stepped .keptx ∙ tested .keptx) (length-set (stored (loop .inner) ((args .places) .item) (cell-at .result) .slots) ((args .places) .accumulator) (record { value = c .before .v .given .0 .0 }) ∙ length-set (loop .inner .slots) ((args .places) .item) (record { value = cell-at .result })) (step-binds (loopAt table literal (args .limit) (args .at) (args .places)) (args .space) (args .each) (loop .left) (loop .cell) (loop-test .taken) (loop .held) (loop .inner) (loop .spent) (rooms literal bindings texts (loop .cells) (loop .text)) (tested .is) (asks .ensures) (more2 .given .1) (cell-at .ensures) (stepped .is) (folds-at .ensures) (c .before .before .before .step-of .ensures) (c .before .v .given .1))
 
-pub turns-finish-requires-2 : (t : ℕ) → turns-lts.Need-finish-requires-2 (turns-claims t) (turns-at t) turns.Post turns-Inv-loop turns-μ-loop
-turns-finish-requires-2 t c κs =
-    let args = c .before .before .before .before .before .before .before .before .before .before .before .before .before .args in
-    let pre = c .before .before .before .before .before .before .before .before .before .before .before .before .before .pre in
+pub turns-finish-requires : (t : ℕ) → turns-lts.Need-finish-requires (turns-claims t) (turns-at t) turns.Post turns-Inv-loop turns-μ-loop
+turns-finish-requires t c κs =
+    let start = c .before .before .before .before .before .before .before .before .before .before .before .before .before in
+    let args = start .args in
+    let pre = start .pre in
     (omega (arith, pre .0, extent-least (args .table .now) (args .literal .now) ((args .places) .condition) (pre .1 .0)), pre .1 .2)
 
-pub turns-same-length-7 : (t : ℕ) → turns-lts.Need-same-length-7 (turns-claims t) (turns-at t) turns.Post turns-Inv-loop turns-μ-loop
-turns-same-length-7 t c =
+pub turns-same-length-5 : (t : ℕ) → turns-lts.Need-same-length-5 (turns-claims t) (turns-at t) turns.Post turns-Inv-loop turns-μ-loop
+turns-same-length-5 t c =
     let loop = c .before .before .before .before .before .before .before .before .loop in
-    c .before .before .before .before .finish2 .kept .1 .1 .1 .1 .0 ∙ loop .inv .kept
+    c .before .before .before .before .finish .kept .1 .1 .1 .1 .0 ∙ loop .inv .kept
 
-pub turns-same-length-8 : (t : ℕ) → turns-lts.Need-same-length-8 (turns-claims t) (turns-at t) turns.Post turns-Inv-loop turns-μ-loop
-turns-same-length-8 t c =
+pub turns-same-length-6 : (t : ℕ) → turns-lts.Need-same-length-6 (turns-claims t) (turns-at t) turns.Post turns-Inv-loop turns-μ-loop
+turns-same-length-6 t c =
     let loop = c .before .before .before .before .before .before .before .before .loop in
-    c .before .before .before .before .finish2 .kept .1 .1 .1 .1 .1 .0 ∙ loop .inv .keptx
+    c .before .before .before .before .finish .kept .1 .1 .1 .1 .1 .0 ∙ loop .inv .keptx
 
-pub turns-returns-4 : (t : ℕ) → turns-lts.Need-returns-4 (turns-claims t) (turns-at t) turns.Post turns-Inv-loop turns-μ-loop
-turns-returns-4 t c =
+pub turns-returns-3 : (t : ℕ) → turns-lts.Need-returns-3 (turns-claims t) (turns-at t) turns.Post turns-Inv-loop turns-μ-loop
+turns-returns-3 t c =
     let loop = c .before .before .before .before .before .before .before .before .loop in
     let loop-test = c .before .before .before .before .before .before .before .loop-test in
     let args = c .before .before .before .before .before .before .before .before .before .before .before .before .before .before .before .before .before .before .args in
-    let literal = args .literal .now in no-turn (loopAt (args .table .now) literal (args .limit) (args .at) (args .places)) (args .space) (args .each) (loop .left) (loop .cell) (omega (arith, loop-test .left)) (loop .held) (loop .inner) (loop .spent) (rooms literal (args .binding-cells .now) (args .binding-text .now) (loop .cells) (loop .text)) (c .before .before .before .before .finish2 .ensures) ∙ loop .inv .same
+    let literal = args .literal .now in no-turn (loopAt (args .table .now) literal (args .limit) (args .at) (args .places)) (args .space) (args .each) (loop .left) (loop .cell) (omega (arith, loop-test .left)) (loop .held) (loop .inner) (loop .spent) (rooms literal (args .binding-cells .now) (args .binding-text .now) (loop .cells) (loop .text)) (c .before .before .before .before .finish .ensures) ∙ loop .inv .same
