@@ -5,25 +5,21 @@ ghost use lib.Dec.{leb};
 ghost use lib.ListN.{length};
 ghost use Rattle.accepted.specs.Records.{Sound, exprOf};
 ghost use Rattle.admission.specs.Bringing.{literalFor, accepted, said};
-use crate::refusals::BINDING_ROOM_FULL;
-use crate::refusals::NAME_BOUND;
-use crate::refusals::NOT_A_LITERAL;
-use crate::refusals::UNSOUND_BINDING;
-use crate::refusals::WRONG_FIELD;
 use building::cell_room;
 use building::text_room;
 use findings::Fault;
 use fitting::is_absent;
+use heads::refusals::BINDING_ROOM_FULL;
+use heads::refusals::NAME_BOUND;
+use heads::refusals::NOT_A_LITERAL;
+use heads::refusals::UNSOUND_BINDING;
+use heads::refusals::WRONG_FIELD;
 use rooms::scope::NAMES;
 use rooms::scope::Scope;
+use rooms::value::DEEPEST;
 use soundness::Bindings;
 use soundness::Soundness;
 use table::Checked;
-
-pub mod refusals;
-
-// Values nest at most so deep.
-const DEEPEST: usize = 32;
 
 pub enum Answer {
     Done,
@@ -64,7 +60,7 @@ fn judge_table(
     if let Fault::At(place) = other {
         return Answer::Refused(NOT_A_LITERAL, place);
     }
-    if DEEPEST < judged.nesting {
+    if (DEEPEST as usize) < judged.nesting {
         return Answer::Refused(UNSOUND_BINDING, 0);
     }
     let key = judged.key;

@@ -53,7 +53,7 @@ typed-part t to (b ∷ s) h =
 
 -- ---- numbers
 
-pub double-settled : (x : Double) → settled (doubleValue x) ≡ doubleValue (doubleOf (bitsOf x))
+double-settled : (x : Double) → settled (doubleValue x) ≡ doubleValue (doubleOf (bitsOf x))
 double-settled (Double.Plain x) = refl
 double-settled (Double.Nan b) = refl
 

@@ -8,10 +8,10 @@ use machine::outcome::Error;
 use machine::outcome::Limit;
 use machine::outcome::Outcome;
 use machine::outcome::Used;
-use outcomes::outcomes::DEEPEST;
 use outcomes::outcomes::is_key;
 use outcomes::outcomes::with_cells;
 use rooms::value::CellSpace;
+use rooms::value::DEEPEST;
 use rooms::value::Value;
 
 // The cells of a record that begins: the first of them, and how many parts it has.

@@ -20,19 +20,19 @@ pub struct Judged {
     pub bytes: usize,
 }
 
-pub fn first_of(a: Fault, b: Fault) -> Fault
-    ensures { λ r. ⌜ r ≡ firstOf a b ⌝ }
+pub fn first_of(one: Fault, next: Fault) -> Fault
+    ensures { λ r. ⌜ r ≡ firstOf one next ⌝ }
 {
-    match a {
+    match one {
         Fault::At(place) => Fault::At(place),
-        Fault::Nowhere => b,
+        Fault::Nowhere => next,
     }
 }
 
-fn greater(a: usize, b: usize) -> usize
-    ensures { λ r. ⌜ r ≡ max a b ⌝ }
+fn greater(one: usize, other: usize) -> usize
+    ensures { λ r. ⌜ r ≡ max one other ⌝ }
 {
-    if a < b { b } else { a }
+    if one < other { other } else { one }
 }
 
 // One part more: its cell, and what it comes to.

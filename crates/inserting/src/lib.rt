@@ -12,11 +12,11 @@ use machine::outcome::Error;
 use machine::outcome::Outcome;
 use machine::outcome::Used;
 use marking::part_of;
-use outcomes::outcomes::deeper;
 use outcomes::outcomes::out_of_steps;
 use outcomes::outcomes::with_steps;
 use rooms::value::CellSpace;
 use rooms::value::Value;
+use rooms::value::deeper;
 use rooms::value::nesting_of;
 
 // The duplicate test, then both cells.

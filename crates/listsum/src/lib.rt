@@ -10,13 +10,13 @@ use building::Taken;
 use copying::copy_cells;
 use machine::outcome::Outcome;
 use machine::outcome::Used;
-use outcomes::outcomes::deeper;
 use outcomes::outcomes::no_overload;
 use outcomes::outcomes::out_of_cells;
 use outcomes::outcomes::with_cells;
 use rooms::value::CellSpace;
 use rooms::value::Parts;
 use rooms::value::Value;
+use rooms::value::deeper;
 use rooms::value::nesting_of;
 use rooms::value::parts_of;
 

@@ -21,17 +21,8 @@ fn left_error(error: Error, place: usize, at: usize, used: Used) -> Outcome
     ensures { λ r. ⌜ r ≡ leftError at used error place ⌝ }
 {
     match error {
-        Error::UndeclaredReference => Outcome::Error(Error::UndeclaredReference, place, used),
         Error::BoolWanted => no_overload(at, used),
-        Error::NoOverload => Outcome::Error(Error::NoOverload, place, used),
-        Error::FunctionError => Outcome::Error(Error::FunctionError, place, used),
-        Error::NoSuchKey => Outcome::Error(Error::NoSuchKey, place, used),
-        Error::Arithmetic(a) => Outcome::Error(Error::Arithmetic(a), place, used),
-        Error::DuplicateKey => Outcome::Error(Error::DuplicateKey, place, used),
-        Error::IndexOutOfBounds => Outcome::Error(Error::IndexOutOfBounds, place, used),
-        Error::UnsupportedKeyType => Outcome::Error(Error::UnsupportedKeyType, place, used),
-        Error::Unordered => Outcome::Error(Error::Unordered, place, used),
-        Error::IterableWanted => Outcome::Error(Error::IterableWanted, place, used),
+        _ => Outcome::Error(error, place, used),
     }
 }
 

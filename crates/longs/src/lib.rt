@@ -14,11 +14,11 @@ fn half(table: &[u8], at: usize) -> usize
     requires { ⌜ at + 4 ≤ length (now table) ⌝ }
     ensures { λ r. ⌜ (r ≡ fourAt (now (table .entry)) at) × (r < 4294967296) ⌝ }
 {
-    let a = wide(table[at]);
-    let b = wide(table[at + 1]);
-    let c = wide(table[at + 2]);
-    let d = wide(table[at + 3]);
-    a + 256 * b + 65536 * c + 16777216 * d
+    let lowest = wide(table[at]);
+    let second = wide(table[at + 1]);
+    let third = wide(table[at + 2]);
+    let highest = wide(table[at + 3]);
+    lowest + 256 * second + 65536 * third + 16777216 * highest
 }
 
 // The 8 bytes of a Uint or a Double.

@@ -11,9 +11,9 @@ use cells::write_cell;
 use containers::Part;
 use containers::Ready;
 use outcomes::outcomes::Optional;
-use outcomes::outcomes::deeper;
 use outcomes::outcomes::optional_of;
 use rooms::value::Value;
+use rooms::value::deeper;
 use rooms::value::nesting_of;
 
 fn unmarked_value(binding_cells: &[u64], cells: &[u64], v: Value) -> Part

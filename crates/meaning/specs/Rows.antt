@@ -2,10 +2,11 @@
 use Prim.Native.Nat.{ℕ}
 use mathlib.Core.Path.{_≡_}
 use mathlib.Core.List.{List, [], map}
+use lib.ListN.{replicate}
 use Rattle.meaning.specs.Limits.{Counts}
 use Rattle.meaning.specs.Errors.{Exhausted, errorNumber, refusalNumber}
 use Rattle.meaning.specs.Value.{Value}
-use Rattle.meaning.specs.Limited.{Outcome, value, error, exhausted, Rooms, holding, cleared}
+use Rattle.meaning.specs.Limited.{Outcome, value, error, exhausted, Rooms, zeroCell, holding}
 use Rattle.meaning.specs.Bindings.{BindingRoom}
 use Rattle.meaning.specs.Answer.{Answer, refusal, ran, Answered, answerOf}
 
@@ -23,11 +24,15 @@ pub record Seen : Type 0 where
   pub shown : Shown
   pub rooms : Rooms
 
+-- so many zeros: not the definition's `cleared`, which rows are to try
+abbrev pub zeros : Counts → Rooms
+zeros c = record { cells = replicate (c .cells) zeroCell; bytes = replicate (c .bytes) 0 }
+
 -- the whole answer that this says, rooms included: zeros below the counts where it is no value, and nothing after a refusal
 abbrev pub expected : Shown → Seen
 expected (gives v c cells text) = record { shown = gives v c cells text; rooms = record { cells = map holding cells; bytes = text } }
-expected (fails n p c) = record { shown = fails n p c; rooms = cleared c }
-expected (exhausts x c) = record { shown = exhausts x c; rooms = cleared c }
+expected (fails n p c) = record { shown = fails n p c; rooms = zeros c }
+expected (exhausts x c) = record { shown = exhausts x c; rooms = zeros c }
 expected (refuses n p) = record { shown = refuses n p; rooms = record { cells = []; bytes = [] } }
 
 -- what an answer shows; cells and text of a value are those that are expected, the rooms are its own

@@ -8,10 +8,10 @@ use building::Taken;
 use machine::outcome::Limit;
 use machine::outcome::Outcome;
 use machine::outcome::Used;
-use outcomes::outcomes::DEEPEST;
 use outcomes::outcomes::out_of_cells;
 use outcomes::outcomes::with_cells;
 use rooms::value::CellSpace;
+use rooms::value::DEEPEST;
 use rooms::value::Value;
 
 // A present Optional: its cell, then its nesting.

@@ -1,6 +1,6 @@
 // What many rules share: outcomes, counts, and what is seen of a value.
 ghost use mathlib.Core.Path.{_≡_};
-ghost use Prim.Native.Nat.{_+_, _<_, _^_, max};
+ghost use Prim.Native.Nat.{_+_, _<_, _^_};
 ghost use Rattle.machine.specs.Outcomes.{stepped, withSteps, withCells, withBytes, truthOut, noOverload};
 ghost use mathlib.Core.Option.{some};
 ghost use Rattle.rooms.specs.Value.{plainOf};
@@ -17,9 +17,6 @@ use rooms::value::Plain;
 use rooms::value::Value;
 use rooms::value::parts_of;
 use rooms::value::plain_of;
-
-// Containers and present Optionals inside one another.
-pub const DEEPEST: u8 = 32;
 
 // A record begins.
 pub fn stepped(used: Used) -> Used
@@ -170,10 +167,4 @@ pub fn optional_of(v: Value) -> Optional
         Parts::Present(space, cell) => Optional::Present(space, cell),
         Parts::Nothing => none_of(v),
     }
-}
-
-pub fn deeper(a: u8, b: u8) -> u8
-    ensures { λ r. ⌜ r ≡ max a b ⌝ }
-{
-    if a < b { b } else { a }
 }

@@ -1,22 +1,15 @@
 // What a cell refers to, judged by itself: text and cells of the bindings below the used counts, and the nesting that a container states by
 // that which the cells behind it state.
 ghost use mathlib.Core.Path.{_≡_};
-ghost use Prim.Native.Nat.{_+_, _<_, max};
+ghost use Prim.Native.Nat.{_+_, _<_};
 ghost use Rattle.references.specs.Fits.{deepestIn, rowFits, spanFits, stringFits};
 use cells::read_cell;
 use rooms::value::CellSpace;
+use rooms::value::DEEPEST;
 use rooms::value::TextSpace;
+use rooms::value::deeper;
 use rooms::value::nesting_of;
 use spans::part;
-
-const DEEPEST: u8 = 32;
-
-// The greater of two nestings.
-pub fn deeper(a: u8, b: u8) -> u8
-    ensures { λ r. ⌜ r ≡ max a b ⌝ }
-{
-    if a < b { b } else { a }
-}
 
 // The deepest nesting that so many cells from one on state.
 fn deepest(cells: &[u64], first: usize, count: usize) -> u8

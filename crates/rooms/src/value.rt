@@ -1,5 +1,6 @@
 // A value as the evaluator has it: a scalar by itself, text and containers by where they lie.
 ghost use mathlib.Core.Path.{_≡_};
+ghost use Prim.Native.Nat.{max};
 ghost use Rattle.rooms.specs.Value.{nestingOf, partsOf, doubleValue, plainOf};
 ghost use Rattle.numbers.specs.Double.{doubleOf};
 use numbers::double::Double;
@@ -50,6 +51,9 @@ pub enum Parts {
     Nothing,
 }
 
+// Containers and present Optionals inside one another.
+pub const DEEPEST: u8 = 32;
+
 pub fn nesting_of(value: Value) -> u8
     ensures { λ r. ⌜ r ≡ nestingOf value ⌝ }
 {
@@ -59,6 +63,13 @@ pub fn nesting_of(value: Value) -> u8
         Value::OptionalOf(nesting, _, _) => nesting,
         _ => 0,
     }
+}
+
+// The greater of two nestings.
+pub fn deeper(one: u8, other: u8) -> u8
+    ensures { λ r. ⌜ r ≡ max one other ⌝ }
+{
+    if one < other { other } else { one }
 }
 
 pub fn parts_of(value: Value) -> Parts

@@ -13,11 +13,11 @@ use clearing::take_cells;
 use copying::copy_cells;
 use machine::outcome::Outcome;
 use machine::outcome::Used;
-use outcomes::outcomes::deeper;
 use outcomes::outcomes::out_of_cells;
 use outcomes::outcomes::with_cells;
 use rooms::value::CellSpace;
 use rooms::value::Value;
+use rooms::value::deeper;
 
 // A turn that gathers takes at least two cells, and there are at most 4,096: so many runs are enough.
 pub const MOST_RUNS: usize = 2048;
@@ -29,19 +29,19 @@ pub struct Collected {
     pub nesting: u8,
 }
 
-// Element `i` becomes n, where there is one.
-fn store_run(list: &mut [u16], i: usize, n: u16)
-    ensures { λ _. ⌜ now (list .exit) ≡ set (now (list .entry)) i n ⌝ }
+// An element becomes `number`, where it is there.
+fn store_run(list: &mut [u16], index: usize, number: u16)
+    ensures { λ _. ⌜ now (list .exit) ≡ set (now (list .entry)) index number ⌝ }
 {
-    if i < list.len() {
-        list[i] = n;
+    if index < list.len() {
+        list[index] = number;
     }
 }
 
-fn run_at(list: &[u16], i: usize) -> u16
-    ensures { λ r. ⌜ r ≡ getD (now (list .entry)) i 0 ⌝ }
+fn run_at(list: &[u16], index: usize) -> u16
+    ensures { λ r. ⌜ r ≡ getD (now (list .entry)) index 0 ⌝ }
 {
-    if i < list.len() { list[i] } else { 0 }
+    if index < list.len() { list[index] } else { 0 }
 }
 
 // A turn without elements adds no run.
@@ -86,21 +86,21 @@ fn copy_runs(
     requires { ⌜ (runs < 2 ^ 32) × (to < 2 ^ 32) ⌝ }
     ensures { λ _. ⌜ (now (cells .exit)) ≡ runsCopied (now («binding_cells» .entry)) (now (firsts .entry)) (now (counts .entry)) runs 0 to (now (cells .entry)) ⌝ }
 {
-    let mut i = 0;
+    let mut run = 0;
     let mut left = runs;
     let mut place = to;
     while 0 < left {
-        let length = run_at(counts, i);
+        let length = run_at(counts, run);
         copy_cells(
             binding_cells,
             cells,
             CellSpace::Evaluation,
-            run_at(firsts, i),
+            run_at(firsts, run),
             length,
             place,
         );
         place += length as usize;
-        i += 1;
+        run += 1;
         left -= 1;
     }
 }

@@ -22,10 +22,10 @@ pub enum Soundness {
     Unsound(usize),
 }
 
-fn lesser(a: usize, b: usize) -> usize
-    ensures { λ r. ⌜ r ≡ min a b ⌝ }
+fn lesser(one: usize, other: usize) -> usize
+    ensures { λ r. ⌜ r ≡ min one other ⌝ }
 {
-    if a < b { a } else { b }
+    if one < other { one } else { other }
 }
 
 // The first bad cell; where there is none, the used count.

@@ -118,11 +118,11 @@ fn half_at(bytes: &[u8], at: usize) -> u64
     requires { ⌜ at + 4 ≤ length (now bytes) ⌝ }
     ensures { λ r. ⌜ (r ≡ bigEndian 0 (now (bytes .entry)) 4 at) × (r < 4294967296) ⌝ }
 {
-    let a = wide(bytes[at]);
-    let b = wide(bytes[at + 1]);
-    let c = wide(bytes[at + 2]);
-    let d = wide(bytes[at + 3]);
-    16777216 * a + 65536 * b + 256 * c + d
+    let highest = wide(bytes[at]);
+    let second = wide(bytes[at + 1]);
+    let third = wide(bytes[at + 2]);
+    let lowest = wide(bytes[at + 3]);
+    16777216 * highest + 65536 * second + 256 * third + lowest
 }
 
 // The word of eight bytes, the highest first.

@@ -25,7 +25,6 @@ use Rattle.soundness.specs.declared.Bindings.{Bindings}
 use Rattle.references.specs.Fits.{valueFits, isAbsent, slotFits}
 use Rattle.soundness.specs.Sound.{slotsFit, soundOf}
 use Rattle.held.specs.Held.{bindingRooms, heldScope, boundFrom, roomOf}
-use Rattle.brought.proofs.LaidScalars.{double-settled}
 use Rattle.slots.specs.State.{slotWords, stateOf}
 use Rattle.slots.specs.Settled.{settledSlot, settledBindings, AllFit}
 
@@ -59,6 +58,10 @@ double-reading r d e h =
     double-at : (d : Double) → readTo (suc (nestingOf (doubleValue d))) r (doubleValue d) ≡ some (scalar (double (bitsOf d)))
     double-at (Plain x) = refl
     double-at (Nan b) = refl
+
+double-settled : (d : Double) → settled (doubleValue d) ≡ doubleValue (doubleOf (bitsOf d))
+double-settled (Plain x) = refl
+double-settled (Nan b) = refl
 
 -- a Double that bits were read as is settled
 pub read-settled : (n : ℕ) → settled (doubleValue (doubleOf n)) ≡ doubleValue (doubleOf n)

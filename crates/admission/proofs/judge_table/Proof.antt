@@ -23,6 +23,9 @@ returns c = table-other (c .before .before .before .before .before .before .args
 enum-told : tie.Need-enum-told
 enum-told c = search needs
 
+cast-if1 : tie.Need-cast-if1
+cast-if1 c = search needs
+
 -- src/lib.rt:72:9
 returns-2 : tie.Need-returns-2
 returns-2 c = table-deep (c .before .before .before .before .before .before .before .args .table .now) (c .before .before .before .before .before .before .before .args .literal .now) (λ i. omega (arith, c .before .before .before .before .before .before .shared-slice-known .given i)) (c .before .before .before .before .before .before .before .pre .0) (c .before .before .before .before .before .before .before .args .room-cells) (c .before .before .before .before .before .before .before .args .room-bytes) (c .before .before .before .before .before .before .before .args .cells) (c .before .before .before .before .before .before .before .args .bytes) (c .before .before .before .before .judge .result) (c .before .before .before .before .judge .ensures .0) (c .before .before .enum-told .given .1) (c .if1 .taken)
@@ -66,6 +69,7 @@ judge-table-spec =
     enum-known-other
     returns
     enum-told
+    cast-if1
     returns-2
     enum-known-key
     returns-3

@@ -15,7 +15,7 @@ returns : tie.Need-returns
 returns c = search needs
 
 returns-2 : tie.Need-returns-2
-returns-2 c = sym (beyond (c .before .args .list .now) (c .before .args .i) (c .if1 .left))
+returns-2 c = sym (beyond (c .before .args .list .now) (c .before .args .index) (c .if1 .left))
 
 pub run-at-spec : {M : Type 1} → statement M
 run-at-spec = tie.close (tie.spec mul-result shared-slice-read-result returns returns-2)

@@ -18,7 +18,7 @@ returns : tie.Need-returns
 returns c = search needs
 
 returns-2 : tie.Need-returns-2
-returns-2 c = sym (set-out (c .before .args .list .now) (c .before .args .i) (c .before .args .n) (c .if1 .left))
+returns-2 c = sym (set-out (c .before .args .list .now) (c .before .args .index) (c .before .args .number) (c .if1 .left))
 
 pub store-run-spec : {M : Type 1} → statement M
 store-run-spec = tie.close (tie.spec mul-list slice-write-list same-length returns returns-2)

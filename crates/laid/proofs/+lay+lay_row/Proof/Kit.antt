@@ -15,7 +15,7 @@ use Rattle.laid.proofs.lay_literal.Reads as lay-literal-reads
 use Rattle.scalars.proofs.literal_at.Reads as literal-at-reads
 use Rattle.cells.proofs.write_cell.Reads as write-cell-reads
 use Rattle.rooms.proofs.value.nesting_of.Reads as nesting-of-reads
-use Rattle.references.proofs.deeper.Reads as deeper-reads
+use Rattle.rooms.proofs.value.deeper.Reads as deeper-reads
 use Rattle.bodies.proofs.count_at.Reads as count-at-reads
 use Rattle.outline.proofs.end_at.Reads as end-at-reads
 use Rattle.outline.proofs.first_operand.Reads as first-operand-reads

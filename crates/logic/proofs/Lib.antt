@@ -1,0 +1,2 @@
+-- Laws for the functions' proofs. Assume nothing.
+pub mod LeftErrors
