@@ -20,6 +20,7 @@ from families.common import Case, Script
 from model import CELLS_MAX, TEXT_MAX
 from replay import LONGEST_VALUE, Replay, bind_line, eval_line
 
+PATIENCE = 600  # seconds for all lines
 KINDS = ("Value", "Error", "Exhausted", "Refused", "ok", "refused binding")
 
 
@@ -49,7 +50,10 @@ def main() -> None:
         if all(answer is None or len(answer) < LONGEST_VALUE for answer in answers):
             lines += group
             wanted += [(line, answer) for line, answer in zip(group, answers) if answer is not None]
-    run = subprocess.run([sys.argv[1]], input="\n".join(lines) + "\n", capture_output=True, text=True)
+    try:
+        run = subprocess.run([sys.argv[1]], input="\n".join(lines) + "\n", capture_output=True, text=True, timeout=PATIENCE)
+    except subprocess.TimeoutExpired:
+        sys.exit(f"no end within {PATIENCE} seconds: {sys.argv[1]}")
     got = run.stdout.splitlines()
     for (line, want), answer in zip(wanted, got):
         if want != answer:

@@ -25,7 +25,7 @@ CRATE = TOOLS.parent / "crates" / "binds"
 sys.path.insert(0, str(TOOLS / "rules"))
 
 from assemble import (Node, assemble, bits, byte_string, double, false, integer, listing, mapping, mark, name, negation, none,
-                      null, string, true, u16, uint)
+                      null, string, true, uint)
 from draw import Draw
 from model import Refused, read_table
 
@@ -529,7 +529,7 @@ def main():
             if said != answer:
                 print(f"{answer}\n    was {said}\n    {' '.join(cases[number].deeds)[:400] if number < len(cases) else ''}")
         print(f"{len(wrote)} lines against {len(answers)}")
-        return
+        sys.exit(wrote != answers)
     (CRATE / "stdin").write_text("".join(" ".join(case.deeds) + "\n" for case in cases))
     (CRATE / "stdout").write_text("\n".join(answers) + "\n")
     print(f"{len(cases)} cases, {(CRATE / 'stdin').stat().st_size} bytes, {sum(answer.count(';') for answer in answers)} calls")

@@ -8,7 +8,7 @@ The parts, in this order, each on rooms of its own:
     conformance   the rows of tools/conformance
     crate         at least 20,000 generated cases (compare/generate.py, seeds from 1,001 on) on which the crate was run: ORACLE is the
                   program of compare/build. A case that it puts outside the compared domain is left out; one that differs ends all
-    limits        rules with each limit one below, at and one above what their runs need (tools/rules, family `edges`)
+    limits        rules with each limit by itself one below, at and one above what their runs need (tools/rules, family `edges`)
     elsewhere     rules under bindings that differ only where the rule names nothing: the same line each time
     bindings      bringing in and emptying, every refusal (tools/rules, family `bindings`)
     bad lines     lines that are none
@@ -46,7 +46,7 @@ from replay import Replay, bind_line, eval_line
 from shapes import SHAPES
 
 WANTED = 20_000  # answers of the crate
-LONGEST_LINE = 200  # of a generated case
+LONGEST_LINE = 300  # of a generated case; two pending errors need more than 200
 OF_A_KIND = 2_000  # most answers of one kind, and of one error
 LONGEST = 2_000  # bytes of a table in the other parts
 Part = Iterator["list[str]"]  # groups of lines; what they bind comes after `empty`
@@ -98,6 +98,9 @@ def limits_part() -> Part:
             anew = [] if case.bindings == bound else ["empty", *(bind_line(*one) for one in case.bindings)]
             bound = case.bindings
             yield [*anew, eval_line(case.table, case.text, case.limits)]
+            if counts_of(case) == tuple(case.limits):
+                for which in range(3):
+                    yield [eval_line(case.table, case.text, tuple(limit + (at == which) for at, limit in enumerate(case.limits)))]
 
 
 def names_of(record) -> "set[int]":

@@ -19,6 +19,7 @@ from assemble import Node, assemble, binary, comprehension, integer, listing, ma
 
 RECORDS, VALUES = 64, 32  # how deep records and values nest
 MOST = 16_384  # KiB that are tried
+PATIENCE = 60  # seconds for one answer
 SHAPES = {
     "unary": (RECORDS, lambda inner: negation(inner)),
     "binary": (RECORDS, lambda inner: binary("==", integer(1), inner)),
@@ -40,7 +41,10 @@ def answers(program: str, table: bytes, kib: int) -> bool:
     """Whether the program answers on a stack of so many KiB."""
     lend = lambda: resource.setrlimit(resource.RLIMIT_STACK, (kib * 1024, kib * 1024))
     line = f"eval 1000000 4096 16384 - {table.hex()}\n"
-    return subprocess.run([program], input=line.encode(), capture_output=True, preexec_fn=lend).returncode == 0
+    try:
+        return subprocess.run([program], input=line.encode(), capture_output=True, preexec_fn=lend, timeout=PATIENCE).returncode == 0
+    except subprocess.TimeoutExpired:
+        sys.exit(f"no end within {PATIENCE} seconds on a stack of {kib} KiB: {line[:300]}")
 
 
 def least(program: str, table: bytes) -> int:

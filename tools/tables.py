@@ -460,6 +460,7 @@ def against(families, path):
     for want, found in differences[:20]:
         print(f"expected {want}\n   found {found}")
     print(f"{len(differences)} lines differ; {len(expect)} lines expected, {len(wrote)} found")
+    sys.exit(bool(differences) or len(expect) != len(wrote))
 
 
 def main():

@@ -518,6 +518,7 @@ def against(families, path):
     for want, found in differences[:20]:
         print(f"expected {want}\n   found {found}")
     print(f"{len(differences)} lines differ; {len(expected)} lines expected, {len(wrote)} found")
+    sys.exit(bool(differences) or len(expected) != len(wrote))
 
 
 def main():

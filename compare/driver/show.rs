@@ -11,9 +11,8 @@ fn quoted(out: &mut String, bytes: &[u8]) {
     out.push('"');
     for byte in bytes {
         match byte {
-            b'"' | b'\\' => write!(out, "\\x{byte:02X}").unwrap(),
-            0x20..=0x7E => out.push(*byte as char),
-            _ => write!(out, "\\x{byte:02X}").unwrap(),
+            b'"' | b'\\' | 0..=0x1F | 0x7F.. => write!(out, "\\x{byte:02X}").unwrap(),
+            _ => out.push(char::from(*byte)),
         }
     }
     out.push('"');

@@ -2,7 +2,6 @@
 """The cases of the public CEL language definition that lie in the domain: read, held against the model, made into lines.
 
     conformance.py                 holds every row of cases/ against the model in tools/rules
-    conformance.py lines FOLDER    writes stdin and stdout of `replay` for them into a folder
     conformance.py stored FOLDER   tests that stdin and stdout in a folder (crates/replay) begin with them and their answers
     conformance.py deviations      the deliberate deviations with their rows, for docs/DIFFERENCES.md
 
@@ -121,16 +120,6 @@ def check() -> None:
     sys.exit(1 if failed or not all(used.values()) else 0)
 
 
-def write(folder: Path) -> None:
-    given, wanted = ["room 4096 16384"], []
-    for _, some, said in played():
-        given += some
-        wanted += said
-    (folder / "stdin").write_text("\n".join(given) + "\n")
-    (folder / "stdout").write_text("\n".join(wanted) + "\n")
-    print(f"{len(given)} lines in, {len(wanted)} lines out")
-
-
 def stored(folder: Path) -> None:
     """The list of `replay` has each row as it is written in cases/, and the answer that stands there."""
     given, wanted = (iter((folder / name).read_bytes().decode().split("\n")) for name in ("stdin", "stdout"))
@@ -158,8 +147,6 @@ def deviations() -> None:
 def main() -> None:
     if sys.argv[1:] == []:
         check()
-    elif sys.argv[1] == "lines" and len(sys.argv) == 3:
-        write(Path(sys.argv[2]))
     elif sys.argv[1] == "stored" and len(sys.argv) == 3:
         stored(Path(sys.argv[2]))
     elif sys.argv[1:] == ["deviations"]:

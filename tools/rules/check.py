@@ -15,6 +15,7 @@ from assemble import (Node, all_of, assemble, binary, bits, both, byte_string, c
                       mark, minus, name, negation, none, not_strictly_false, null, of, optional_index, optional_select,
                       or_value, plus, select, size, string, true, uint, value)
 from draw import Draw
+from families.common import nested
 from model import (Bool, Bytes, Double, Int, Limits, List, Map, Null, Optional, Refused, Room, String, Uint, ask, bring_in,
                    empty, evaluate, limited, show, unsound, utf8_valid)
 from model.numbers import DOUBLE_RULES, INT_MAX, INT_MIN, NAN
@@ -69,12 +70,6 @@ def bringing(room: Room, number: int, table: bytes, text: bytes = b"") -> "tuple
               (list(room.cells), bytes(room.text), room.used_cells, room.used_text, list(room.slots)))
         return refused.number, refused.place
     return None
-
-
-def nested(depth: int, inside: Node, around=listing) -> Node:
-    for _ in range(depth):
-        inside = around(inside)
-    return inside
 
 
 # ---------------------------------------------------------------- document 01's examples
