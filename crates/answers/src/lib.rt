@@ -11,9 +11,6 @@ use machine::outcome::Outcome;
 use machine::outcome::Used;
 use rooms::value::Value;
 
-// The refusal of a binding room.
-pub const UNSOUND_BINDING: u8 = 8;
-
 const MOST_STEPS: usize = 1000000;
 
 pub enum Answer {

@@ -9,7 +9,7 @@ ghost use Rattle.answers.specs.declared.Answer.{Answer};
 ghost use Rattle.answers.specs.Evaluated.{ended};
 ghost use Rattle.answers.specs.Meant.{Evaluates};
 use answers::Answer;
-use answers::UNSOUND_BINDING;
+use heads::refusals::UNSOUND_BINDING;
 use machine::outcome::Used;
 use recursion::eval::eval;
 use rooms::scope::Scope;

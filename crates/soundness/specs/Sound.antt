@@ -4,6 +4,8 @@ use mathlib.Core.List.{List}
 use mathlib.Core.Bool.{Bool, true, _&&_, cond}
 use lib.Dec.{leb, ltb}
 use Rattle.meaning.specs.Limits.{names}
+use Rattle.meaning.specs.Errors.{UnsoundBinding}
+use Rattle.meaning.specs.Heads.{Got, refused}
 use Rattle.rooms.specs.Cells.{cellIn}
 use Rattle.building.specs.Building.{cellRoom, textRoom}
 use Rattle.rooms.specs.Scope.{slotOf}
@@ -39,3 +41,8 @@ module _ (words text : List ℕ) where
   soundOf b =
       cond (ltb (firstBad (usedCells b) (usedBytes b) 0 (usedCells b)) (usedCells b)) (Unsound (firstBad (usedCells b) (usedBytes b) 0 (usedCells b)))
       (cond (leb (b .cells) (cellRoom words) && (leb (b .bytes) (textRoom text) && slotsFit (usedCells b) (usedBytes b) (b .scope) 0 names)) Sound (Unsound 0))
+
+-- what is got over a sound room; an unsound one is refused
+abbrev pub ifSound : {A : Type 0} → Soundness → Got A → Got A
+ifSound Sound g = g
+ifSound (Unsound p) g = refused UnsoundBinding p

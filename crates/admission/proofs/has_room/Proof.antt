@@ -7,11 +7,9 @@ use Rattle.admission.proofs.BringSteps.{room-left}
 use Rattle.admission.proofs.has_room.Statement.{statement}
 use Rattle.admission.proofs.has_room.Tie as tie
 
--- src/lib.rt:49:9
 returns : tie.Need-returns
 returns c = sym (lt-leb (c .before .args .used + c .before .args .need) (c .before .args .room) (omega arith))
 
--- src/lib.rt:45:1
 returns-2 : tie.Need-returns-2
 returns-2 c = room-left (c .before .args .room) (c .before .args .used) (c .before .args .need) (c .if1 .left)
 

@@ -6,66 +6,51 @@ use borrow.Author.Needs.{needs}
 use Rattle.admission.proofs.judge_all.Statement.{statement}
 use Rattle.admission.proofs.judge_all.Tie as tie
 
--- src/lib.rt:98:9
 sound-requires : tie.Need-sound-requires
 sound-requires c κs = search needs
 
--- src/lib.rt:99:31
 enum-known-soundness : tie.Need-enum-known-soundness
 enum-known-soundness c = search needs
 
--- src/lib.rt:100:9
 returns : tie.Need-returns
 returns c = all-unsound (c .before .before .before .before .before .before .before .before .args .cells .now) (c .before .before .before .before .before .before .before .before .args .text .now) (c .before .before .before .before .before .before .before .before .args .bindings) (c .before .before .before .before .before .before .before .before .args .name) (c .before .before .before .before .before .before .before .before .args .table .now) (c .before .before .before .before .before .before .before .before .args .literal .now) (c .before .soundness .given .0 .0) (sym (c .before .before .before .sound .ensures) ∙ c .before .soundness .given .1)
 
 enum-told : tie.Need-enum-told
 enum-told c = search needs
 
--- src/lib.rt:103:9
 returns-2 : tie.Need-returns-2
 returns-2 c = all-unnamed (c .before .before .before .before .before .before .before .before .args .cells .now) (c .before .before .before .before .before .before .before .before .args .text .now) (c .before .before .before .before .before .before .before .before .args .bindings) (c .before .before .before .before .before .before .before .before .args .name) (c .before .before .before .before .before .before .before .before .args .table .now) (c .before .before .before .before .before .before .before .before .args .literal .now) (sym (c .before .before .before .sound .ensures) ∙ c .before .enum-told .given .1) (c .if1 .taken)
 
--- src/lib.rt:106:19
 value-of-requires : tie.Need-value-of-requires
 value-of-requires c κs = search needs
 
--- src/lib.rt:106:9
 is-absent-requires : tie.Need-is-absent-requires
 is-absent-requires c κs = search needs
 
--- src/lib.rt:107:9
 returns-3 : tie.Need-returns-3
 returns-3 c = all-bound (c .before .before .before .before .before .before .before .before .before .before .before .before .args .cells .now) (c .before .before .before .before .before .before .before .before .before .before .before .before .args .text .now) (c .before .before .before .before .before .before .before .before .before .before .before .before .args .bindings) (c .before .before .before .before .before .before .before .before .before .before .before .before .args .name) (c .before .before .before .before .before .before .before .before .before .before .before .before .args .table .now) (c .before .before .before .before .before .before .before .before .before .before .before .before .args .literal .now) (sym (c .before .before .before .before .before .before .before .sound .ensures) ∙ c .before .before .before .before .before .enum-told .given .1) (c .before .before .before .before .if1 .left) (c .before .before .value-of .result) (c .before .before .value-of .ensures) (sym (c .before .is-absent .ensures) ∙ not-true (c .before .is-absent .result) (c .if2 .taken))
 
--- src/lib.rt:109:11
 check-requires : tie.Need-check-requires
 check-requires c κs = search needs
 
--- src/lib.rt:110:26
 enum-known-number : tie.Need-enum-known-number
 enum-known-number c = search needs
 
--- src/lib.rt:114:13
 enum-told-2 : tie.Need-enum-told-2
 enum-told-2 c = search needs
 
--- src/lib.rt:114:13
 cell-room-requires : tie.Need-cell-room-requires
 cell-room-requires c κs = search needs
 
--- src/lib.rt:115:13
 text-room-requires : tie.Need-text-room-requires
 text-room-requires c κs = search needs
 
--- src/lib.rt:111:30
 judge-table-requires : tie.Need-judge-table-requires
 judge-table-requires c κs = let q = checked-read (c .before .before .before .before .before .before .before .before .before .before .before .before .before .before .before .before .before .args .table .now) (c .before .before .before .before .before .before .before .before .before .before .before .before .before .before .before .before .before .args .literal .now) (sym (c .before .before .before .before .check .ensures) ∙ c .before .before .enum-told2 .given .1) in (q .root, q .long)
 
--- src/lib.rt:88:1
 returns-4 : tie.Need-returns-4
 returns-4 c = all-unread (c .before .before .before .before .before .before .before .before .before .before .before .before .before .before .before .before .args .cells .now) (c .before .before .before .before .before .before .before .before .before .before .before .before .before .before .before .before .args .text .now) (c .before .before .before .before .before .before .before .before .before .before .before .before .before .before .before .before .args .bindings) (c .before .before .before .before .before .before .before .before .before .before .before .before .before .before .before .before .args .name) (c .before .before .before .before .before .before .before .before .before .before .before .before .before .before .before .before .args .table .now) (c .before .before .before .before .before .before .before .before .before .before .before .before .before .before .before .before .args .literal .now) (sym (c .before .before .before .before .before .before .before .before .before .before .before .sound .ensures) ∙ c .before .before .before .before .before .before .before .before .before .enum-told .given .1) (c .before .before .before .before .before .before .before .before .if1 .left) (c .before .before .before .before .before .before .value-of .result) (c .before .before .before .before .before .before .value-of .ensures) (sym (c .before .before .before .before .before .is-absent .ensures) ∙ not-false (c .before .before .before .before .before .is-absent .result) (c .before .before .before .before .if2 .left)) (c .before .number .given .0 .0) (c .before .number .given .0 .1 .0) (sym (c .before .before .before .check .ensures) ∙ c .before .number .given .1)
 
--- src/lib.rt:88:1
 returns-5 : tie.Need-returns-5
 returns-5 c = all-read (c .before .before .before .before .before .before .before .before .before .before .before .before .before .before .before .before .before .before .args .cells .now) (c .before .before .before .before .before .before .before .before .before .before .before .before .before .before .before .before .before .before .args .text .now) (c .before .before .before .before .before .before .before .before .before .before .before .before .before .before .before .before .before .before .args .bindings) (c .before .before .before .before .before .before .before .before .before .before .before .before .before .before .before .before .before .before .args .name) (c .before .before .before .before .before .before .before .before .before .before .before .before .before .before .before .before .before .before .args .table .now) (c .before .before .before .before .before .before .before .before .before .before .before .before .before .before .before .before .before .before .args .literal .now) (sym (c .before .before .before .before .before .before .before .before .before .before .before .before .before .sound .ensures) ∙ c .before .before .before .before .before .before .before .before .before .before .before .enum-told .given .1) (c .before .before .before .before .before .before .before .before .before .before .if1 .left) (c .before .before .before .before .before .before .before .before .value-of .result) (c .before .before .before .before .before .before .before .before .value-of .ensures) (sym (c .before .before .before .before .before .before .before .is-absent .ensures) ∙ not-false (c .before .before .before .before .before .before .before .is-absent .result) (c .before .before .before .before .before .before .if2 .left)) (sym (c .before .before .before .before .before .check .ensures) ∙ c .before .before .before .enum-told2 .given .1) (c .before .before .cell-room .result) (c .before .text-room .result) (c .before .before .cell-room .ensures) (c .before .text-room .ensures) (c .judge-table .ensures)
 

@@ -8,15 +8,12 @@ use borrow.Author.Needs.{needs}
 use Rattle.admission.proofs.judge_table.Statement.{statement}
 use Rattle.admission.proofs.judge_table.Tie as tie
 
--- src/lib.rt:66:9
 judge-requires : tie.Need-judge-requires
 judge-requires c κs = (bare-part (c .before .before .args .table .now) (c .before .before .args .literal .now) 0 (c .before .before .pre .0) .0, c .before .before .pre .1)
 
--- src/lib.rt:68:22
 enum-known-other : tie.Need-enum-known-other
 enum-known-other c = search needs
 
--- src/lib.rt:69:9
 returns : tie.Need-returns
 returns c = table-other (c .before .before .before .before .before .before .args .table .now) (c .before .before .before .before .before .before .args .literal .now) (λ i. omega (arith, c .before .before .before .before .before .shared-slice-known .given i)) (c .before .before .before .before .before .before .pre .0) (c .before .before .before .before .before .before .args .room-cells) (c .before .before .before .before .before .before .args .room-bytes) (c .before .before .before .before .before .before .args .cells) (c .before .before .before .before .before .before .args .bytes) (c .before .before .before .judge .result) (c .before .before .before .judge .ensures .0) (c .before .other .given .0 .0) (c .before .other .given .1)
 
@@ -26,38 +23,30 @@ enum-told c = search needs
 cast-if1 : tie.Need-cast-if1
 cast-if1 c = search needs
 
--- src/lib.rt:72:9
 returns-2 : tie.Need-returns-2
 returns-2 c = table-deep (c .before .before .before .before .before .before .before .args .table .now) (c .before .before .before .before .before .before .before .args .literal .now) (λ i. omega (arith, c .before .before .before .before .before .before .shared-slice-known .given i)) (c .before .before .before .before .before .before .before .pre .0) (c .before .before .before .before .before .before .before .args .room-cells) (c .before .before .before .before .before .before .before .args .room-bytes) (c .before .before .before .before .before .before .before .args .cells) (c .before .before .before .before .before .before .before .args .bytes) (c .before .before .before .before .judge .result) (c .before .before .before .before .judge .ensures .0) (c .before .before .enum-told .given .1) (c .if1 .taken)
 
--- src/lib.rt:75:22
 enum-known-key : tie.Need-enum-known-key
 enum-known-key c = search needs
 
--- src/lib.rt:76:9
 returns-3 : tie.Need-returns-3
 returns-3 c = table-key (c .before .before .before .before .before .before .before .before .before .before .args .table .now) (c .before .before .before .before .before .before .before .before .before .before .args .literal .now) (λ i. omega (arith, c .before .before .before .before .before .before .before .before .before .shared-slice-known .given i)) (c .before .before .before .before .before .before .before .before .before .before .pre .0) (c .before .before .before .before .before .before .before .before .before .before .args .room-cells) (c .before .before .before .before .before .before .before .before .before .before .args .room-bytes) (c .before .before .before .before .before .before .before .before .before .before .args .cells) (c .before .before .before .before .before .before .before .before .before .before .args .bytes) (c .before .before .before .before .before .before .before .judge .result) (c .before .before .before .before .before .before .before .judge .ensures .0) (c .before .before .before .before .before .enum-told .given .1) (c .before .before .before .if1 .left) (c .before .key .given .0 .0) (c .before .key .given .1)
 
 enum-told-2 : tie.Need-enum-told-2
 enum-told-2 c = search needs
 
--- src/lib.rt:78:9
 has-room-requires : tie.Need-has-room-requires
 has-room-requires c κs = search needs
 
--- src/lib.rt:79:9
 returns-4 : tie.Need-returns-4
 returns-4 c = table-cells (c .before .before .before .before .before .before .before .before .before .before .before .args .table .now) (c .before .before .before .before .before .before .before .before .before .before .before .args .literal .now) (λ i. omega (arith, c .before .before .before .before .before .before .before .before .before .before .shared-slice-known .given i)) (c .before .before .before .before .before .before .before .before .before .before .before .pre .0) (c .before .before .before .before .before .before .before .before .before .before .before .args .room-cells) (c .before .before .before .before .before .before .before .before .before .before .before .args .room-bytes) (c .before .before .before .before .before .before .before .before .before .before .before .args .cells) (c .before .before .before .before .before .before .before .before .before .before .before .args .bytes) (c .before .before .before .before .before .before .before .before .judge .result) (c .before .before .before .before .before .before .before .before .judge .ensures .0) (c .before .before .before .before .before .before .enum-told .given .1) (c .before .before .before .before .if1 .left) (c .before .before .enum-told2 .given .1) (sym (c .before .has-room .ensures) ∙ not-true (c .before .has-room .result) (c .if2 .taken))
 
--- src/lib.rt:81:9
 has-room-requires-2 : tie.Need-has-room-requires-2
 has-room-requires-2 c κs = search needs
 
--- src/lib.rt:82:9
 returns-5 : tie.Need-returns-5
 returns-5 c = table-bytes (c .before .before .before .before .before .before .before .before .before .before .before .before .before .args .table .now) (c .before .before .before .before .before .before .before .before .before .before .before .before .before .args .literal .now) (λ i. omega (arith, c .before .before .before .before .before .before .before .before .before .before .before .before .shared-slice-known .given i)) (c .before .before .before .before .before .before .before .before .before .before .before .before .before .pre .0) (c .before .before .before .before .before .before .before .before .before .before .before .before .before .args .room-cells) (c .before .before .before .before .before .before .before .before .before .before .before .before .before .args .room-bytes) (c .before .before .before .before .before .before .before .before .before .before .before .before .before .args .cells) (c .before .before .before .before .before .before .before .before .before .before .before .before .before .args .bytes) (c .before .before .before .before .before .before .before .before .before .before .judge .result) (c .before .before .before .before .before .before .before .before .before .before .judge .ensures .0) (c .before .before .before .before .before .before .before .before .enum-told .given .1) (c .before .before .before .before .before .before .if1 .left) (c .before .before .before .before .enum-told2 .given .1) (sym (c .before .before .before .has-room .ensures) ∙ not-false (c .before .before .before .has-room .result) (c .before .before .if2 .left)) (sym (c .before .has-room2 .ensures) ∙ not-true (c .before .has-room2 .result) (c .if3 .taken))
 
--- src/lib.rt:55:1
 returns-6 : tie.Need-returns-6
 returns-6 c = table-done (c .before .before .before .before .before .before .before .before .before .before .before .before .before .args .table .now) (c .before .before .before .before .before .before .before .before .before .before .before .before .before .args .literal .now) (λ i. omega (arith, c .before .before .before .before .before .before .before .before .before .before .before .before .shared-slice-known .given i)) (c .before .before .before .before .before .before .before .before .before .before .before .before .before .pre .0) (c .before .before .before .before .before .before .before .before .before .before .before .before .before .args .room-cells) (c .before .before .before .before .before .before .before .before .before .before .before .before .before .args .room-bytes) (c .before .before .before .before .before .before .before .before .before .before .before .before .before .args .cells) (c .before .before .before .before .before .before .before .before .before .before .before .before .before .args .bytes) (c .before .before .before .before .before .before .before .before .before .before .judge .result) (c .before .before .before .before .before .before .before .before .before .before .judge .ensures .0) (c .before .before .before .before .before .before .before .before .enum-told .given .1) (c .before .before .before .before .before .before .if1 .left) (c .before .before .before .before .enum-told2 .given .1) (sym (c .before .before .before .has-room .ensures) ∙ not-false (c .before .before .before .has-room .result) (c .before .before .if2 .left)) (sym (c .before .has-room2 .ensures) ∙ not-false (c .before .has-room2 .result) (c .if3 .left))
 

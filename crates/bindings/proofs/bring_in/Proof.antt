@@ -5,46 +5,36 @@ use borrow.Author.Needs.{needs}
 use Rattle.bindings.proofs.bring_in.Statement.{statement}
 use Rattle.bindings.proofs.bring_in.Tie as tie
 
--- src/lib.rt:133:9
 judge-all-requires : tie.Need-judge-all-requires
 judge-all-requires c κs = search needs
 
--- src/lib.rt:134:28
 enum-known-answer : tie.Need-enum-known-answer
 enum-known-answer c = search needs
 
--- src/lib.rt:135:9
 same-length : tie.Need-same-length
 same-length c = search needs
 
--- src/lib.rt:135:9
 same-length-2 : tie.Need-same-length-2
 same-length-2 c = search needs
 
--- src/lib.rt:135:9
 returns : tie.Need-returns
 returns c = brought-refused (c .before .before .before .before .before .before .before .before .before .before .args .cells .now) (c .before .before .before .before .before .before .before .before .before .before .args .text .now) (c .before .before .before .before .before .before .before .before .before .before .args .bindings) (c .before .before .before .before .before .before .before .before .before .before .args .name) (c .before .before .before .before .before .before .before .before .before .before .args .table .now) (c .before .before .before .before .before .before .before .before .before .before .args .literal .now) (c .before .answer .given .0 .0) (c .before .answer .given .0 .1 .0) (sym (c .before .answer .given .1) ∙ c .before .before .before .judge-all .ensures)
 
 enum-told : tie.Need-enum-told
 enum-told c = search needs
 
--- src/lib.rt:140:9
 lay-requires : tie.Need-lay-requires
 lay-requires c κs = brought-asks (c .before .before .before .before .before .before .before .before .before .before .before .args .cells .now) (c .before .before .before .before .before .before .before .before .before .before .before .args .text .now) (c .before .before .before .before .before .before .before .before .before .before .before .args .bindings) (c .before .before .before .before .before .before .before .before .before .before .before .args .name) (c .before .before .before .before .before .before .before .before .before .before .before .args .table .now) (c .before .before .before .before .before .before .before .before .before .before .before .args .literal .now) (sym (c .before .before .enum-told .given .1) ∙ c .before .before .before .before .judge-all .ensures)
 
--- src/lib.rt:151:9
 with-requires : tie.Need-with-requires
 with-requires c κs = search needs
 
--- src/lib.rt:123:1
 same-length-3 : tie.Need-same-length-3
 same-length-3 c = c .before .before .before .before .before .before .lay .kept .1 .1 .0
 
--- src/lib.rt:123:1
 same-length-4 : tie.Need-same-length-4
 same-length-4 c = c .before .before .before .before .before .before .lay .kept .1 .1 .1 .0
 
--- src/lib.rt:123:1
 returns-2 : tie.Need-returns-2
 returns-2 c = rw (c .with .ensures) (brought-done (c .before .before .before .before .before .before .before .before .before .before .before .before .before .before .before .before .before .before .args .cells .now) (c .before .before .before .before .before .before .before .before .before .before .before .before .before .before .before .before .before .before .args .text .now) (c .before .before .before .before .before .before .before .before .before .before .before .before .before .before .before .before .before .before .args .bindings) (c .before .before .before .before .before .before .before .before .before .before .before .before .before .before .before .before .before .before .args .name) (c .before .before .before .before .before .before .before .before .before .before .before .before .before .before .before .before .before .before .args .table .now) (c .before .before .before .before .before .before .before .before .before .before .before .before .before .before .before .before .before .before .args .literal .now) (sym (c .before .before .before .before .before .before .before .before .before .enum-told .given .1) ∙ c .before .before .before .before .before .before .before .before .before .before .before .judge-all .ensures) (c .before .before .before .before .before .before .lay .result .value) (c .before .before .before .before .before .before .lay .last .1 .1 .0) (c .before .before .before .before .before .before .lay .last .1 .1 .1 .0) (c .before .before .before .before .before .before .lay .result .cells) (c .before .before .before .before .before .before .lay .result .bytes) (c .before .before .before .before .before .before .lay .ensures))
 

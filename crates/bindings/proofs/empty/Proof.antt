@@ -3,11 +3,9 @@ use borrow.Author.Needs.{needs}
 use Rattle.bindings.proofs.empty.Statement.{statement}
 use Rattle.bindings.proofs.empty.Tie as tie
 
--- src/lib.rt:167:16
 empty-requires : tie.Need-empty-requires
 empty-requires c κs = search needs
 
--- src/lib.rt:163:1
 returns : tie.Need-returns
 returns c = simp (← c .empty .ensures)
 

@@ -7,23 +7,18 @@ use borrow.Author.Needs.{needs}
 use Rattle.board.proofs.evaluate_over.Statement.{statement}
 use Rattle.board.proofs.evaluate_over.Tie as tie
 
--- src/lib.rt:20:9
 bindings-in-requires : tie.Need-bindings-in-requires
 bindings-in-requires c κs = search needs
 
--- src/lib.rt:21:5
 evaluate-requires : tie.Need-evaluate-requires
 evaluate-requires c κs = search needs
 
--- src/lib.rt:8:1
 same-length : tie.Need-same-length
 same-length c = search needs
 
--- src/lib.rt:8:1
 same-length-2 : tie.Need-same-length-2
 same-length-2 c = search needs
 
--- src/lib.rt:8:1
 returns : tie.Need-returns
 returns c =
     let given = c .before .before .before .before .before .before .before .before .before .before .before .before .before .before .before .args in

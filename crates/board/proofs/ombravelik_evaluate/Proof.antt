@@ -5,31 +5,24 @@ use borrow.Author.Needs.{needs}
 use Rattle.board.proofs.ombravelik_evaluate.Statement.{statement}
 use Rattle.board.proofs.ombravelik_evaluate.Tie as tie
 
--- src/lib.rt:78:9
 returns : tie.Need-returns
 returns c = let given = c .before .before .before .before .before .before .before .before .before .args in evaluates-none (given .table .now) (given .state .now) (given .steps) (rooms (given .literal .now) (given .binding-cells .now) (given .binding-text .now) (given .cells .now) (given .text .now)) (given .answer .now) (c .if1 .taken)
 
--- src/lib.rt:80:9
 evaluate-over-requires : tie.Need-evaluate-over-requires
 evaluate-over-requires c κs = search needs
 
--- src/lib.rt:90:5
 put-answer-requires : tie.Need-put-answer-requires
 put-answer-requires c κs = search needs
 
--- src/lib.rt:63:1
 same-length : tie.Need-same-length
 same-length c = search needs
 
--- src/lib.rt:63:1
 same-length-2 : tie.Need-same-length-2
 same-length-2 c = search needs
 
--- src/lib.rt:63:1
 same-length-3 : tie.Need-same-length-3
 same-length-3 c = search needs
 
--- src/lib.rt:63:1
 returns-2 : tie.Need-returns-2
 returns-2 c =
     let given = c .before .before .before .before .before .before .before .before .before .before .before .before .before .before .before .before .before .before .before .before .args in

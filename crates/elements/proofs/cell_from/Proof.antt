@@ -4,19 +4,15 @@ use borrow.Author.Needs.{needs}
 use Rattle.elements.proofs.cell_from.Statement.{statement}
 use Rattle.elements.proofs.cell_from.Tie as tie
 
--- src/values.rt:140:46
 add-cell-at : tie.Need-add-cell-at
 add-cell-at c = search needs
 
--- src/values.rt:140:9
 cell-at-requires : tie.Need-cell-at-requires
 cell-at-requires c κs = search needs
 
--- src/values.rt:129:1
 returns : tie.Need-returns
 returns c = inside _ _ _ _ _ (c .before .if1 .taken) (c .cell-at .ensures)
 
--- src/values.rt:129:1
 returns-2 : tie.Need-returns-2
 returns-2 c = outside _ _ _ _ (c .if1 .left)
 

@@ -3,43 +3,33 @@ use borrow.Author.Needs.{needs}
 use Rattle.elements.proofs.element_of.Statement.{statement}
 use Rattle.elements.proofs.element_of.Tie as tie
 
--- src/values.rt:169:9
 parts-of-requires : tie.Need-parts-of-requires
 parts-of-requires c κs = search needs
 
--- src/values.rt:171:25
 enum-known-parts : tie.Need-enum-known-parts
 enum-known-parts c = search needs
 
--- src/values.rt:171:50
 cell-from-requires : tie.Need-cell-from-requires
 cell-from-requires c κs = search needs
 
--- src/values.rt:172:36
 enum-told : tie.Need-enum-told
 enum-told c = search needs
 
--- src/values.rt:173:33
 enum-told-2 : tie.Need-enum-told-2
 enum-told-2 c = search needs
 
--- src/values.rt:174:27
 enum-told-3 : tie.Need-enum-told-3
 enum-told-3 c = search needs
 
--- src/values.rt:166:1
 returns : tie.Need-returns
 returns c = simp (c .cell-from .ensures, ← c .before .before .before .before .parts-of .ensures, c .before .before .parts .given .1)
 
--- src/values.rt:166:1
 returns-2 : tie.Need-returns-2
 returns-2 c = search needs
 
--- src/values.rt:166:1
 returns-3 : tie.Need-returns-3
 returns-3 c = search needs
 
--- src/values.rt:166:1
 returns-4 : tie.Need-returns-4
 returns-4 c = search needs
 

@@ -3,47 +3,36 @@ use borrow.Author.Needs.{needs}
 use Rattle.elements.proofs.present_in.Statement.{statement}
 use Rattle.elements.proofs.present_in.Tie as tie
 
--- src/values.rt:214:9
 parts-of-requires : tie.Need-parts-of-requires
 parts-of-requires c κs = search needs
 
--- src/values.rt:216:37
 enum-told : tie.Need-enum-told
 enum-told c = search needs
 
--- src/values.rt:217:36
 enum-told-2 : tie.Need-enum-told-2
 enum-told-2 c = search needs
 
--- src/values.rt:218:24
 enum-known-parts : tie.Need-enum-known-parts
 enum-known-parts c = search needs
 
--- src/values.rt:218:77
 cast-cell-at : tie.Need-cast-cell-at
 cast-cell-at c = search needs
 
--- src/values.rt:218:40
 cell-at-requires : tie.Need-cell-at-requires
 cell-at-requires c κs = search needs
 
--- src/values.rt:219:27
 enum-told-3 : tie.Need-enum-told-3
 enum-told-3 c = search needs
 
--- src/values.rt:211:1
 returns : tie.Need-returns
 returns c = search needs
 
--- src/values.rt:211:1
 returns-2 : tie.Need-returns-2
 returns-2 c = search needs
 
--- src/values.rt:211:1
 returns-3 : tie.Need-returns-3
 returns-3 c = simp (c .cell-at .ensures, ← c .before .before .before .before .parts-of .ensures, c .before .before .parts .given .1)
 
--- src/values.rt:211:1
 returns-4 : tie.Need-returns-4
 returns-4 c = search needs
 

@@ -4,23 +4,18 @@ use borrow.Author.Needs.{needs}
 use Rattle.entries.proofs.entry_from.Statement.{statement}
 use Rattle.entries.proofs.entry_from.Tie as tie
 
--- src/values.rt:159:54
 mul-cell-at : tie.Need-mul-cell-at
 mul-cell-at c = search needs
 
--- src/values.rt:159:46
 add-cell-at : tie.Need-add-cell-at
 add-cell-at c = search needs
 
--- src/values.rt:159:9
 cell-at-requires : tie.Need-cell-at-requires
 cell-at-requires c κs = search needs
 
--- src/values.rt:147:1
 returns : tie.Need-returns
 returns c = inside _ _ _ _ _ (c .before .if1 .taken) (c .cell-at .ensures)
 
--- src/values.rt:147:1
 returns-2 : tie.Need-returns-2
 returns-2 c = outside _ _ _ _ (c .if1 .left)
 

@@ -3,51 +3,39 @@ use borrow.Author.Needs.{needs}
 use Rattle.entries.proofs.value_of.Statement.{statement}
 use Rattle.entries.proofs.value_of.Tie as tie
 
--- src/values.rt:194:9
 parts-of-requires : tie.Need-parts-of-requires
 parts-of-requires c κs = search needs
 
--- src/values.rt:196:37
 enum-told : tie.Need-enum-told
 enum-told c = search needs
 
--- src/values.rt:197:24
 enum-known-parts : tie.Need-enum-known-parts
 enum-known-parts c = search needs
 
--- src/values.rt:197:89
 cast-entry-from : tie.Need-cast-entry-from
 cast-entry-from c = search needs
 
--- src/values.rt:197:89
 add-entry-from : tie.Need-add-entry-from
 add-entry-from c = search needs
 
--- src/values.rt:197:49
 entry-from-requires : tie.Need-entry-from-requires
 entry-from-requires c κs = search needs
 
--- src/values.rt:198:33
 enum-told-2 : tie.Need-enum-told-2
 enum-told-2 c = search needs
 
--- src/values.rt:199:27
 enum-told-3 : tie.Need-enum-told-3
 enum-told-3 c = search needs
 
--- src/values.rt:191:1
 returns : tie.Need-returns
 returns c = search needs
 
--- src/values.rt:191:1
 returns-2 : tie.Need-returns-2
 returns-2 c = simp (c .entry-from .ensures, ← c .before .before .before .before .parts-of .ensures, c .before .before .parts .given .1)
 
--- src/values.rt:191:1
 returns-3 : tie.Need-returns-3
 returns-3 c = search needs
 
--- src/values.rt:191:1
 returns-4 : tie.Need-returns-4
 returns-4 c = search needs
 

@@ -3,39 +3,30 @@ use borrow.Author.Needs.{needs}
 use Rattle.extents.proofs.count_of.Statement.{statement}
 use Rattle.extents.proofs.count_of.Tie as tie
 
--- src/values.rt:119:9
 parts-of-requires : tie.Need-parts-of-requires
 parts-of-requires c κs = search needs
 
--- src/values.rt:121:31
 enum-known-parts : tie.Need-enum-known-parts
 enum-known-parts c = search needs
 
--- src/values.rt:122:30
 enum-known-parts-2 : tie.Need-enum-known-parts-2
 enum-known-parts-2 c = search needs
 
--- src/values.rt:123:33
 enum-told : tie.Need-enum-told
 enum-told c = search needs
 
--- src/values.rt:124:27
 enum-told-2 : tie.Need-enum-told-2
 enum-told-2 c = search needs
 
--- src/values.rt:116:1
 returns : tie.Need-returns
 returns c = simp (← c .before .before .before .parts-of .ensures, c .before .parts .given .1)
 
--- src/values.rt:116:1
 returns-2 : tie.Need-returns-2
 returns-2 c = simp (← c .before .before .before .parts-of .ensures, c .before .parts2 .given .1)
 
--- src/values.rt:116:1
 returns-3 : tie.Need-returns-3
 returns-3 c = search needs
 
--- src/values.rt:116:1
 returns-4 : tie.Need-returns-4
 returns-4 c = search needs
 

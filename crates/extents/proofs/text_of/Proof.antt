@@ -3,63 +3,48 @@ use borrow.Author.Needs.{needs}
 use Rattle.extents.proofs.text_of.Statement.{statement}
 use Rattle.extents.proofs.text_of.Tie as tie
 
--- src/values.rt:103:9
 plain-of-requires : tie.Need-plain-of-requires
 plain-of-requires c κs = search needs
 
--- src/values.rt:105:24
 enum-told : tie.Need-enum-told
 enum-told c = search needs
 
--- src/values.rt:106:27
 enum-told-2 : tie.Need-enum-told-2
 enum-told-2 c = search needs
 
--- src/values.rt:107:29
 enum-told-3 : tie.Need-enum-told-3
 enum-told-3 c = search needs
 
--- src/values.rt:108:23
 enum-known-plain : tie.Need-enum-known-plain
 enum-known-plain c = search needs
 
--- src/values.rt:109:22
 enum-known-plain-2 : tie.Need-enum-known-plain-2
 enum-known-plain-2 c = search needs
 
--- src/values.rt:110:32
 enum-told-4 : tie.Need-enum-told-4
 enum-told-4 c = search needs
 
--- src/values.rt:111:25
 enum-told-5 : tie.Need-enum-told-5
 enum-told-5 c = search needs
 
--- src/values.rt:100:1
 returns : tie.Need-returns
 returns c = search needs
 
--- src/values.rt:100:1
 returns-2 : tie.Need-returns-2
 returns-2 c = search needs
 
--- src/values.rt:100:1
 returns-3 : tie.Need-returns-3
 returns-3 c = search needs
 
--- src/values.rt:100:1
 returns-4 : tie.Need-returns-4
 returns-4 c = simp (← c .before .before .before .plain-of .ensures, c .before .plain .given .1)
 
--- src/values.rt:100:1
 returns-5 : tie.Need-returns-5
 returns-5 c = simp (← c .before .before .before .plain-of .ensures, c .before .plain2 .given .1)
 
--- src/values.rt:100:1
 returns-6 : tie.Need-returns-6
 returns-6 c = search needs
 
--- src/values.rt:100:1
 returns-7 : tie.Need-returns-7
 returns-7 c = search needs
 

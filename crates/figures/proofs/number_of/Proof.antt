@@ -3,67 +3,51 @@ use borrow.Author.Needs.{needs}
 use Rattle.figures.proofs.number_of.Statement.{statement}
 use Rattle.figures.proofs.number_of.Tie as tie
 
--- src/values.rt:87:9
 plain-of-requires : tie.Need-plain-of-requires
 plain-of-requires c κs = search needs
 
--- src/values.rt:89:24
 enum-told : tie.Need-enum-told
 enum-told c = search needs
 
--- src/values.rt:90:27
 enum-told-2 : tie.Need-enum-told-2
 enum-told-2 c = search needs
 
--- src/values.rt:91:23
 enum-known-plain : tie.Need-enum-known-plain
 enum-known-plain c = search needs
 
--- src/values.rt:91:34
 of-number-requires : tie.Need-of-number-requires
 of-number-requires c κs = search needs
 
--- src/values.rt:92:35
 enum-told-3 : tie.Need-enum-told-3
 enum-told-3 c = search needs
 
--- src/values.rt:93:34
 enum-told-4 : tie.Need-enum-told-4
 enum-told-4 c = search needs
 
--- src/values.rt:94:32
 enum-told-5 : tie.Need-enum-told-5
 enum-told-5 c = search needs
 
--- src/values.rt:95:25
 enum-told-6 : tie.Need-enum-told-6
 enum-told-6 c = search needs
 
--- src/values.rt:84:1
 returns : tie.Need-returns
 returns c = search needs
 
--- src/values.rt:84:1
 returns-2 : tie.Need-returns-2
 returns-2 c = search needs
 
--- src/values.rt:84:1
 returns-3 : tie.Need-returns-3
 returns-3 c = simp (c .of-number .ensures, ← c .before .before .before .before .plain-of .ensures, c .before .before .plain .given .1)
 
--- src/values.rt:84:1
 returns-4 : tie.Need-returns-4
 returns-4 c = search needs
 
--- src/values.rt:84:1
 returns-5 : tie.Need-returns-5
 returns-5 c = search needs
 
--- src/values.rt:84:1
 returns-6 : tie.Need-returns-6
 returns-6 c = search needs
 
--- src/values.rt:84:1
 returns-7 : tie.Need-returns-7
 returns-7 c = search needs
 

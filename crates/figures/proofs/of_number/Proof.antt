@@ -5,31 +5,24 @@ use borrow.Author.Needs.{needs, sfits-of}
 use Rattle.figures.proofs.of_number.Statement.{statement}
 use Rattle.figures.proofs.of_number.Tie as tie
 
--- src/values.rt:78:21
 enum-known-number : tie.Need-enum-known-number
 enum-known-number c = search needs
 
--- src/values.rt:79:22
 enum-known-number-2 : tie.Need-enum-known-number-2
 enum-known-number-2 c = search needs
 
--- src/values.rt:80:24
 enum-known-number-3 : tie.Need-enum-known-number-3
 enum-known-number-3 c = search needs
 
--- src/values.rt:80:49
 to-bits-requires : tie.Need-to-bits-requires
 to-bits-requires c κs = search needs
 
--- src/values.rt:74:1
 returns : tie.Need-returns
 returns c = rw (toZ-ofZ w64 (c .before .number .given .0 .0) (sfits-of (c .known-told .given .0 .1))) (simp (c .before .number .given .1))
 
--- src/values.rt:74:1
 returns-2 : tie.Need-returns-2
 returns-2 c = simp (c .before .number2 .given .1)
 
--- src/values.rt:74:1
 returns-3 : tie.Need-returns-3
 returns-3 c = simp (c .to-bits .ensures, c .before .before .number3 .given .1)
 

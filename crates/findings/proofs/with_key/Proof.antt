@@ -3,11 +3,9 @@ use borrow.Author.Needs.{needs}
 use Rattle.findings.proofs.with_key.Statement.{statement}
 use Rattle.findings.proofs.with_key.Tie as tie
 
--- src/judging.rt:80:14
 first-of-requires : tie.Need-first-of-requires
 first-of-requires c κs = search needs
 
--- src/judging.rt:73:1
 returns : tie.Need-returns
 returns c = simp (← c .first-of .ensures)
 

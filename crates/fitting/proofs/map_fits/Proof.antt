@@ -6,24 +6,19 @@ use borrow.Author.Needs.{needs}
 use Rattle.fitting.proofs.map_fits.Statement.{statement}
 use Rattle.fitting.proofs.map_fits.Tie as tie
 
--- src/values.rt:111:9
 mul-row-fits : tie.Need-mul-row-fits
 mul-row-fits c = search needs
 
--- src/values.rt:104:9
 row-fits-requires : tie.Need-row-fits-requires
 row-fits-requires c κs = omega (arith, c .before .before .fits .length .fits)
 
--- src/values.rt:113:9
 returns : tie.Need-returns
 unfolding mapFits
 returns c = rw (← c .before .row-fits .ensures, not-true (c .before .row-fits .result) (c .if1 .taken))
 
--- src/values.rt:115:5
 keys-fit-requires : tie.Need-keys-fit-requires
 keys-fit-requires c κs = search needs
 
--- src/values.rt:92:1
 returns-2 : tie.Need-returns-2
 unfolding mapFits
 returns-2 c = rw (← c .before .before .row-fits .ensures, not-false (c .before .before .row-fits .result) (c .before .if1 .left)) (c .keys-fit .ensures)

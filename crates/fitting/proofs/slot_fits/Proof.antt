@@ -4,20 +4,16 @@ use borrow.Author.Needs.{needs}
 use Rattle.fitting.proofs.slot_fits.Statement.{statement}
 use Rattle.fitting.proofs.slot_fits.Tie as tie
 
--- src/values.rt:175:8
 is-absent-requires : tie.Need-is-absent-requires
 is-absent-requires c κs = search needs
 
--- src/values.rt:176:9
 returns : tie.Need-returns
 unfolding slotFits
 returns c = simp (← c .before .is-absent .ensures, c .if1 .taken)
 
--- src/values.rt:178:5
 value-fits-requires : tie.Need-value-fits-requires
 value-fits-requires c κs = search needs
 
--- src/values.rt:172:1
 returns-2 : tie.Need-returns-2
 unfolding slotFits
 returns-2 c = simp (← c .before .before .is-absent .ensures, c .before .if1 .left, ← c .value-fits .ensures)

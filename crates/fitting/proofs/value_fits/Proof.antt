@@ -3,127 +3,96 @@ use borrow.Author.Needs.{needs}
 use Rattle.fitting.proofs.value_fits.Statement.{statement}
 use Rattle.fitting.proofs.value_fits.Tie as tie
 
--- src/values.rt:130:24
 enum-told : tie.Need-enum-told
 enum-told c = search needs
 
--- src/values.rt:131:27
 enum-told-2 : tie.Need-enum-told-2
 enum-told-2 c = search needs
 
--- src/values.rt:132:26
 enum-told-3 : tie.Need-enum-told-3
 enum-told-3 c = search needs
 
--- src/values.rt:133:27
 enum-told-4 : tie.Need-enum-told-4
 enum-told-4 c = search needs
 
--- src/values.rt:134:29
 enum-told-5 : tie.Need-enum-told-5
 enum-told-5 c = search needs
 
--- src/values.rt:135:26
 enum-told-6 : tie.Need-enum-told-6
 enum-told-6 c = search needs
 
--- src/values.rt:136:23
 enum-known-v : tie.Need-enum-known-v
 enum-known-v c = search needs
 
--- src/values.rt:136:48
 string-fits-requires : tie.Need-string-fits-requires
 string-fits-requires c κs = search needs
 
--- src/values.rt:137:22
 enum-known-v-2 : tie.Need-enum-known-v-2
 enum-known-v-2 c = search needs
 
--- src/values.rt:137:47
 span-fits-requires : tie.Need-span-fits-requires
 span-fits-requires c κs = search needs
 
--- src/values.rt:138:21
 enum-known-v-3 : tie.Need-enum-known-v-3
 enum-known-v-3 c = search needs
 
--- src/values.rt:139:65
 cast-row-fits : tie.Need-cast-row-fits
 cast-row-fits c = search needs
 
--- src/values.rt:139:13
 row-fits-requires : tie.Need-row-fits-requires
 row-fits-requires c κs = search needs
 
--- src/values.rt:141:20
 enum-known-v-4 : tie.Need-enum-known-v-4
 enum-known-v-4 c = search needs
 
--- src/values.rt:142:13
 map-fits-requires : tie.Need-map-fits-requires
 map-fits-requires c κs = search needs
 
--- src/values.rt:144:32
 enum-told-7 : tie.Need-enum-told-7
 enum-told-7 c = search needs
 
--- src/values.rt:145:39
 enum-told-8 : tie.Need-enum-told-8
 enum-told-8 c = search needs
 
--- src/values.rt:146:26
 enum-told-9 : tie.Need-enum-told-9
 enum-told-9 c = search needs
 
--- src/values.rt:119:1
 returns : tie.Need-returns
 returns c = simp (c .enum-told .given .1)
 
--- src/values.rt:119:1
 returns-2 : tie.Need-returns-2
 returns-2 c = simp (c .enum-told2 .given .1)
 
--- src/values.rt:119:1
 returns-3 : tie.Need-returns-3
 returns-3 c = simp (c .enum-told3 .given .1)
 
--- src/values.rt:119:1
 returns-4 : tie.Need-returns-4
 returns-4 c = simp (c .enum-told4 .given .1)
 
--- src/values.rt:119:1
 returns-5 : tie.Need-returns-5
 returns-5 c = simp (c .enum-told5 .given .1)
 
--- src/values.rt:119:1
 returns-6 : tie.Need-returns-6
 returns-6 c = simp (c .enum-told6 .given .1)
 
--- src/values.rt:119:1
 returns-7 : tie.Need-returns-7
 returns-7 c = simp (c .before .before .v .given .1, ← c .string-fits .ensures)
 
--- src/values.rt:119:1
 returns-8 : tie.Need-returns-8
 returns-8 c = simp (c .before .before .v2 .given .1, ← c .span-fits .ensures)
 
--- src/values.rt:119:1
 returns-9 : tie.Need-returns-9
 returns-9 c = simp (c .before .before .v3 .given .1, ← c .row-fits .ensures)
 
--- src/values.rt:119:1
 returns-10 : tie.Need-returns-10
 returns-10 c = simp (c .before .before .v4 .given .1, ← c .map-fits .ensures)
 
--- src/values.rt:119:1
 returns-11 : tie.Need-returns-11
 returns-11 c = simp (c .enum-told7 .given .1)
 
--- src/values.rt:119:1
 returns-12 : tie.Need-returns-12
 returns-12 c = simp (c .enum-told8 .given .1)
 
--- src/values.rt:119:1
 returns-13 : tie.Need-returns-13
 returns-13 c = simp (c .enum-told9 .given .1)
 

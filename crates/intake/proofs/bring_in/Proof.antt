@@ -5,47 +5,36 @@ use borrow.Author.Needs.{needs}
 use Rattle.intake.proofs.bring_in.Statement.{statement}
 use Rattle.intake.proofs.bring_in.Tie as tie
 
--- src/lib.rt:53:9
 returns : tie.Need-returns
 returns c = let given = c .before .before .before .before .before .before .before .args in brings-none (bindingRoom (given .state .now) (given .binding-cells .now) (given .binding-text .now)) (given .name) (given .table .now) (given .literal .now) (given .answer .now) (c .if1 .taken)
 
--- src/lib.rt:55:9
 bring-in-requires : tie.Need-bring-in-requires
 bring-in-requires c κs = search needs
 
--- src/lib.rt:57:43
 enum-told : tie.Need-enum-told
 enum-told c = search needs
 
--- src/lib.rt:57:25
 put-done-requires : tie.Need-put-done-requires
 put-done-requires c κs = search needs
 
--- src/lib.rt:58:25
 enum-known-said : tie.Need-enum-known-said
 enum-known-said c = search needs
 
--- src/lib.rt:58:43
 put-refusal-requires : tie.Need-put-refusal-requires
 put-refusal-requires c κs = search needs
 
--- src/lib.rt:40:1
 same-length : tie.Need-same-length
 same-length c = search needs
 
--- src/lib.rt:40:1
 same-length-2 : tie.Need-same-length-2
 same-length-2 c = search needs
 
--- src/lib.rt:40:1
 same-length-3 : tie.Need-same-length-3
 same-length-3 c = search needs
 
--- src/lib.rt:40:1
 same-length-4 : tie.Need-same-length-4
 same-length-4 c = search needs
 
--- src/lib.rt:40:1
 returns-2 : tie.Need-returns-2
 returns-2 c =
     let given = c .before .before .before .before .before .before .before .before .before .before .before .before .before .before .before .before .before .before .before .before .before .before .before .args in
@@ -53,23 +42,18 @@ returns-2 c =
     (bindingRoom (c .before .before .before .before .before .before .before .before .before .before .before .before .bring-in .last .0) (c .before .before .before .before .before .before .before .before .before .before .before .before .bring-in .last .1 .0) (c .before .before .before .before .before .before .before .before .before .before .before .before .bring-in .last .1 .1 .0))
     (c .before .before .put-done .result, c .before .before .put-done .last .0) (c .before .before .before .before .before .before .before .before .before .before .before .before .before .before .before .before .if1 .left) (c .before .before .before .before .before .before .before .before .before .before .before .before .bring-in .ensures) (c .before .before .before .before .enum-told .given .1) (c .before .before .put-done .ensures)
 
--- src/lib.rt:40:1
 same-length-5 : tie.Need-same-length-5
 same-length-5 c = search needs
 
--- src/lib.rt:40:1
 same-length-6 : tie.Need-same-length-6
 same-length-6 c = search needs
 
--- src/lib.rt:40:1
 same-length-7 : tie.Need-same-length-7
 same-length-7 c = search needs
 
--- src/lib.rt:40:1
 same-length-8 : tie.Need-same-length-8
 same-length-8 c = search needs
 
--- src/lib.rt:40:1
 returns-3 : tie.Need-returns-3
 returns-3 c =
     let given = c .before .before .before .before .before .before .before .before .before .before .before .before .before .before .before .before .before .before .before .before .before .before .before .before .args in

@@ -4,19 +4,15 @@ use borrow.Author.Needs.{needs}
 use Rattle.intake.proofs.check.Statement.{statement}
 use Rattle.intake.proofs.check.Tie as tie
 
--- src/lib.rt:22:9
 check-requires : tie.Need-check-requires
 check-requires c κs = search needs
 
--- src/lib.rt:23:5
 put-checked-requires : tie.Need-put-checked-requires
 put-checked-requires c κs = search needs
 
--- src/lib.rt:18:1
 same-length : tie.Need-same-length
 same-length c = search needs
 
--- src/lib.rt:18:1
 returns : tie.Need-returns
 returns c = let given = c .before .before .before .before .before .before .before .before .args in checks-so (given .table .now) (given .literal .now) (given .answer .now) (c .before .before .before .before .check .result) (c .before .before .put-checked .result, c .before .before .put-checked .last .0) (c .before .before .before .before .check .ensures) (c .before .before .put-checked .ensures)
 

@@ -4,23 +4,18 @@ use borrow.Author.Needs.{needs}
 use Rattle.intake.proofs.empty.Statement.{statement}
 use Rattle.intake.proofs.empty.Tie as tie
 
--- src/lib.rt:32:9
 returns : tie.Need-returns
 returns c = empties-none (c .before .before .args .state .now) (c .if1 .taken)
 
--- src/lib.rt:34:32
 empty-requires : tie.Need-empty-requires
 empty-requires c κs = search needs
 
--- src/lib.rt:34:5
 put-bindings-requires : tie.Need-put-bindings-requires
 put-bindings-requires c κs = search needs
 
--- src/lib.rt:27:1
 same-length : tie.Need-same-length
 same-length c = search needs
 
--- src/lib.rt:27:1
 returns-2 : tie.Need-returns-2
 returns-2 c = empties-so (c .before .before .before .before .before .before .before .args .state .now) (c .before .before .put-bindings .last .0) (c .before .before .before .empty .result) (c .before .before .before .before .before .if1 .left) (c .before .before .before .empty .ensures) (c .before .before .put-bindings .ensures)
 

@@ -3,15 +3,12 @@ use borrow.Author.Needs.{needs}
 use Rattle.judged.proofs.other_fault.Statement.{statement}
 use Rattle.judged.proofs.other_fault.Tie as tie
 
--- src/judging.rt:118:8
 is-absent-requires : tie.Need-is-absent-requires
 is-absent-requires c κs = search needs
 
--- src/judging.rt:115:1
 returns : tie.Need-returns
 returns c = simp (← c .before .is-absent .ensures, c .if1 .taken)
 
--- src/judging.rt:115:1
 returns-2 : tie.Need-returns-2
 returns-2 c = search needs
 

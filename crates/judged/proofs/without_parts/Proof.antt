@@ -3,15 +3,12 @@ use borrow.Author.Needs.{needs}
 use Rattle.judged.proofs.without_parts.Statement.{statement}
 use Rattle.judged.proofs.without_parts.Tie as tie
 
--- src/judging.rt:128:9
 other-fault-requires : tie.Need-other-fault-requires
 other-fault-requires c κs = search needs
 
--- src/judging.rt:134:16
 text-length-requires : tie.Need-text-length-requires
 text-length-requires c κs = search needs
 
--- src/judging.rt:125:1
 returns : tie.Need-returns
 returns c = (rw (← c .before .other-fault .ensures, ← c .text-length .ensures .0), c .text-length .ensures .1)
 

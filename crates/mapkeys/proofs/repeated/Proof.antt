@@ -14,49 +14,38 @@ Inv-loop cells text key first count at₀ left₀ t9 t10 at left = (at + 2 * lef
 abbrev μ-loop : tie.MeasureT-loop
 μ-loop cells text key first count at₀ left₀ t9 t10 at left = left
 
--- src/keys.rt:36:5
 loop-holds : tie.Need-loop-holds Inv-loop μ-loop
 loop-holds c = (omega arith, refl)
 
--- src/keys.rt:37:13
 read-cell-requires : tie.Need-read-cell-requires Inv-loop μ-loop
 read-cell-requires c κs = search needs
 
--- src/keys.rt:38:24
 slice-aggregate-key-equal : tie.Need-slice-aggregate-key-equal Inv-loop μ-loop
 slice-aggregate-key-equal c = search needs
 
--- src/keys.rt:38:35
 slice-aggregate-key-equal-2 : tie.Need-slice-aggregate-key-equal-2 Inv-loop μ-loop
 slice-aggregate-key-equal-2 c = search needs
 
--- src/keys.rt:38:12
 key-equal-requires : tie.Need-key-equal-requires Inv-loop μ-loop
 key-equal-requires c κs = search needs
 
--- src/keys.rt:39:13
 returns : tie.Need-returns Inv-loop μ-loop
 unfolding match
 returns c = repeated-found (c .before .before .before .before .before .before .before .before .before .args .cells .now) (c .before .before .before .before .before .before .before .before .before .args .text .now) (c .before .before .before .before .before .before .before .before .before .args .key) (c .before .before .before .before .read-cell .result) (c .before .before .before .before .before .before .loop .at) (c .before .before .before .before .before .before .loop .left) (c .before .before .before .before .before .loop-test .taken) (c .before .before .before .before .read-cell .ensures) (sym (c .before .key-equal .ensures) ∙ c .if1 .taken) ∙ c .before .before .before .before .before .before .loop .inv .1
 
--- src/keys.rt:41:9
 add-at : tie.Need-add-at Inv-loop μ-loop
 add-at c = search needs
 
--- src/keys.rt:42:9
 sub-left : tie.Need-sub-left Inv-loop μ-loop
 sub-left c = search needs
 
--- src/keys.rt:36:5
 loop-less : tie.Need-loop-less Inv-loop μ-loop
 loop-less c = search needs
 
--- src/keys.rt:36:5
 loop-again : tie.Need-loop-again Inv-loop μ-loop
 unfolding match
 loop-again c = (omega arith, repeated-on (c .before .before .before .before .before .before .before .before .before .args .cells .now) (c .before .before .before .before .before .before .before .before .before .args .text .now) (c .before .before .before .before .before .before .before .before .before .args .key) (c .before .before .before .before .read-cell .result) (c .before .before .before .before .before .before .loop .at) (c .before .before .before .before .before .before .loop .left) (c .before .before .before .before .before .loop-test .taken) (c .before .before .before .before .read-cell .ensures) (sym (c .before .key-equal .ensures) ∙ c .if1 .left) ∙ c .before .before .before .before .before .before .loop .inv .1)
 
--- src/keys.rt:30:1
 returns-2 : tie.Need-returns-2 Inv-loop μ-loop
 returns-2 c = repeated-none (c .before .before .before .before .args .cells .now) (c .before .before .before .before .args .text .now) (c .before .before .before .before .args .key) (c .before .loop .at) (c .before .loop .left) (c .loop-test .left) ∙ c .before .loop .inv .1
 

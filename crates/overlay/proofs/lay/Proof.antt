@@ -15,35 +15,27 @@ Inv-loop lent₀ words at₀ lent at = (length lent ≡ length lent₀) × (lent
 abbrev μ-loop : tie.MeasureT-loop
 μ-loop lent₀ words at₀ lent at = length words - at
 
--- src/lib.rt:20:5
 loop-holds : tie.Need-loop-holds Inv-loop μ-loop
 loop-holds c = (refl, refl, omega arith)
 
--- src/lib.rt:21:20
 mul-lent : tie.Need-mul-lent Inv-loop μ-loop
 mul-lent c = search needs
 
--- src/lib.rt:21:20
 shared-slice-read-lent : tie.Need-shared-slice-read-lent Inv-loop μ-loop
 shared-slice-read-lent c = search needs
 
--- src/lib.rt:21:9
 mul-lent-2 : tie.Need-mul-lent-2 Inv-loop μ-loop
 mul-lent-2 c = search needs
 
--- src/lib.rt:21:9
 slice-write-lent : tie.Need-slice-write-lent Inv-loop μ-loop
 slice-write-lent c = search needs
 
--- src/lib.rt:22:9
 add-at : tie.Need-add-at Inv-loop μ-loop
 add-at c = search needs
 
--- src/lib.rt:20:5
 loop-less : tie.Need-loop-less Inv-loop μ-loop
 loop-less c = search needs
 
--- src/lib.rt:20:5
 loop-again : tie.Need-loop-again Inv-loop μ-loop
 loop-again c = (
   simp length-set (c .before .before .loop .inv .0),
@@ -52,11 +44,9 @@ loop-again c = (
   omega arith,
 )
 
--- src/lib.rt:15:1
 same-length : tie.Need-same-length Inv-loop μ-loop
 same-length c = c .before .loop .inv .0
 
--- src/lib.rt:15:1
 returns : tie.Need-returns Inv-loop μ-loop
 returns c = c .before .loop .inv .1 ∙ laid-all (c .before .before .args .words .now) (c .before .before .args .lent .now) (c .before .loop .at) (omega arith)
 

@@ -5,15 +5,12 @@ use borrow.Author.Needs.{needs}
 use Rattle.overlay.proofs.value_of.Statement.{statement}
 use Rattle.overlay.proofs.value_of.Tie as tie
 
--- src/lib.rt:51:15
 slice-aggregate-read-cell : tie.Need-slice-aggregate-read-cell
 slice-aggregate-read-cell c = search needs
 
--- src/lib.rt:51:5
 read-cell-requires : tie.Need-read-cell-requires
 read-cell-requires c κs = search needs
 
--- src/lib.rt:47:1
 returns : tie.Need-returns
 returns c = c .read-cell .ensures ∙ cell-alone (c .before .before .args .head) (c .before .before .args .payload)
 

@@ -5,15 +5,12 @@ use borrow.Author.Needs.{needs}
 use Rattle.overlay.proofs.words_of.Statement.{statement}
 use Rattle.overlay.proofs.words_of.Tie as tie
 
--- src/lib.rt:42:16
 slice-aggregate-write-cell : tie.Need-slice-aggregate-write-cell
 slice-aggregate-write-cell c = search needs
 
--- src/lib.rt:42:5
 write-cell-requires : tie.Need-write-cell-requires
 write-cell-requires c κs = search needs
 
--- src/lib.rt:38:1
 returns : tie.Need-returns
 returns c = c .before .write-cell .ensures ∙ written-alone (c .before .before .before .args .value) 0 0
 

@@ -3,63 +3,48 @@ use borrow.Author.Needs.{needs}
 use Rattle.reading.proofs.truth_of.Statement.{statement}
 use Rattle.reading.proofs.truth_of.Tie as tie
 
--- src/values.rt:62:9
 plain-of-requires : tie.Need-plain-of-requires
 plain-of-requires c κs = search needs
 
--- src/values.rt:64:24
 enum-told : tie.Need-enum-told
 enum-told c = search needs
 
--- src/values.rt:65:21
 enum-known-plain : tie.Need-enum-known-plain
 enum-known-plain c = search needs
 
--- src/values.rt:66:29
 enum-told-2 : tie.Need-enum-told-2
 enum-told-2 c = search needs
 
--- src/values.rt:67:35
 enum-told-3 : tie.Need-enum-told-3
 enum-told-3 c = search needs
 
--- src/values.rt:68:34
 enum-told-4 : tie.Need-enum-told-4
 enum-told-4 c = search needs
 
--- src/values.rt:69:32
 enum-told-5 : tie.Need-enum-told-5
 enum-told-5 c = search needs
 
--- src/values.rt:70:25
 enum-told-6 : tie.Need-enum-told-6
 enum-told-6 c = search needs
 
--- src/values.rt:59:1
 returns : tie.Need-returns
 returns c = search needs
 
--- src/values.rt:59:1
 returns-2 : tie.Need-returns-2
 returns-2 c = simp (← c .before .before .before .plain-of .ensures, c .before .plain .given .1)
 
--- src/values.rt:59:1
 returns-3 : tie.Need-returns-3
 returns-3 c = search needs
 
--- src/values.rt:59:1
 returns-4 : tie.Need-returns-4
 returns-4 c = search needs
 
--- src/values.rt:59:1
 returns-5 : tie.Need-returns-5
 returns-5 c = search needs
 
--- src/values.rt:59:1
 returns-6 : tie.Need-returns-6
 returns-6 c = search needs
 
--- src/values.rt:59:1
 returns-7 : tie.Need-returns-7
 returns-7 c = search needs
 

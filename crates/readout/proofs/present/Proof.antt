@@ -8,23 +8,18 @@ use borrow.Author.Needs.{needs}
 use Rattle.readout.proofs.present.Statement.{statement}
 use Rattle.readout.proofs.present.Tie as tie
 
--- src/lib.rt:170:9
 value-of-requires : tie.Need-value-of-requires
 value-of-requires c κs = search needs
 
--- src/lib.rt:171:9
 present-in-requires : tie.Need-present-in-requires
 present-in-requires c κs = search needs
 
--- src/lib.rt:172:5
 put-part-requires : tie.Need-put-part-requires
 put-part-requires c κs = search needs
 
--- src/lib.rt:160:1
 same-length : tie.Need-same-length
 same-length c = search needs
 
--- src/lib.rt:160:1
 returns : tie.Need-returns
 returns c =
     let given = c .before .before .before .before .before .before .before .before .before .args in

@@ -4,19 +4,15 @@ use borrow.Author.Needs.{needs}
 use Rattle.readout.proofs.read.Statement.{statement}
 use Rattle.readout.proofs.read.Tie as tie
 
--- src/lib.rt:104:9
 value-of-requires : tie.Need-value-of-requires
 value-of-requires c κs = search needs
 
--- src/lib.rt:105:5
 put-shape-requires : tie.Need-put-shape-requires
 put-shape-requires c κs = search needs
 
--- src/lib.rt:100:1
 same-length : tie.Need-same-length
 same-length c = search needs
 
--- src/lib.rt:100:1
 returns : tie.Need-returns
 returns c = reads-so (c .before .before .before .before .before .before .args .shape .now) (c .before .before .before .before .value-of .result) _ (c .before .before .put-shape .result, c .before .before .put-shape .last .0) (c .before .before .before .before .value-of .ensures) (c .before .before .put-shape .ensures)
 

@@ -14,39 +14,30 @@ Inv-loop cells first count most₀ at₀ left₀ most at left = (at + left < 262
 abbrev μ-loop : tie.MeasureT-loop
 μ-loop cells first count most₀ at₀ left₀ most at left = left
 
--- src/values.rt:30:5
 loop-holds : tie.Need-loop-holds Inv-loop μ-loop
 loop-holds c = (omega arith, max-zero _)
 
--- src/values.rt:31:40
 read-cell-requires : tie.Need-read-cell-requires Inv-loop μ-loop
 read-cell-requires c κs = search needs
 
--- src/values.rt:31:29
 nesting-of-requires : tie.Need-nesting-of-requires Inv-loop μ-loop
 nesting-of-requires c κs = search needs
 
--- src/values.rt:31:9
 deeper-requires : tie.Need-deeper-requires Inv-loop μ-loop
 deeper-requires c κs = search needs
 
--- src/values.rt:32:9
 add-at : tie.Need-add-at Inv-loop μ-loop
 add-at c = search needs
 
--- src/values.rt:33:9
 sub-left : tie.Need-sub-left Inv-loop μ-loop
 sub-left c = search needs
 
--- src/values.rt:30:5
 loop-less : tie.Need-loop-less Inv-loop μ-loop
 loop-less c = search needs
 
--- src/values.rt:30:5
 loop-again : tie.Need-loop-again Inv-loop μ-loop
 loop-again c = (omega arith, deepest-on (c .before .before .before .before .before .before .args .cells .now) (c .before .before .before .before .loop .most) (c .deeper .result) (c .before .before .before .before .loop .at) (c .before .before .before .before .loop .left) (c .before .before .read-cell .result) (c .before .before .before .loop-test .taken) (c .before .before .read-cell .ensures) (c .deeper .ensures ∙ ap (λ d. max (c .before .before .before .before .loop .most) d) (c .before .nesting-of .ensures)) ∙ c .before .before .before .before .loop .inv .1)
 
--- src/values.rt:23:1
 returns : tie.Need-returns Inv-loop μ-loop
 returns c = deepest-none (c .before .before .before .args .cells .now) (c .before .loop .most) (c .before .loop .at) (c .before .loop .left) (c .loop-test .left) ∙ c .before .loop .inv .1
 

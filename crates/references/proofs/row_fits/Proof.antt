@@ -5,48 +5,37 @@ use Rattle.references.proofs.ReferenceSteps.{row-before, row-outside, r
 use Rattle.references.proofs.row_fits.Statement.{statement}
 use Rattle.references.proofs.row_fits.Tie as tie
 
--- src/values.rt:53:34
 enum-told : tie.Need-enum-told
 enum-told c = search needs
 
--- src/values.rt:55:16
 enum-told-2 : tie.Need-enum-told-2
 enum-told-2 c = search needs
 
--- src/values.rt:56:17
 returns : tie.Need-returns
 returns c = rw (c .before .enum-told2 .given .1) (row-before (c .before .before .before .before .args .cells .now) (c .before .before .before .before .args .used) (c .before .before .before .before .args .least) (c .before .before .before .before .args .nesting) (c .before .before .before .before .args .first) (c .before .before .before .before .args .count) (c .if1 .taken))
 
--- src/values.rt:58:23
 add-if2 : tie.Need-add-if2
 add-if2 c = search needs
 
--- src/values.rt:59:17
 returns-2 : tie.Need-returns-2
 returns-2 c = rw (c .before .before .enum-told2 .given .1) (row-outside (c .before .before .before .before .before .args .cells .now) (c .before .before .before .before .before .args .used) (c .before .before .before .before .before .args .least) (c .before .before .before .before .before .args .nesting) (c .before .before .before .before .before .args .first) (c .before .before .before .before .before .args .count) (c .before .if1 .left) (c .if2 .taken))
 
--- src/values.rt:62:17
 returns-3 : tie.Need-returns-3
 returns-3 c = rw (c .before .before .before .enum-told2 .given .1) (row-deep (c .before .before .before .before .before .before .args .cells .now) (c .before .before .before .before .before .before .args .used) (c .before .before .before .before .before .before .args .least) (c .before .before .before .before .before .before .args .nesting) (c .before .before .before .before .before .before .args .first) (c .before .before .before .before .before .before .args .count) (c .before .before .if1 .left) (c .before .if2 .left) (c .if3 .taken))
 
--- src/values.rt:65:17
 returns-4 : tie.Need-returns-4
 returns-4 c = rw (c .before .before .before .before .enum-told2 .given .1) (row-flat (c .before .before .before .before .before .before .before .args .cells .now) (c .before .before .before .before .before .before .before .args .used) (c .before .before .before .before .before .before .before .args .least) (c .before .before .before .before .before .before .before .args .nesting) (c .before .before .before .before .before .before .before .args .first) (c .before .before .before .before .before .before .before .args .count) (c .before .before .before .if1 .left) (c .before .before .if2 .left) (c .before .if3 .left) (c .if4 .taken))
 
--- src/values.rt:67:13
 deepest-requires : tie.Need-deepest-requires
 deepest-requires c κs = search needs
 
--- src/values.rt:67:44
 sub-result : tie.Need-sub-result
 sub-result c = search needs
 
--- src/values.rt:39:1
 returns-5 : tie.Need-returns-5
 unfolding rowFits
 returns-5 c = rw (c .enum-told .given .1)
 
--- src/values.rt:39:1
 returns-6 : tie.Need-returns-6
 returns-6 c = rw (c .before .before .before .before .before .enum-told2 .given .1) (row-nesting (c .before .before .before .before .before .before .before .before .args .cells .now) (c .before .before .before .before .before .before .before .before .args .used) (c .before .before .before .before .before .before .before .before .args .least) (c .before .before .before .before .before .before .before .before .args .nesting) (c .before .before .before .before .before .before .before .before .args .first) (c .before .before .before .before .before .before .before .before .args .count) (c .before .before .before .before .if1 .left) (c .before .before .before .if2 .left) (c .before .before .if3 .left) (c .before .if4 .left) (c .deepest .result) (c .deepest .ensures))
 

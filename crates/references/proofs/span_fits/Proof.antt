@@ -4,33 +4,26 @@ use borrow.Author.Needs.{needs}
 use Rattle.references.proofs.span_fits.Statement.{statement}
 use Rattle.references.proofs.span_fits.Tie as tie
 
--- src/values.rt:77:31
 enum-told : tie.Need-enum-told
 enum-told c = search needs
 
--- src/values.rt:78:31
 enum-told-2 : tie.Need-enum-told-2
 enum-told-2 c = search needs
 
--- src/values.rt:78:31
 add-result : tie.Need-add-result
 add-result c = search needs
 
--- src/values.rt:79:34
 enum-told-3 : tie.Need-enum-told-3
 enum-told-3 c = search needs
 
--- src/values.rt:73:1
 returns : tie.Need-returns
 unfolding spanFits
 returns c = rw (c .enum-told .given .1)
 
--- src/values.rt:73:1
 returns-2 : tie.Need-returns-2
 unfolding spanFits
 returns-2 c = rw (c .enum-told2 .given .1)
 
--- src/values.rt:73:1
 returns-3 : tie.Need-returns-3
 unfolding spanFits
 returns-3 c = rw (c .enum-told3 .given .1)

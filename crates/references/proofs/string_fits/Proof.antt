@@ -5,24 +5,19 @@ use borrow.Author.Needs.{needs}
 use Rattle.references.proofs.string_fits.Statement.{statement}
 use Rattle.references.proofs.string_fits.Tie as tie
 
--- src/values.rt:86:9
 span-fits-requires : tie.Need-span-fits-requires
 span-fits-requires c κs = search needs
 
--- src/values.rt:87:9
 returns : tie.Need-returns
 unfolding stringFits
 returns c = rw (← c .before .span-fits .ensures, not-true (c .before .span-fits .result) (c .if1 .taken))
 
--- src/values.rt:89:29
 part-requires : tie.Need-part-requires
 part-requires c κs = search needs
 
--- src/values.rt:89:5
 well-formed-requires : tie.Need-well-formed-requires
 well-formed-requires c κs = search needs
 
--- src/values.rt:83:1
 returns-2 : tie.Need-returns-2
 unfolding stringFits
 returns-2 c = rw (← c .before .before .before .span-fits .ensures, not-false (c .before .before .before .span-fits .result) (c .before .before .if1 .left), ← c .before .part .ensures) (c .well-formed .ensures)

@@ -8,27 +8,21 @@ use borrow.Author.Needs.{needs}
 use Rattle.repeats.proofs.key_fault.Statement.{statement}
 use Rattle.repeats.proofs.key_fault.Tie as tie
 
--- src/judging.rt:161:9
 literal-at-requires : tie.Need-literal-at-requires
 literal-at-requires c κs = let p = sound-place (c .before .before .args .table .now) (c .before .before .args .literal .now) (c .before .before .args .at) (c .before .before .pre .1) in (p .known, p .head)
 
--- src/judging.rt:162:9
 is-key-requires : tie.Need-is-key-requires
 is-key-requires c κs = search needs
 
--- src/judging.rt:163:9
 returns : tie.Need-returns
 returns c = no-key (c .before .before .before .before .before .args .table .now) (c .before .before .before .before .before .args .literal .now) (λ i. omega (arith, c .before .before .before .before .shared-slice-known .given i)) (c .before .before .before .before .before .args .count) (c .before .before .before .before .before .args .first) (c .before .before .before .before .before .args .at) (c .before .before .before .before .before .pre .0) (c .before .before .literal-at .result) (c .before .before .literal-at .ensures) (c .before .before .before .before .before .pre .1) (sym (c .before .is-key .ensures) ∙ not-true (c .before .is-key .result) (c .if1 .taken))
 
--- src/judging.rt:165:8
 repeated-requires : tie.Need-repeated-requires
 repeated-requires c κs = c .before .before .before .before .before .pre .0
 
--- src/judging.rt:166:9
 returns-2 : tie.Need-returns-2
 returns-2 c = key-again (c .before .before .before .before .before .before .before .args .table .now) (c .before .before .before .before .before .before .before .args .literal .now) (λ i. omega (arith, c .before .before .before .before .before .before .shared-slice-known .given i)) (c .before .before .before .before .before .before .before .args .count) (c .before .before .before .before .before .before .before .args .first) (c .before .before .before .before .before .before .before .args .at) (c .before .before .before .before .before .before .before .pre .0) (c .before .before .before .before .literal-at .result) (c .before .before .before .before .literal-at .ensures) (c .before .before .before .before .before .before .before .pre .1) (sym (c .before .before .before .is-key .ensures) ∙ not-false (c .before .before .before .is-key .result) (c .before .before .if1 .left)) (sym (c .before .repeated .ensures) ∙ c .if2 .taken)
 
--- src/judging.rt:157:1
 returns-3 : tie.Need-returns-3
 returns-3 c = key-new (c .before .before .before .before .before .before .before .args .table .now) (c .before .before .before .before .before .before .before .args .literal .now) (λ i. omega (arith, c .before .before .before .before .before .before .shared-slice-known .given i)) (c .before .before .before .before .before .before .before .args .count) (c .before .before .before .before .before .before .before .args .first) (c .before .before .before .before .before .before .before .args .at) (c .before .before .before .before .before .before .before .pre .0) (c .before .before .before .before .literal-at .result) (c .before .before .before .before .literal-at .ensures) (c .before .before .before .before .before .before .before .pre .1) (sym (c .before .before .before .is-key .ensures) ∙ not-false (c .before .before .before .is-key .result) (c .before .before .if1 .left)) (sym (c .before .repeated .ensures) ∙ c .if2 .left)
 

@@ -4,31 +4,24 @@ use borrow.Author.Needs.{needs}
 use Rattle.reports.proofs.put.Statement.{statement}
 use Rattle.reports.proofs.put.Tie as tie
 
--- src/lib.rt:47:16
 words-of-requires : tie.Need-words-of-requires
 words-of-requires c κs = search needs
 
--- src/lib.rt:55:9
 array-read-t18 : tie.Need-array-read-t18
 array-read-t18 c = search needs
 
--- src/lib.rt:56:9
 array-read-t21 : tie.Need-array-read-t21
 array-read-t21 c = search needs
 
--- src/lib.rt:58:16
 slice-aggregate-hand : tie.Need-slice-aggregate-hand
 slice-aggregate-hand c = search needs
 
--- src/lib.rt:58:5
 hand-requires : tie.Need-hand-requires
 hand-requires c κs = search needs
 
--- src/lib.rt:37:1
 same-length : tie.Need-same-length
 same-length c = search needs
 
--- src/lib.rt:37:1
 returns : tie.Need-returns
 returns c = let given = c .before .before .before .before .before .before .before .args in words-as (given .which) (given .number) (given .place) (given .used) (given .value) (c .before .before .before .before .before .words-of .result) (given .lent .now) (c .before .before .hand .result, c .before .before .hand .last .0) (c .before .before .before .before .before .words-of .ensures) (c .before .before .hand .ensures)
 

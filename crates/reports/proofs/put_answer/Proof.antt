@@ -5,75 +5,57 @@ use borrow.Author.Needs.{needs}
 use Rattle.reports.proofs.put_answer.Statement.{statement}
 use Rattle.reports.proofs.put_answer.Tie as tie
 
--- src/lib.rt:86:25
 enum-known-answer : tie.Need-enum-known-answer
 enum-known-answer c = search needs
 
--- src/lib.rt:86:43
 put-refusal-requires : tie.Need-put-refusal-requires
 put-refusal-requires c κs = search needs
 
--- src/lib.rt:87:23
 enum-known-answer-2 : tie.Need-enum-known-answer-2
 enum-known-answer-2 c = search needs
 
--- src/lib.rt:87:39
 put-requires : tie.Need-put-requires
 put-requires c κs = search needs
 
--- src/lib.rt:88:23
 enum-known-answer-3 : tie.Need-enum-known-answer-3
 enum-known-answer-3 c = search needs
 
--- src/lib.rt:89:17
 error-number-requires : tie.Need-error-number-requires
 error-number-requires c κs = search needs
 
--- src/lib.rt:90:13
 put-requires-2 : tie.Need-put-requires-2
 put-requires-2 c κs = search needs
 
--- src/lib.rt:92:27
 enum-known-answer-4 : tie.Need-enum-known-answer-4
 enum-known-answer-4 c = search needs
 
--- src/lib.rt:93:17
 limit-number-requires : tie.Need-limit-number-requires
 limit-number-requires c κs = search needs
 
--- src/lib.rt:94:13
 put-requires-3 : tie.Need-put-requires-3
 put-requires-3 c κs = search needs
 
--- src/lib.rt:82:1
 same-length : tie.Need-same-length
 same-length c = search needs
 
--- src/lib.rt:82:1
 returns : tie.Need-returns
 returns c = answer-as (c .before .before .put-refusal .result, c .before .before .put-refusal .last .0) (c .before .before .before .before .before .before .before .before .args .answer) _ (c .before .before .before .before .before .before .before .before .args .lent .now) (c .before .before .before .before .before .answer .given .1) (c .before .before .put-refusal .ensures)
 
--- src/lib.rt:82:1
 same-length-2 : tie.Need-same-length-2
 same-length-2 c = search needs
 
--- src/lib.rt:82:1
 returns-2 : tie.Need-returns-2
 returns-2 c = answer-as (c .before .before .put .result, c .before .before .put .last .0) (c .before .before .before .before .before .before .before .before .args .answer) _ (c .before .before .before .before .before .before .before .before .args .lent .now) (c .before .before .before .before .before .answer2 .given .1) (c .before .before .put .ensures)
 
--- src/lib.rt:82:1
 same-length-3 : tie.Need-same-length-3
 same-length-3 c = search needs
 
--- src/lib.rt:82:1
 returns-3 : tie.Need-returns-3
 returns-3 c = answer-as (c .before .before .put2 .result, c .before .before .put2 .last .0) (c .before .before .before .before .before .before .before .before .before .args .answer) _ (c .before .before .before .before .before .before .before .before .before .args .lent .now) (c .before .before .before .before .before .before .answer3 .given .1) (number-as 2 _ _ _ _ Value.Absent (c .before .before .before .before .before .before .before .before .before .args .lent .now) (c .before .before .put2 .result, c .before .before .put2 .last .0) (c .before .before .before .before .error-number .ensures) (c .before .before .put2 .ensures))
 
--- src/lib.rt:82:1
 same-length-4 : tie.Need-same-length-4
 same-length-4 c = search needs
 
--- src/lib.rt:82:1
 returns-4 : tie.Need-returns-4
 returns-4 c = answer-as (c .before .before .put3 .result, c .before .before .put3 .last .0) (c .before .before .before .before .before .before .before .before .before .args .answer) _ (c .before .before .before .before .before .before .before .before .before .args .lent .now) (c .before .before .before .before .before .before .answer4 .given .1) (number-as 3 _ _ 0 _ Value.Absent (c .before .before .before .before .before .before .before .before .before .args .lent .now) (c .before .before .put3 .result, c .before .before .put3 .last .0) (c .before .before .before .before .limit-number .ensures) (c .before .before .put3 .ensures))
 

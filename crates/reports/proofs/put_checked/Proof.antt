@@ -5,35 +5,27 @@ use borrow.Author.Needs.{needs}
 use Rattle.reports.proofs.put_checked.Statement.{statement}
 use Rattle.reports.proofs.put_checked.Tie as tie
 
--- src/lib.rt:77:39
 enum-told : tie.Need-enum-told
 enum-told c = search needs
 
--- src/lib.rt:77:30
 put-done-requires : tie.Need-put-done-requires
 put-done-requires c κs = search needs
 
--- src/lib.rt:78:26
 enum-known-checked : tie.Need-enum-known-checked
 enum-known-checked c = search needs
 
--- src/lib.rt:78:44
 put-refusal-requires : tie.Need-put-refusal-requires
 put-refusal-requires c κs = search needs
 
--- src/lib.rt:73:1
 same-length : tie.Need-same-length
 same-length c = search needs
 
--- src/lib.rt:73:1
 returns : tie.Need-returns
 returns c = checked-as (c .before .before .put-done .result, c .before .before .put-done .last .0) (c .before .before .before .before .before .before .before .args .checked) Checked.Accepted (c .before .before .before .before .before .before .before .args .lent .now) (c .before .before .before .before .enum-told .given .1) (c .before .before .put-done .ensures)
 
--- src/lib.rt:73:1
 same-length-2 : tie.Need-same-length-2
 same-length-2 c = search needs
 
--- src/lib.rt:73:1
 returns-2 : tie.Need-returns-2
 returns-2 c = checked-as (c .before .before .put-refusal .result, c .before .before .put-refusal .last .0) (c .before .before .before .before .before .before .before .before .args .checked) _ (c .before .before .before .before .before .before .before .before .args .lent .now) (c .before .before .before .before .before .checked .given .1) (c .before .before .put-refusal .ensures)
 

@@ -6,19 +6,15 @@ use borrow.Author.Needs.{needs}
 use Rattle.reports.proofs.put_done.Statement.{statement}
 use Rattle.reports.proofs.put_done.Tie as tie
 
--- src/lib.rt:64:27
 nothing-requires : tie.Need-nothing-requires
 nothing-requires c κs = search needs
 
--- src/lib.rt:64:5
 put-requires : tie.Need-put-requires
 put-requires c κs = search needs
 
--- src/lib.rt:61:1
 same-length : tie.Need-same-length
 same-length c = search needs
 
--- src/lib.rt:61:1
 returns : tie.Need-returns
 returns c = used-as 0 0 0 (c .before .before .before .nothing .result) nothingUsed Value.Absent (c .before .before .before .before .before .before .args .lent .now) (c .before .before .put .result, c .before .before .put .last .0) (c .before .before .before .nothing .ensures) (c .before .before .put .ensures)
 

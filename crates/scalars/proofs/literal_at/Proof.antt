@@ -14,90 +14,70 @@ use borrow.Author.Needs.{needs}
 use Rattle.scalars.proofs.literal_at.Statement.{statement}
 use Rattle.scalars.proofs.literal_at.Tie as tie
 
--- src/literals.rt:32:11
 kind-at-requires : tie.Need-kind-at-requires
 kind-at-requires c κs = let h = head-table (getD (c .before .args .table .now) (c .before .args .at) 0) (c .before .pre .0) in omega (arith, h .0, h .1)
 
--- src/literals.rt:34:29
 number-at-requires : tie.Need-number-at-requires
 number-at-requires c κs = let h = rw ((sym (c .before .kind-at .ensures) ∙ c .match .keys2), bool-head) at (c .before .before .before .pre .1) in omega arith
 
--- src/literals.rt:35:27
 int-at-requires : tie.Need-int-at-requires
 int-at-requires c κs = let h = rw ((sym (c .before .kind-at .ensures) ∙ c .match .keys3), int-head) at (c .before .before .before .pre .1) in omega arith
 
--- src/literals.rt:36:29
 bits-at-requires : tie.Need-bits-at-requires
 bits-at-requires c κs = let h = rw ((sym (c .before .kind-at .ensures) ∙ c .match .keys4), uint-head) at (c .before .before .before .pre .1) in omega arith
 
--- src/literals.rt:37:32
 bits-at-requires-2 : tie.Need-bits-at-requires-2
 bits-at-requires-2 c κs = let h = rw ((sym (c .before .kind-at .ensures) ∙ c .match .keys5), double-head) at (c .before .before .before .pre .1) in omega arith
 
--- src/literals.rt:37:19
 double-value-requires : tie.Need-double-value-requires
 double-value-requires c κs = search needs
 
--- src/literals.rt:39:17
 span-at-requires : tie.Need-span-at-requires
 span-at-requires c κs = let h = rw ((sym (c .before .kind-at .ensures) ∙ c .match .keys6), string-head) at (c .before .before .before .pre .1) in omega arith
 
--- src/literals.rt:40:47
 cast-t13 : tie.Need-cast-t13
 cast-t13 c = let t = c .before .before .before .before .before .args .table .now in let p = c .before .before .before .before .before .args .at in omega (arith, word-is t (p + 3), word-is t (p + 5), c .before .before .before .before .shared-slice-known .given (p + 3), c .before .before .before .before .shared-slice-known .given (suc (p + 3)), c .before .before .before .before .shared-slice-known .given (p + 5), c .before .before .before .before .shared-slice-known .given (suc (p + 5)))
 
--- src/literals.rt:40:67
 cast-t14 : tie.Need-cast-t14
 cast-t14 c = let t = c .before .before .before .before .before .before .args .table .now in let p = c .before .before .before .before .before .before .args .at in omega (arith, word-is t (p + 3), word-is t (p + 5), c .before .before .before .before .before .shared-slice-known .given (p + 3), c .before .before .before .before .before .shared-slice-known .given (suc (p + 3)), c .before .before .before .before .before .shared-slice-known .given (p + 5), c .before .before .before .before .before .shared-slice-known .given (suc (p + 5)))
 
--- src/literals.rt:43:17
 span-at-requires-2 : tie.Need-span-at-requires-2
 span-at-requires-2 c κs = let h = rw ((sym (c .before .kind-at .ensures) ∙ c .match .keys7), bytes-head) at (c .before .before .before .pre .1) in omega arith
 
--- src/literals.rt:44:46
 cast-t16 : tie.Need-cast-t16
 cast-t16 c = let t = c .before .before .before .before .before .args .table .now in let p = c .before .before .before .before .before .args .at in omega (arith, word-is t (p + 3), word-is t (p + 5), c .before .before .before .before .shared-slice-known .given (p + 3), c .before .before .before .before .shared-slice-known .given (suc (p + 3)), c .before .before .before .before .shared-slice-known .given (p + 5), c .before .before .before .before .shared-slice-known .given (suc (p + 5)))
 
--- src/literals.rt:44:66
 cast-t17 : tie.Need-cast-t17
 cast-t17 c = let t = c .before .before .before .before .before .before .args .table .now in let p = c .before .before .before .before .before .before .args .at in omega (arith, word-is t (p + 3), word-is t (p + 5), c .before .before .before .before .before .shared-slice-known .given (p + 3), c .before .before .before .before .before .shared-slice-known .given (suc (p + 3)), c .before .before .before .before .before .shared-slice-known .given (p + 5), c .before .before .before .before .before .shared-slice-known .given (suc (p + 5)))
 
--- src/literals.rt:28:1
 returns : tie.Need-returns
 unfolding literalValue
 returns c = rw (sym (c .before .kind-at .ensures) ∙ c .match .keys1)
 
--- src/literals.rt:28:1
 returns-2 : tie.Need-returns-2
 unfolding literalValue
 returns-2 c = rw ((sym (c .before .before .kind-at .ensures) ∙ c .before .match .keys2), c .number-at .ensures)
 
--- src/literals.rt:28:1
 returns-3 : tie.Need-returns-3
 unfolding literalValue
 returns-3 c = rw ((sym (c .before .before .kind-at .ensures) ∙ c .before .match .keys3), toZ-ofZ w64 (c .int-at .result) (sfits-of (c .int-at .ok)), c .int-at .ensures)
 
--- src/literals.rt:28:1
 returns-4 : tie.Need-returns-4
 unfolding literalValue
 returns-4 c = rw ((sym (c .before .before .kind-at .ensures) ∙ c .before .match .keys4), c .bits-at .ensures)
 
--- src/literals.rt:28:1
 returns-5 : tie.Need-returns-5
 unfolding literalValue
 returns-5 c = rw ((sym (c .before .before .before .kind-at .ensures) ∙ c .before .before .match .keys5), c .double-value .ensures, c .before .bits-at2 .ensures)
 
--- src/literals.rt:28:1
 returns-6 : tie.Need-returns-6
 unfolding literalValue
 returns-6 c = rw ((sym (c .before .before .before .before .kind-at .ensures) ∙ c .before .before .before .match .keys6), c .before .before .span-at .ensures .0, c .before .before .span-at .ensures .1)
 
--- src/literals.rt:28:1
 returns-7 : tie.Need-returns-7
 unfolding literalValue
 returns-7 c = rw ((sym (c .before .before .before .before .kind-at .ensures) ∙ c .before .before .before .match .keys7), c .before .before .span-at2 .ensures .0, c .before .before .span-at2 .ensures .1)
 
--- src/literals.rt:28:1
 returns-8 : tie.Need-returns-8
 unfolding literalValue
 returns-8 c = let n = c .match .rest in no-literal (c .before .before .before .args .table .now) (c .before .before .before .args .at) (c .before .kind-at .result) (c .before .kind-at .ensures) (n .0 .0 .0 .0 .0 .0 .1) (n .0 .0 .0 .0 .0 .1) (n .0 .0 .0 .0 .1) (n .0 .0 .0 .1) (n .0 .0 .1) (n .0 .1) (n .1)

@@ -6,107 +6,81 @@ use borrow.Author.Needs.{needs}
 use Rattle.scalars.proofs.moved_to.Statement.{statement}
 use Rattle.scalars.proofs.moved_to.Tie as tie
 
--- src/literals.rt:97:24
 enum-told : tie.Need-enum-told
 enum-told c = search needs
 
--- src/literals.rt:98:21
 enum-known-v : tie.Need-enum-known-v
 enum-known-v c = search needs
 
--- src/literals.rt:99:20
 enum-known-v-2 : tie.Need-enum-known-v-2
 enum-known-v-2 c = search needs
 
--- src/literals.rt:100:21
 enum-known-v-3 : tie.Need-enum-known-v-3
 enum-known-v-3 c = search needs
 
--- src/literals.rt:101:23
 enum-known-v-4 : tie.Need-enum-known-v-4
 enum-known-v-4 c = search needs
 
--- src/literals.rt:102:20
 enum-known-v-5 : tie.Need-enum-known-v-5
 enum-known-v-5 c = search needs
 
--- src/literals.rt:103:29
 enum-known-v-6 : tie.Need-enum-known-v-6
 enum-known-v-6 c = search needs
 
--- src/literals.rt:104:28
 enum-known-v-7 : tie.Need-enum-known-v-7
 enum-known-v-7 c = search needs
 
--- src/literals.rt:105:21
 enum-known-v-8 : tie.Need-enum-known-v-8
 enum-known-v-8 c = search needs
 
--- src/literals.rt:106:20
 enum-known-v-9 : tie.Need-enum-known-v-9
 enum-known-v-9 c = search needs
 
--- src/literals.rt:107:32
 enum-told-2 : tie.Need-enum-told-2
 enum-told-2 c = search needs
 
--- src/literals.rt:108:27
 enum-known-v-10 : tie.Need-enum-known-v-10
 enum-known-v-10 c = search needs
 
--- src/literals.rt:109:26
 enum-told-3 : tie.Need-enum-told-3
 enum-told-3 c = search needs
 
--- src/literals.rt:93:1
 returns : tie.Need-returns
 returns c = search needs
 
--- src/literals.rt:93:1
 returns-2 : tie.Need-returns-2
 returns-2 c = simp (c .before .v .given .1)
 
--- src/literals.rt:93:1
 returns-3 : tie.Need-returns-3
 returns-3 c = rw (toZ-ofZ w64 (c .before .v2 .given .0 .0) (sfits-of (c .known-told2 .given .0 .1))) (simp (c .before .v2 .given .1))
 
--- src/literals.rt:93:1
 returns-4 : tie.Need-returns-4
 returns-4 c = simp (c .before .v3 .given .1)
 
--- src/literals.rt:93:1
 returns-5 : tie.Need-returns-5
 returns-5 c = simp (c .before .v4 .given .1)
 
--- src/literals.rt:93:1
 returns-6 : tie.Need-returns-6
 returns-6 c = simp (c .before .v5 .given .1)
 
--- src/literals.rt:93:1
 returns-7 : tie.Need-returns-7
 returns-7 c = simp (c .before .v6 .given .1)
 
--- src/literals.rt:93:1
 returns-8 : tie.Need-returns-8
 returns-8 c = simp (c .before .v7 .given .1)
 
--- src/literals.rt:93:1
 returns-9 : tie.Need-returns-9
 returns-9 c = simp (c .before .v8 .given .1)
 
--- src/literals.rt:93:1
 returns-10 : tie.Need-returns-10
 returns-10 c = simp (c .before .v9 .given .1)
 
--- src/literals.rt:93:1
 returns-11 : tie.Need-returns-11
 returns-11 c = search needs
 
--- src/literals.rt:93:1
 returns-12 : tie.Need-returns-12
 returns-12 c = simp (c .before .v10 .given .1)
 
--- src/literals.rt:93:1
 returns-13 : tie.Need-returns-13
 returns-13 c = search needs
 

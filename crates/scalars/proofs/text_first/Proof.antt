@@ -3,107 +3,81 @@ use borrow.Author.Needs.{needs}
 use Rattle.scalars.proofs.text_first.Statement.{statement}
 use Rattle.scalars.proofs.text_first.Tie as tie
 
--- src/literals.rt:76:24
 enum-told : tie.Need-enum-told
 enum-told c = search needs
 
--- src/literals.rt:77:27
 enum-told-2 : tie.Need-enum-told-2
 enum-told-2 c = search needs
 
--- src/literals.rt:78:26
 enum-told-3 : tie.Need-enum-told-3
 enum-told-3 c = search needs
 
--- src/literals.rt:79:27
 enum-told-4 : tie.Need-enum-told-4
 enum-told-4 c = search needs
 
--- src/literals.rt:80:29
 enum-told-5 : tie.Need-enum-told-5
 enum-told-5 c = search needs
 
--- src/literals.rt:81:26
 enum-told-6 : tie.Need-enum-told-6
 enum-told-6 c = search needs
 
--- src/literals.rt:82:26
 enum-known-v : tie.Need-enum-known-v
 enum-known-v c = search needs
 
--- src/literals.rt:83:25
 enum-known-v-2 : tie.Need-enum-known-v-2
 enum-known-v-2 c = search needs
 
--- src/literals.rt:84:36
 enum-told-7 : tie.Need-enum-told-7
 enum-told-7 c = search needs
 
--- src/literals.rt:85:35
 enum-told-8 : tie.Need-enum-told-8
 enum-told-8 c = search needs
 
--- src/literals.rt:86:32
 enum-told-9 : tie.Need-enum-told-9
 enum-told-9 c = search needs
 
--- src/literals.rt:87:39
 enum-told-10 : tie.Need-enum-told-10
 enum-told-10 c = search needs
 
--- src/literals.rt:88:26
 enum-told-11 : tie.Need-enum-told-11
 enum-told-11 c = search needs
 
--- src/literals.rt:72:1
 returns : tie.Need-returns
 returns c = search needs
 
--- src/literals.rt:72:1
 returns-2 : tie.Need-returns-2
 returns-2 c = search needs
 
--- src/literals.rt:72:1
 returns-3 : tie.Need-returns-3
 returns-3 c = search needs
 
--- src/literals.rt:72:1
 returns-4 : tie.Need-returns-4
 returns-4 c = search needs
 
--- src/literals.rt:72:1
 returns-5 : tie.Need-returns-5
 returns-5 c = search needs
 
--- src/literals.rt:72:1
 returns-6 : tie.Need-returns-6
 returns-6 c = search needs
 
--- src/literals.rt:72:1
 returns-7 : tie.Need-returns-7
 returns-7 c = simp (c .before .v .given .1)
 
--- src/literals.rt:72:1
 returns-8 : tie.Need-returns-8
 returns-8 c = simp (c .before .v2 .given .1)
 
--- src/literals.rt:72:1
 returns-9 : tie.Need-returns-9
 returns-9 c = search needs
 
--- src/literals.rt:72:1
 returns-10 : tie.Need-returns-10
 returns-10 c = search needs
 
--- src/literals.rt:72:1
 returns-11 : tie.Need-returns-11
 returns-11 c = search needs
 
--- src/literals.rt:72:1
 returns-12 : tie.Need-returns-12
 returns-12 c = search needs
 
--- src/literals.rt:72:1
 returns-13 : tie.Need-returns-13
 returns-13 c = search needs
 

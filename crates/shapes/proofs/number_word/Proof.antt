@@ -6,23 +6,18 @@ use borrow.Author.Needs.{needs}
 use Rattle.shapes.proofs.number_word.Statement.{statement}
 use Rattle.shapes.proofs.number_word.Tie as tie
 
--- src/lib.rt:24:17
 words-of-requires : tie.Need-words-of-requires
 words-of-requires c κs = search needs
 
--- src/lib.rt:25:17
 kind-of-requires : tie.Need-kind-of-requires
 kind-of-requires c κs = search needs
 
--- src/lib.rt:26:9
 returns : tie.Need-returns
 returns c = no-number (c .before .before .before .args .value) (subst (λ (k : ℕ). 4 < k) (c .before .kind-of .ensures) (c .if1 .taken))
 
--- src/lib.rt:28:5
 array-read-result : tie.Need-array-read-result
 array-read-result c = search needs
 
--- src/lib.rt:21:1
 returns-2 : tie.Need-returns-2
 returns-2 c = number-in (c .before .before .before .args .value) (c .before .before .words-of .result) (subst (λ (k : ℕ). k ≤ 4) (c .before .kind-of .ensures) (c .if1 .left)) (c .before .before .words-of .ensures)
 

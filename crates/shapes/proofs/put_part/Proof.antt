@@ -4,27 +4,21 @@ use borrow.Author.Needs.{needs}
 use Rattle.shapes.proofs.put_part.Statement.{statement}
 use Rattle.shapes.proofs.put_part.Tie as tie
 
--- src/lib.rt:66:17
 words-of-requires : tie.Need-words-of-requires
 words-of-requires c κs = search needs
 
--- src/lib.rt:67:16
 slice-aggregate-hand : tie.Need-slice-aggregate-hand
 slice-aggregate-hand c = search needs
 
--- src/lib.rt:67:24
 kind-of-requires : tie.Need-kind-of-requires
 kind-of-requires c κs = search needs
 
--- src/lib.rt:67:5
 hand-requires : tie.Need-hand-requires
 hand-requires c κs = search needs
 
--- src/lib.rt:63:1
 same-length : tie.Need-same-length
 same-length c = search needs
 
--- src/lib.rt:63:1
 returns : tie.Need-returns
 returns c = part-as (c .before .before .before .before .before .before .before .before .args .part) (c .before .before .before .kind-of .result) (c .before .before .before .before .before .before .words-of .result) (c .before .before .before .before .before .before .before .before .args .lent .now) (c .before .before .hand .result, c .before .before .hand .last .0) (c .before .before .before .kind-of .ensures) (c .before .before .before .before .before .before .words-of .ensures) (c .before .before .hand .ensures)
 

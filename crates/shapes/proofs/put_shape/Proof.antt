@@ -4,59 +4,45 @@ use borrow.Author.Needs.{needs}
 use Rattle.shapes.proofs.put_shape.Statement.{statement}
 use Rattle.shapes.proofs.put_shape.Tie as tie
 
--- src/lib.rt:54:9
 kind-of-requires : tie.Need-kind-of-requires
 kind-of-requires c κs = search needs
 
--- src/lib.rt:55:9
 number-word-requires : tie.Need-number-word-requires
 number-word-requires c κs = search needs
 
--- src/lib.rt:56:27
 text-of-requires : tie.Need-text-of-requires
 text-of-requires c κs = search needs
 
--- src/lib.rt:56:16
 span-words-requires : tie.Need-span-words-requires
 span-words-requires c κs = search needs
 
--- src/lib.rt:57:9
 count-of-requires : tie.Need-count-of-requires
 count-of-requires c κs = search needs
 
--- src/lib.rt:58:18
 cast-t10 : tie.Need-cast-t10
 cast-t10 c = search needs
 
--- src/lib.rt:58:39
 array-read-t13 : tie.Need-array-read-t13
 array-read-t13 c = search needs
 
--- src/lib.rt:58:48
 array-read-t16 : tie.Need-array-read-t16
 array-read-t16 c = search needs
 
--- src/lib.rt:58:57
 array-read-t19 : tie.Need-array-read-t19
 array-read-t19 c = search needs
 
--- src/lib.rt:58:66
 cast-t20 : tie.Need-cast-t20
 cast-t20 c = search needs
 
--- src/lib.rt:59:16
 slice-aggregate-hand : tie.Need-slice-aggregate-hand
 slice-aggregate-hand c = search needs
 
--- src/lib.rt:59:5
 hand-requires : tie.Need-hand-requires
 hand-requires c κs = search needs
 
--- src/lib.rt:51:1
 same-length : tie.Need-same-length
 same-length c = search needs
 
--- src/lib.rt:51:1
 returns : tie.Need-returns
 returns c = shape-as (c .before .before .before .before .before .before .before .before .before .before .before .args .value) (c .before .before .before .before .before .before .before .before .before .kind-of .result) (c .before .before .before .before .before .before .before .before .number-word .result) (c .before .before .before .before .before .count-of .result) (c .before .before .before .before .before .before .before .text-of .result) (c .before .before .before .before .before .before .span-words .result) (c .before .before .before .before .before .before .before .before .before .before .before .args .lent .now) (c .before .before .hand .result, c .before .before .hand .last .0) (c .before .before .before .before .before .before .before .before .before .kind-of .ensures) (c .before .before .before .before .before .before .before .before .number-word .ensures) (c .before .before .before .before .before .before .before .text-of .ensures) (c .before .before .before .before .before .before .span-words .ensures) (c .before .before .before .before .before .count-of .ensures) (c .before .before .hand .ensures)
 

@@ -3,31 +3,24 @@ use borrow.Author.Needs.{needs}
 use Rattle.shapes.proofs.span_words.Statement.{statement}
 use Rattle.shapes.proofs.span_words.Tie as tie
 
--- src/lib.rt:45:18
 enum-known-span : tie.Need-enum-known-span
 enum-known-span c = search needs
 
--- src/lib.rt:45:44
 space-number-requires : tie.Need-space-number-requires
 space-number-requires c κs = search needs
 
--- src/lib.rt:45:65
 cast-t7 : tie.Need-cast-t7
 cast-t7 c = search needs
 
--- src/lib.rt:45:79
 cast-t8 : tie.Need-cast-t8
 cast-t8 c = search needs
 
--- src/lib.rt:46:25
 enum-told : tie.Need-enum-told
 enum-told c = search needs
 
--- src/lib.rt:41:1
 returns : tie.Need-returns
 returns c = simp (c .space-number .ensures, c .before .before .span .given .1)
 
--- src/lib.rt:41:1
 returns-2 : tie.Need-returns-2
 returns-2 c = search needs
 

@@ -5,39 +5,30 @@ use borrow.Author.Needs.{needs}
 use Rattle.slots.proofs.bindings_in.Statement.{statement}
 use Rattle.slots.proofs.bindings_in.Tie as tie
 
--- src/lib.rt:95:9
 no-bindings-requires : tie.Need-no-bindings-requires
 no-bindings-requires c κs = search needs
 
--- src/lib.rt:95:9
 returns : tie.Need-returns
 returns c = c .no-bindings .ensures ∙ other-length (c .before .before .before .args .words .now) (c .before .if1 .taken)
 
--- src/lib.rt:97:8
 shared-slice-read-if2 : tie.Need-shared-slice-read-if2
 shared-slice-read-if2 c = search needs
 
--- src/lib.rt:98:9
 no-bindings-requires-2 : tie.Need-no-bindings-requires-2
 no-bindings-requires-2 c κs = search needs
 
--- src/lib.rt:98:9
 returns-2 : tie.Need-returns-2
 returns-2 c = c .no-bindings2 .ensures ∙ other-count (c .before .before .before .before .before .args .words .now) (c .before .before .before .if1 .left) (c .before .if2 .taken)
 
--- src/lib.rt:101:16
 scope-in-requires : tie.Need-scope-in-requires
 scope-in-requires c κs = search needs
 
--- src/lib.rt:102:16
 shared-slice-read-t5 : tie.Need-shared-slice-read-t5
 shared-slice-read-t5 c = search needs
 
--- src/lib.rt:103:16
 shared-slice-read-t9 : tie.Need-shared-slice-read-t9
 shared-slice-read-t9 c = search needs
 
--- src/lib.rt:91:1
 returns-3 : tie.Need-returns-3
 returns-3 c = is-state (c .before .before .before .before .before .before .before .args .words .now) (c .before .before .scope-in .result) (c .before .before .before .before .before .if1 .left) (c .before .before .before .if2 .left) (c .before .before .scope-in .ensures)
 

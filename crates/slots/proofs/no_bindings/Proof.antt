@@ -8,15 +8,12 @@ use borrow.Author.Needs.{needs}
 use Rattle.slots.proofs.no_bindings.Statement.{statement}
 use Rattle.slots.proofs.no_bindings.Tie as tie
 
--- src/lib.rt:84:28
 empty-requires : tie.Need-empty-requires
 empty-requires c κs = search needs
 
--- src/lib.rt:84:16
 with-requires : tie.Need-with-requires
 with-requires c κs = search needs
 
--- src/lib.rt:80:1
 returns : tie.Need-returns
 unfolding noBindings
 returns c = ap (λ (s : Scope). record { scope = s; cells = 0; bytes = 0 }) (c .with .ensures ∙ ap (λ (s : Scope). stored s 0 Value.OptionalNone) (c .before .empty .ensures))

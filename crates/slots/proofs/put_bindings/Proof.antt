@@ -11,15 +11,12 @@ use Rattle.slots.proofs.put_bindings.Reads as reads
 use Rattle.slots.proofs.put_bindings.Lts as lts
 use Rattle.slots.proofs.put_scope.Reads as put-scope-reads
 
--- src/lib.rt:125:9
 returns : tie.Need-returns
 returns c = no-state-written (c .before .before .args .words .now) (c .before .before .args .bindings) (c .if1 .taken)
 
--- src/lib.rt:128:5
 put-scope-requires : tie.Need-put-scope-requires
 put-scope-requires c κs = search needs
 
--- src/lib.rt:129:5
 slice-write-words : tie.Need-slice-write-words
 slice-write-words c = search needs
 
@@ -32,19 +29,15 @@ lent c = c .before .before .before .before .before .if1 .left
 long : (c : lts.After-slice-known2 (put-scope-reads.Asked, put-scope-reads.Learnt) reads.Pre reads.Post) → length (c .before .before .put-scope .last .0) ≡ 259
 long c = slots-long (c .before .before .before .before .before .before .before .args .bindings .scope .slots) (c .before .before .before .before .before .before .before .args .words .now) (c .before .before .put-scope .last .0) (whole c) (lent c) (c .before .before .put-scope .ensures)
 
--- src/lib.rt:130:5
 slice-write-words-2 : tie.Need-slice-write-words-2
 slice-write-words-2 c = simp length-set (omega (arith, long c))
 
--- src/lib.rt:131:5
 slice-write-words-3 : tie.Need-slice-write-words-3
 slice-write-words-3 c = simp length-set (omega (arith, long c))
 
--- src/lib.rt:121:1
 same-length : tie.Need-same-length
 same-length c = search needs
 
--- src/lib.rt:121:1
 returns-2 : tie.Need-returns-2
 returns-2 c = state-written (c .before .before .before .before .before .before .before .args .words .now) (c .before .before .put-scope .last .0) (c .before .before .before .before .before .before .before .args .bindings) (whole c) (lent c) (c .before .before .put-scope .ensures)
 

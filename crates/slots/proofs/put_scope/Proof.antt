@@ -15,42 +15,33 @@ Inv-loop words₀ scope at₀ words at = (length words ≡ length words₀) × (
 abbrev μ-loop : tie.MeasureT-loop
 μ-loop words₀ scope at₀ words at = 128 - at
 
--- src/lib.rt:112:5
 loop-holds : tie.Need-loop-holds Inv-loop μ-loop
 loop-holds c = (refl, over-none (c .before .args .t2 .slots) (c .before .args .words .now), omega arith)
 
--- src/lib.rt:113:20
 mul-slot : tie.Need-mul-slot Inv-loop μ-loop
 mul-slot c = search needs
 
--- src/lib.rt:113:20
 element-copy-out-slot : tie.Need-element-copy-out-slot Inv-loop μ-loop
 element-copy-out-slot c = search needs
 
--- src/lib.rt:115:9
 write-cell-requires : tie.Need-write-cell-requires Inv-loop μ-loop
 write-cell-requires c κs = search needs
 
--- src/lib.rt:116:9
 add-at : tie.Need-add-at Inv-loop μ-loop
 add-at c = search needs
 
--- src/lib.rt:112:5
 loop-less : tie.Need-loop-less Inv-loop μ-loop
 loop-less c = search needs
 
--- src/lib.rt:112:5
 loop-again : tie.Need-loop-again Inv-loop μ-loop
 loop-again c = (again .0, again .1, omega arith)
   where
     again : (length (c .before .before .write-cell .last .0) ≡ length (c .before .before .before .before .before .before .before .before .args .words .now)) × (c .before .before .write-cell .last .0 ≡ slotsOver (c .before .before .before .before .before .before .before .before .args .t2 .slots) (c .before .before .before .before .before .before .before .before .args .words .now) (c .before .before .before .before .before .before .loop .at + 1))
     again = over-on (c .before .before .before .before .before .before .before .before .args .t2 .slots) (c .before .before .before .before .before .before .before .before .args .words .now) (c .before .before .before .before .before .before .loop .words) (c .before .before .write-cell .last .0) (c .before .before .before .before .before .before .loop .at) _ (mapped-length (c .before .before .before .before .before .before .before .before .args .t2 .slots) _ 128 (c .before .before .before .before .before .before .before .before .good .1 .0 .1 .1 .0 .1 .0 .1)) (c .before .before .before .before .before .before .before .before .pre) (c .before .before .before .before .before .loop-test .taken) (c .before .before .before .before .before .before .loop .inv .0) (c .before .before .before .before .before .before .loop .inv .1) (c .before .before .write-cell .ensures)
 
--- src/lib.rt:107:1
 same-length : tie.Need-same-length Inv-loop μ-loop
 same-length c = c .before .loop .inv .0
 
--- src/lib.rt:107:1
 returns : tie.Need-returns Inv-loop μ-loop
 returns c = c .before .loop .inv .1 ∙ over-all (c .before .before .before .args .t2 .slots) (c .before .before .before .args .words .now) (c .before .loop .at) (mapped-length (c .before .before .before .args .t2 .slots) _ 128 (c .before .before .before .good .1 .0 .1 .1 .0 .1 .0 .1)) (omega arith)
 

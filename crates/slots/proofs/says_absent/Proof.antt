@@ -5,43 +5,33 @@ use borrow.Author.Needs.{needs}
 use Rattle.slots.proofs.says_absent.Statement.{statement}
 use Rattle.slots.proofs.says_absent.Tie as tie
 
--- src/lib.rt:36:18
 mul-if2 : tie.Need-mul-if2
 mul-if2 c = search needs
 
--- src/lib.rt:36:12
 mul-if2-2 : tie.Need-mul-if2-2
 mul-if2-2 c = search needs
 
--- src/lib.rt:36:12
 shared-slice-read-if2 : tie.Need-shared-slice-read-if2
 shared-slice-read-if2 c = search needs
 
--- src/lib.rt:37:26
 mul-result : tie.Need-mul-result
 mul-result c = search needs
 
--- src/lib.rt:37:26
 add-result : tie.Need-add-result
 add-result c = search needs
 
--- src/lib.rt:37:20
 mul-result-2 : tie.Need-mul-result-2
 mul-result-2 c = search needs
 
--- src/lib.rt:37:20
 shared-slice-read-result : tie.Need-shared-slice-read-result
 shared-slice-read-result c = search needs
 
--- src/lib.rt:37:13
 returns : tie.Need-returns
 returns c = says-two (c .before .before .before .before .args .words .now) (c .before .before .before .before .args .name) (c .before .before .before .if1 .taken) (c .before .if2 .taken)
 
--- src/lib.rt:32:1
 returns-2 : tie.Need-returns-2
 returns-2 c = says-other (c .before .before .before .args .words .now) (c .before .before .before .args .name) (c .before .before .if1 .taken) (c .if2 .left)
 
--- src/lib.rt:32:1
 returns-3 : tie.Need-returns-3
 returns-3 c = says-none (c .before .args .words .now) (c .before .args .name) (omega arith)
 

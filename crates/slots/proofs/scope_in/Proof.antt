@@ -16,43 +16,33 @@ Inv-loop words scope₀ at₀ left₀ scope at left = (at + left ≡ 128) × (sc
 abbrev μ-loop : tie.MeasureT-loop
 μ-loop words scope₀ at₀ left₀ scope at left = left
 
--- src/lib.rt:63:21
 empty-requires : tie.Need-empty-requires Inv-loop μ-loop
 empty-requires c κs = search needs
 
--- src/lib.rt:66:5
 loop-holds : tie.Need-loop-holds Inv-loop μ-loop
 loop-holds c = (refl, slots-none (c .before .before .args .words .now) (c .empty .result .slots) (ap (λ (s : Scope). s .slots) (c .empty .ensures)))
 
--- src/lib.rt:67:13
 says-absent-requires : tie.Need-says-absent-requires Inv-loop μ-loop
 says-absent-requires c κs = search needs
 
--- src/lib.rt:69:24
 slot-in-requires : tie.Need-slot-in-requires Inv-loop μ-loop
 slot-in-requires c κs = search needs
 
--- src/lib.rt:71:13
 mul-slot : tie.Need-mul-slot Inv-loop μ-loop
 mul-slot c = search needs
 
--- src/lib.rt:71:13
 element-set-from-slot : tie.Need-element-set-from-slot Inv-loop μ-loop
 element-set-from-slot c = search needs
 
--- src/lib.rt:73:9
 add-at : tie.Need-add-at Inv-loop μ-loop
 add-at c = search needs
 
--- src/lib.rt:74:9
 sub-left : tie.Need-sub-left Inv-loop μ-loop
 sub-left c = search needs
 
--- src/lib.rt:66:5
 loop-less : tie.Need-loop-less Inv-loop μ-loop
 loop-less c = search needs
 
--- src/lib.rt:66:5
 loop-again : tie.Need-loop-again Inv-loop μ-loop
 loop-again c = (
   omega arith,
@@ -62,7 +52,6 @@ loop-again c = (
       (c .if1 .came),
 )
 
--- src/lib.rt:60:1
 returns : tie.Need-returns Inv-loop μ-loop
 returns c = slots-all (c .before .before .before .before .args .words .now) (c .before .loop .scope) (c .before .loop .at) (c .before .loop .left) (c .loop-test .left) (c .before .loop .inv .0) (c .before .loop .inv .1)
 

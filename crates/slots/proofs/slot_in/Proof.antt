@@ -5,27 +5,21 @@ use borrow.Author.Needs.{needs}
 use Rattle.slots.proofs.slot_in.Statement.{statement}
 use Rattle.slots.proofs.slot_in.Tie as tie
 
--- src/lib.rt:48:8
 says-absent-requires : tie.Need-says-absent-requires
 says-absent-requires c κs = search needs
 
--- src/lib.rt:49:9
 returns : tie.Need-returns
 returns c = slot-absent (c .before .before .before .args .words .now) (c .before .before .before .args .name) (sym (c .before .says-absent .ensures) ∙ c .if1 .taken)
 
--- src/lib.rt:51:9
 read-cell-requires : tie.Need-read-cell-requires
 read-cell-requires c κs = search needs
 
--- src/lib.rt:52:8
 is-absent-requires : tie.Need-is-absent-requires
 is-absent-requires c κs = search needs
 
--- src/lib.rt:45:1
 returns-2 : tie.Need-returns-2
 returns-2 c = slot-wrong (c .before .before .before .before .before .before .args .words .now) (c .before .before .before .before .before .before .args .name) (c .before .before .read-cell .result) (c .before .before .read-cell .ensures) (sym (c .before .is-absent .ensures) ∙ c .if2 .taken) (sym (c .before .before .before .before .says-absent .ensures) ∙ c .before .before .before .if1 .left)
 
--- src/lib.rt:45:1
 returns-3 : tie.Need-returns-3
 returns-3 c = slot-value (c .before .before .before .before .before .before .args .words .now) (c .before .before .before .before .before .before .args .name) (c .before .before .read-cell .result) (c .before .before .read-cell .ensures) (sym (c .before .is-absent .ensures) ∙ c .if2 .left)
 

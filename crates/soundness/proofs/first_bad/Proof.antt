@@ -15,43 +15,33 @@ Inv-loop cells text used bytes at₀ left₀ at left = (at + left ≡ used) × (
 abbrev μ-loop : tie.MeasureT-loop
 μ-loop cells text used bytes at₀ left₀ at left = left
 
--- src/lib.rt:39:5
 loop-holds : tie.Need-loop-holds Inv-loop μ-loop
 loop-holds c = (omega arith, refl)
 
--- src/lib.rt:40:13
 read-cell-requires : tie.Need-read-cell-requires Inv-loop μ-loop
 read-cell-requires c κs = search needs
 
--- src/lib.rt:41:58
 add-value-fits : tie.Need-add-value-fits Inv-loop μ-loop
 add-value-fits c = omega (arith, c .before .before .before .before .before .fits .used .fits)
 
--- src/lib.rt:41:13
 value-fits-requires : tie.Need-value-fits-requires Inv-loop μ-loop
 value-fits-requires c κs = search needs
 
--- src/lib.rt:42:13
 returns : tie.Need-returns Inv-loop μ-loop
 returns c = bad-here (c .before .before .before .before .before .before .before .args .cells .now) (c .before .before .before .before .before .before .before .args .text .now) (c .before .before .before .before .before .before .before .args .used) (c .before .before .before .before .before .before .before .args .bytes) (c .before .before .before .before .loop .at) (c .before .before .before .before .loop .left) (c .before .before .read-cell .result) (c .before .before .before .loop-test .taken) (c .before .before .read-cell .ensures) (sym (c .before .value-fits .ensures) ∙ not-true (c .before .value-fits .result) (c .if1 .taken)) ∙ c .before .before .before .before .loop .inv .1
 
--- src/lib.rt:44:9
 add-at : tie.Need-add-at Inv-loop μ-loop
 add-at c = omega (arith, c .before .before .before .before .before .before .before .fits .used .fits)
 
--- src/lib.rt:45:9
 sub-left : tie.Need-sub-left Inv-loop μ-loop
 sub-left c = search needs
 
--- src/lib.rt:39:5
 loop-less : tie.Need-loop-less Inv-loop μ-loop
 loop-less c = omega arith
 
--- src/lib.rt:39:5
 loop-again : tie.Need-loop-again Inv-loop μ-loop
 loop-again c = (omega arith, bad-on (c .before .before .before .before .before .before .before .args .cells .now) (c .before .before .before .before .before .before .before .args .text .now) (c .before .before .before .before .before .before .before .args .used) (c .before .before .before .before .before .before .before .args .bytes) (c .before .before .before .before .loop .at) (c .before .before .before .before .loop .left) (c .before .before .read-cell .result) (c .before .before .before .loop-test .taken) (c .before .before .read-cell .ensures) (sym (c .before .value-fits .ensures) ∙ not-false (c .before .value-fits .result) (c .if1 .left)) ∙ c .before .before .before .before .loop .inv .1)
 
--- src/lib.rt:34:1
 returns-2 : tie.Need-returns-2 Inv-loop μ-loop
 returns-2 c = bad-none (c .before .before .before .before .args .cells .now) (c .before .before .before .before .args .text .now) (c .before .before .before .before .args .used) (c .before .before .before .before .args .bytes) (c .before .loop .at) (c .before .loop .left) (c .loop-test .left) ∙ c .before .loop .inv .1
 

@@ -16,43 +16,33 @@ Inv-loop cells text used bytes scope at₀ left₀ at left = (at + left ≡ 128)
 abbrev μ-loop : tie.MeasureT-loop
 μ-loop cells text used bytes scope at₀ left₀ at left = left
 
--- src/lib.rt:55:5
 loop-holds : tie.Need-loop-holds Inv-loop μ-loop
 loop-holds c = (refl, refl)
 
--- src/lib.rt:56:20
 mul-slot : tie.Need-mul-slot Inv-loop μ-loop
 mul-slot c = omega arith
 
--- src/lib.rt:56:20
 element-copy-out-slot : tie.Need-element-copy-out-slot Inv-loop μ-loop
 element-copy-out-slot c = omega arith
 
--- src/lib.rt:58:13
 slot-fits-requires : tie.Need-slot-fits-requires Inv-loop μ-loop
 slot-fits-requires c κs = search needs
 
--- src/lib.rt:59:13
 returns : tie.Need-returns Inv-loop μ-loop
 returns c = slots-wrong (c .before .before .before .before .before .before .before .args .cells .now) (c .before .before .before .before .before .before .before .args .text .now) (c .before .before .before .before .before .before .before .args .used) (c .before .before .before .before .before .before .before .args .bytes) (c .before .before .before .before .before .before .before .args .t5) (c .before .before .before .before .loop .at) (c .before .before .before .before .loop .left) _ (c .before .before .before .loop-test .taken) (read-slot (c .before .before .before .before .before .before .before .args .t5) (c .before .before .before .before .loop .at) _ (mapped-length (c .before .before .before .before .before .before .before .args .t5 .slots) _ 128 (c .before .before .before .before .before .before .before .good .1 .1 .1 .1 .0 .1 .1 .0 .1 .0 .1)) (omega arith)) (sym (c .before .slot-fits .ensures) ∙ not-true (c .before .slot-fits .result) (c .if1 .taken)) ∙ c .before .before .before .before .loop .inv .1
 
--- src/lib.rt:61:9
 add-at : tie.Need-add-at Inv-loop μ-loop
 add-at c = search needs
 
--- src/lib.rt:62:9
 sub-left : tie.Need-sub-left Inv-loop μ-loop
 sub-left c = search needs
 
--- src/lib.rt:55:5
 loop-less : tie.Need-loop-less Inv-loop μ-loop
 loop-less c = omega arith
 
--- src/lib.rt:55:5
 loop-again : tie.Need-loop-again Inv-loop μ-loop
 loop-again c = (omega arith, slots-on (c .before .before .before .before .before .before .before .args .cells .now) (c .before .before .before .before .before .before .before .args .text .now) (c .before .before .before .before .before .before .before .args .used) (c .before .before .before .before .before .before .before .args .bytes) (c .before .before .before .before .before .before .before .args .t5) (c .before .before .before .before .loop .at) (c .before .before .before .before .loop .left) _ (c .before .before .before .loop-test .taken) (read-slot (c .before .before .before .before .before .before .before .args .t5) (c .before .before .before .before .loop .at) _ (mapped-length (c .before .before .before .before .before .before .before .args .t5 .slots) _ 128 (c .before .before .before .before .before .before .before .good .1 .1 .1 .1 .0 .1 .1 .0 .1 .0 .1)) (omega arith)) (sym (c .before .slot-fits .ensures) ∙ not-false (c .before .slot-fits .result) (c .if1 .left)) ∙ c .before .before .before .before .loop .inv .1)
 
--- src/lib.rt:50:1
 returns-2 : tie.Need-returns-2 Inv-loop μ-loop
 returns-2 c = slots-none (c .before .before .before .before .args .cells .now) (c .before .before .before .before .args .text .now) (c .before .before .before .before .args .used) (c .before .before .before .before .args .bytes) (c .before .before .before .before .args .t5) (c .before .loop .at) (c .before .loop .left) (c .loop-test .left) ∙ c .before .loop .inv .1
 

@@ -6,47 +6,36 @@ use borrow.Author.Needs.{needs}
 use Rattle.soundness.proofs.sound.Statement.{statement}
 use Rattle.soundness.proofs.sound.Tie as tie
 
--- src/lib.rt:69:39
 cell-room-requires : tie.Need-cell-room-requires
 cell-room-requires c κs = search needs
 
--- src/lib.rt:69:9
 lesser-requires : tie.Need-lesser-requires
 lesser-requires c κs = search needs
 
--- src/lib.rt:70:40
 text-room-requires : tie.Need-text-room-requires
 text-room-requires c κs = search needs
 
--- src/lib.rt:70:9
 lesser-requires-2 : tie.Need-lesser-requires-2
 lesser-requires-2 c κs = search needs
 
--- src/lib.rt:72:9
 slots-fit-requires : tie.Need-slots-fit-requires
 slots-fit-requires c κs = search needs
 
--- src/lib.rt:73:9
 first-bad-requires : tie.Need-first-bad-requires
 first-bad-requires c κs = search needs
 
--- src/lib.rt:75:9
 returns : tie.Need-returns
 returns c = room-bad (c .before .before .before .before .before .before .before .before .before .before .args .cells .now) (c .before .before .before .before .before .before .before .before .before .before .args .text .now) (c .before .before .before .before .before .before .before .before .before .before .args .bindings) (c .before .before .before .before .before .before .lesser .result) (c .before .before .before .before .lesser2 .result) (c .before .first-bad .result) (c .before .before .before .before .before .before .lesser .ensures ∙ ap (λ n. min (c .before .before .before .before .before .before .before .before .before .before .args .bindings .cells) n) (c .before .before .before .before .before .before .before .cell-room .ensures)) (c .before .before .before .before .lesser2 .ensures ∙ ap (λ n. min (c .before .before .before .before .before .before .before .before .before .before .args .bindings .bytes) n) (c .before .before .before .before .before .text-room .ensures)) (c .before .first-bad .ensures) (c .if1 .taken)
 
--- src/lib.rt:78:9
 returns-2 : tie.Need-returns-2
 returns-2 c = room-cells (c .before .before .before .before .before .before .before .before .before .before .before .before .args .cells .now) (c .before .before .before .before .before .before .before .before .before .before .before .before .args .text .now) (c .before .before .before .before .before .before .before .before .before .before .before .before .args .bindings) (c .before .before .before .before .before .before .before .before .lesser .result) (c .before .before .before .before .before .before .lesser2 .result) (c .before .before .before .first-bad .result) (c .before .before .before .before .before .before .before .before .lesser .ensures ∙ ap (λ n. min (c .before .before .before .before .before .before .before .before .before .before .before .before .args .bindings .cells) n) (c .before .before .before .before .before .before .before .before .before .cell-room .ensures)) (c .before .before .before .before .before .before .lesser2 .ensures ∙ ap (λ n. min (c .before .before .before .before .before .before .before .before .before .before .before .before .args .bindings .bytes) n) (c .before .before .before .before .before .before .before .text-room .ensures)) (c .before .before .before .first-bad .ensures) (c .before .before .if1 .left) (c .if2 .taken)
 
--- src/lib.rt:81:9
 returns-3 : tie.Need-returns-3
 returns-3 c = room-bytes (c .before .before .before .before .before .before .before .before .before .before .before .before .before .before .args .cells .now) (c .before .before .before .before .before .before .before .before .before .before .before .before .before .before .args .text .now) (c .before .before .before .before .before .before .before .before .before .before .before .before .before .before .args .bindings) (c .before .before .before .before .before .before .before .before .before .before .lesser .result) (c .before .before .before .before .before .before .before .before .lesser2 .result) (c .before .before .before .before .before .first-bad .result) (c .before .before .before .before .before .before .before .before .before .before .lesser .ensures ∙ ap (λ n. min (c .before .before .before .before .before .before .before .before .before .before .before .before .before .before .args .bindings .cells) n) (c .before .before .before .before .before .before .before .before .before .before .before .cell-room .ensures)) (c .before .before .before .before .before .before .before .before .lesser2 .ensures ∙ ap (λ n. min (c .before .before .before .before .before .before .before .before .before .before .before .before .before .before .args .bindings .bytes) n) (c .before .before .before .before .before .before .before .before .before .text-room .ensures)) (c .before .before .before .before .before .first-bad .ensures) (c .before .before .before .before .if1 .left) (c .before .before .if2 .left) (c .if3 .taken)
 
--- src/lib.rt:66:1
 returns-4 : tie.Need-returns-4
 returns-4 c = room-slots (c .before .before .before .before .before .before .before .before .before .before .before .before .before .before .before .args .cells .now) (c .before .before .before .before .before .before .before .before .before .before .before .before .before .before .before .args .text .now) (c .before .before .before .before .before .before .before .before .before .before .before .before .before .before .before .args .bindings) (c .before .before .before .before .before .before .before .before .before .before .before .lesser .result) (c .before .before .before .before .before .before .before .before .before .lesser2 .result) (c .before .before .before .before .before .before .first-bad .result) (c .before .before .before .before .before .before .before .before .before .before .before .lesser .ensures ∙ ap (λ n. min (c .before .before .before .before .before .before .before .before .before .before .before .before .before .before .before .args .bindings .cells) n) (c .before .before .before .before .before .before .before .before .before .before .before .before .cell-room .ensures)) (c .before .before .before .before .before .before .before .before .before .lesser2 .ensures ∙ ap (λ n. min (c .before .before .before .before .before .before .before .before .before .before .before .before .before .before .before .args .bindings .bytes) n) (c .before .before .before .before .before .before .before .before .before .before .text-room .ensures)) (c .before .before .before .before .before .before .first-bad .ensures) (c .before .before .before .before .before .if1 .left) (c .before .before .before .if2 .left) (c .before .if3 .left) (rw (← c .before .before .before .before .before .before .before .slots-fit .ensures, c .if4 .taken))
 
--- src/lib.rt:66:1
 returns-5 : tie.Need-returns-5
 returns-5 c = room-slots (c .before .before .before .before .before .before .before .before .before .before .before .before .before .before .before .args .cells .now) (c .before .before .before .before .before .before .before .before .before .before .before .before .before .before .before .args .text .now) (c .before .before .before .before .before .before .before .before .before .before .before .before .before .before .before .args .bindings) (c .before .before .before .before .before .before .before .before .before .before .before .lesser .result) (c .before .before .before .before .before .before .before .before .before .lesser2 .result) (c .before .before .before .before .before .before .first-bad .result) (c .before .before .before .before .before .before .before .before .before .before .before .lesser .ensures ∙ ap (λ n. min (c .before .before .before .before .before .before .before .before .before .before .before .before .before .before .before .args .bindings .cells) n) (c .before .before .before .before .before .before .before .before .before .before .before .before .cell-room .ensures)) (c .before .before .before .before .before .before .before .before .before .lesser2 .ensures ∙ ap (λ n. min (c .before .before .before .before .before .before .before .before .before .before .before .before .before .before .before .args .bindings .bytes) n) (c .before .before .before .before .before .before .before .before .before .before .text-room .ensures)) (c .before .before .before .before .before .before .first-bad .ensures) (c .before .before .before .before .before .if1 .left) (c .before .before .before .if2 .left) (c .before .if3 .left) (rw (← c .before .before .before .before .before .before .before .slots-fit .ensures, c .if4 .left))
 

@@ -6,58 +6,45 @@ use borrow.Author.Needs.{needs}
 use Rattle.stowing.proofs.bring_in.Statement.{statement}
 use Rattle.stowing.proofs.bring_in.Tie as tie
 
--- src/lib.rt:18:9
 bindings-in-requires : tie.Need-bindings-in-requires
 bindings-in-requires c κs = search needs
 
--- src/lib.rt:19:9
 bring-in-requires : tie.Need-bring-in-requires
 bring-in-requires c κs = search needs
 
--- src/lib.rt:23:17
 enum-told : tie.Need-enum-told
 enum-told c = search needs
 
--- src/lib.rt:24:13
 put-bindings-requires : tie.Need-put-bindings-requires
 put-bindings-requires c κs = search needs
 
--- src/lib.rt:27:25
 enum-known-said : tie.Need-enum-known-said
 enum-known-said c = search needs
 
--- src/lib.rt:8:1
 same-length : tie.Need-same-length
 same-length c = search needs
 
--- src/lib.rt:8:1
 same-length-2 : tie.Need-same-length-2
 same-length-2 c = search needs
 
--- src/lib.rt:8:1
 same-length-3 : tie.Need-same-length-3
 same-length-3 c = search needs
 
--- src/lib.rt:8:1
 returns : tie.Need-returns
 returns c =
     let given = c .before .before .before .before .before .before .before .before .before .before .before .before .before .before .before .before .before .before .before .before .before .args in
     stows-so (bindingRoom (given .state .now) (given .cells .now) (given .text .now)) (given .name) (given .table .now) (given .literal .now) (c .before .before .before .before .before .before .before .before .before .before .before .before .before .before .bindings-in .result) (c .before .before .before .before .before .before .before .before .before .before .before .bring-in .result) (c .before .before .before .before .before .before .before .before .before .before .before .bring-in .last .0) (c .before .before .before .before .before .before .before .before .before .before .before .bring-in .last .1 .0)
     (c .before .before .put-bindings .last .0) _ (c .before .before .before .before .before .before .before .before .before .before .before .before .before .before .bindings-in .ensures) (c .before .before .before .before .before .before .before .before .before .before .before .bring-in .ensures) (c .before .before .before .before .before .enum-told .given .1) (c .before .before .put-bindings .ensures)
 
--- src/lib.rt:8:1
 same-length-4 : tie.Need-same-length-4
 same-length-4 c = search needs
 
--- src/lib.rt:8:1
 same-length-5 : tie.Need-same-length-5
 same-length-5 c = search needs
 
--- src/lib.rt:8:1
 same-length-6 : tie.Need-same-length-6
 same-length-6 c = search needs
 
--- src/lib.rt:8:1
 returns-2 : tie.Need-returns-2
 returns-2 c =
     let given = c .before .before .before .before .before .before .before .before .before .before .before .before .before .before .before .before .before .args in

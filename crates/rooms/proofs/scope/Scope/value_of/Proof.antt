@@ -9,22 +9,18 @@ use Rattle.rooms.proofs.scope.Scope.value_of.Reads as reads
 use Rattle.rooms.proofs.scope.Scope.value_of.Lts as lts
 use Rattle.rooms.proofs.Scopes.{read-slot, no-slot, mapped-length}
 
--- src/scope.rt:51:24
 mul-slot : tie.Need-mul-slot
 mul-slot c = search needs
 
--- src/scope.rt:51:24
 element-copy-out-slot : tie.Need-element-copy-out-slot
 element-copy-out-slot c = search needs
 
 whole : (c : lts.Else1 reads.Pre reads.Post) → length (c .before .args .t1 .slots) ≡ 128
 whole c = mapped-length (c .before .args .t1 .slots) _ 128 (c .before .good .0 .1 .1 .0 .1 .0 .1)
 
--- src/scope.rt:47:5
 returns : tie.Need-returns
 returns c = read-slot (c .before .before .args .t1) (c .before .before .args .name) _ (mapped-length (c .before .before .args .t1 .slots) _ 128 (c .before .before .good .0 .1 .1 .0 .1 .0 .1)) (omega arith)
 
--- src/scope.rt:47:5
 returns-2 : tie.Need-returns-2
 returns-2 c = sym (no-slot (c .before .args .t1) (c .before .args .name) (whole c) (omega arith))
 

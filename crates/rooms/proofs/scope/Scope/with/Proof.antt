@@ -9,22 +9,18 @@ use Rattle.rooms.proofs.scope.Scope.with.Reads as reads
 use Rattle.rooms.proofs.scope.Scope.with.Lts as lts
 use Rattle.rooms.proofs.Scopes.{none-stored, mapped-length}
 
--- src/scope.rt:41:13
 mul-slot : tie.Need-mul-slot
 mul-slot c = search needs
 
--- src/scope.rt:41:13
 element-set-from-slot : tie.Need-element-set-from-slot
 element-set-from-slot c = search needs
 
--- src/scope.rt:33:5
 returns : tie.Need-returns
 returns c = search needs
 
 whole : (c : lts.Else1 reads.Pre reads.Post) → length (c .before .args .scope .slots) ≡ 128
 whole c = mapped-length (c .before .args .scope .slots) _ 128 (c .before .good .0 .1 .1 .0 .1 .0 .1)
 
--- src/scope.rt:33:5
 returns-2 : tie.Need-returns-2
 returns-2 c = sym (none-stored (c .before .args .scope) (c .before .args .name) (c .before .args .value) (whole c) (omega arith))
 
