@@ -3,6 +3,7 @@
 
     breaks.py ORACLE                    the edits of the evaluator's code, each in a copy of this repository, compiled with no proof (unproved)
     breaks.py ORACLE --model            the same edits of the model in tools/rules, but for one: the model is lent no memory
+    breaks.py stored                    the edits of the model, each on the stored list of `replay`; needs no oracle and no kit
     breaks.py list                      what there is
     breaks.py apply NUMBER FOLDER       makes one edit of the code in the repository at FOLDER
 
@@ -20,7 +21,7 @@ import shutil
 import subprocess
 import sys
 import tempfile
-from itertools import zip_longest
+from itertools import islice, zip_longest
 from pathlib import Path
 from typing import NamedTuple
 
@@ -90,21 +91,36 @@ def tried(number: int, arguments: argparse.Namespace) -> bool:
     return different > 0
 
 
-def stored(number: int) -> bool:
-    """Whether the stored list of `replay` finds the edit of the model."""
+def told_apart(number: int, most: "int | None" = None) -> int:
+    """At which answer of the stored list of `replay`, counted from 1, the edit of the model shows; 0 if at none, or none of so many."""
     folder = HERE.parent / "crates" / "replay"
     with tempfile.TemporaryDirectory() as name, (folder / "stdin").open() as given, (folder / "stdout").open() as wanted:
         run = subprocess.Popen(shlex.split(broken_model(number, Path(name))), stdin=given, stdout=subprocess.PIPE, text=True)
-        found = any(said != want for said, want in zip_longest(run.stdout, wanted))
+        pairs = islice(zip_longest(run.stdout, wanted), most)
+        at = next((at for at, (said, want) in enumerate(pairs, 1) if said != want), 0)
         run.kill()
         run.wait()
-    print(f"{number + 1:2} {'found' if found else 'NOT FOUND'}: {BREAKS[number].says}", flush=True)
-    return found
+    return at
+
+
+def stored() -> None:
+    """The stored list tells every edit of the model apart, and up to there the model as it is answers what is stored."""
+    furthest, numbers = 0, [number for number, one in enumerate(BREAKS) if one.model]
+    for number in numbers:
+        at = told_apart(number)
+        furthest = max(furthest, at)
+        if at == 0:
+            sys.exit(f"{number + 1:2} NOT FOUND in the stored list: {BREAKS[number].says}")
+    if not numbers:
+        sys.exit("nothing was tried")
+    if told_apart(-1, furthest):
+        sys.exit("the model as it is differs from the stored list too, so that no finding tells anything")
+    print(f"{len(numbers)} wrong models, each found by the first {furthest} answers of the stored list")
 
 
 def main() -> None:
     if sys.argv[1:] == ["stored"]:
-        sys.exit(not all([stored(number) for number, one in enumerate(BREAKS) if one.model]))
+        return stored()
     if sys.argv[1:] == ["list"]:
         for number, one in enumerate(BREAKS, 1):
             print(f"{number:2} {one.says}")
