@@ -4,7 +4,7 @@
     numbers    arithmetic, equality and order at the ends of Int, Uint and Double
     random     random well-formed expressions over bound and unbound names
     loops      comprehensions: the macros, their look-alikes, pending errors, random parts
-    edges      limits at, one below and far below the counts of other cases; document 01's own limits
+    edges      limits at the counts of other cases, all one above, each one below and far below; document 01's own limits
     refusals   damaged tables
     bindings   bringing in, refusals in their order, unsound rooms, rules over bound values
     nesting    values that nest about 32

@@ -1,4 +1,4 @@
-"""Limits at, one below and far below the counts of other cases; document 01's own limits."""
+"""Limits at the counts of other cases, all one above, each one below and far below; document 01's own limits."""
 
 from __future__ import annotations
 
