@@ -107,7 +107,7 @@ def answers() -> "list[Numbers]":
 
 
 def refusals() -> "list[Numbers]":
-    code = declared("crates/heads/src/refusals.rt") | declared("crates/admission/src/refusals.rt")
+    code = declared("crates/heads/src/refusals.rt")
     for other in ("NO_FAULT", "LONGEST_TABLE", "RECORD_LEVELS"):
         code.pop(other)
     specs = equations("crates/meaning/specs/Errors.antt", "refusalNumber")
@@ -160,7 +160,7 @@ def most() -> "list[Numbers]":
     rooms = declared("crates/building/src/lib.rt")
     code = {
         "MOST_TABLE_BYTES": table["LONGEST_TABLE"], "MOST_RECORD_NESTING": table["RECORD_LEVELS"],
-        "MOST_VALUE_NESTING": declared("crates/outcomes/src/outcomes.rt")["DEEPEST"],
+        "MOST_VALUE_NESTING": declared("crates/rooms/src/value.rt")["DEEPEST"],
         "NAMES": declared("crates/rooms/src/scope.rt")["NAMES"],
         "MOST_STEPS": declared("crates/answers/src/lib.rt")["MOST_STEPS"],
         "MOST_CELLS": rooms["MOST_CELLS"], "MOST_TEXT_BYTES": rooms["MOST_BYTES"],
@@ -170,15 +170,16 @@ def most() -> "list[Numbers]":
 
 def states() -> "list[Numbers]":
     where = "crates/slots/specs/State.antt"
-    (words, mark, names), = found(r"^isState w = eqb \(length w\) (\d+) && eqb \(getD w (\d+) 0\) (\d+)$", source(where), where)
-    (cells, used), = found(r"record \{ scope = scopeIn w; cells = getD w (\d+) 0; bytes = getD w (\d+) 0 \}", source(where), where)
-    specs = {"STATE_WORDS": int(words), "STATE_CELLS": int(cells), "STATE_BYTES": int(used), "STATE_MARK": int(mark), "NAMES": int(names)}
+    (words, mark, names), = found(r"^isState w = eqb \(length w\) (\w+) && eqb \(getD w (\w+) 0\) (\w+)$", source(where), where)
+    (cells, used), = found(r"record \{ scope = scopeIn w; cells = getD w (\w+) 0; bytes = getD w (\w+) 0 \}", source(where), where)
+    nothing, = found(r"eqb \(getD w \(i \* 2\) 0\) (\w+)", source(where), where)
+    said = named(where) | named("crates/meaning/specs/Limits.antt")
+    meant = {words: "STATE_WORDS", cells: "STATE_CELLS", used: "STATE_BYTES", mark: "STATE_MARK", names: "NAMES", nothing: "NOTHING"}
     called = {
-        "STATE_WORDS": "STATE_WORDS", "CELLS_AT": "STATE_CELLS", "BYTES_AT": "STATE_BYTES", "MARK_AT": "STATE_MARK", "MARK": "NAMES",
+        "STATE_WORDS": "STATE_WORDS", "CELLS_AT": "STATE_CELLS", "BYTES_AT": "STATE_BYTES", "SLOTS_AT": "STATE_MARK", "SLOTS": "NAMES",
         "ABSENT": "NOTHING",
     }
-    code = renamed(declared("crates/slots/src/lib.rt"), called, "slots")
-    return [specs | {"NOTHING": code["NOTHING"]}, code]
+    return [{of: said[word] for word, of in meant.items()}, renamed(declared("crates/slots/src/lib.rt"), called, "slots")]
 
 
 def shapes() -> "list[Numbers]":
