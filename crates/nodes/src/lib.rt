@@ -6,8 +6,9 @@ ghost use Rattle.rooms.specs.Rooms.{rooms};
 ghost use Rattle.accepted.specs.Records.{Sound, exprOf};
 ghost use Rattle.machine.specs.Literals.{fieldValue};
 ghost use Rattle.forms.specs.Records.{shapeOf, NextIn, nextOf};
-use applied::call;
-use applied::select;
+use crate::applied::call;
+use crate::applied::select;
+use crate::unaries::unary;
 use bodies::field_at;
 use following::Fixed;
 use following::Next;
@@ -20,7 +21,9 @@ use outline::end_at;
 use outline::first_operand;
 use rooms::value::TextSpace;
 use rooms::value::Value;
-use unaries::unary;
+
+mod applied;
+mod unaries;
 
 fn field_value(table: &[u8], at: usize) -> Value
     requires { ⌜ at + 8 ≤ length (now table) ⌝ }

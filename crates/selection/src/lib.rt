@@ -1,2 +1,4 @@
-// Select and its test.
+// Select and its test, index, and what both look up.
+pub mod indexing;
+mod lookups;
 pub mod select;

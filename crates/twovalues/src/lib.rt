@@ -6,14 +6,14 @@ ghost use Rattle.outcomes.specs.Seen.{binarySeen};
 use arithmetic::operations::arithmetic;
 use comparison::compare;
 use comparison::equals;
-use indexing::index;
-use indexing::optional_select;
 use logic::logic_right;
 use machine::outcome::Outcome;
 use machine::outcome::Used;
 use membership::is_in;
 use outcomes::operators::Binary;
 use rooms::value::Value;
+use selection::indexing::index;
+use selection::indexing::optional_select;
 
 // Both operands are values, and the operator is none of logic.
 fn values(
