@@ -30,25 +30,19 @@ fn value_of(head: u64, payload: u64) -> Value
     let space = head / SPACE_UNIT % SPACE_UNIT;
     let nesting = head / NESTING_UNIT % SPACE_UNIT;
     let length = head / LENGTH_UNIT;
-    if kind == STRING {
-        return text_value(kind, space, nesting, payload, length);
-    }
-    if kind == BYTES {
-        return text_value(kind, space, nesting, payload, length);
-    }
-    if kind == LIST {
-        return container(kind, space, nesting, payload, length);
-    }
-    if kind == MAP {
-        return container(kind, space, nesting, payload, length);
-    }
-    if kind == OPTIONAL_OF {
-        return container(kind, space, nesting, payload, length);
-    }
-    if kind == head {
-        bare_value(kind, payload)
-    } else {
-        Value::Absent
+    match kind {
+        STRING => text_value(kind, space, nesting, payload, length),
+        BYTES => text_value(kind, space, nesting, payload, length),
+        LIST => container(kind, space, nesting, payload, length),
+        MAP => container(kind, space, nesting, payload, length),
+        OPTIONAL_OF => container(kind, space, nesting, payload, length),
+        _ => {
+            if kind == head {
+                bare_value(kind, payload)
+            } else {
+                Value::Absent
+            }
+        }
     }
 }
 

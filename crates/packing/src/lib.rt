@@ -149,14 +149,13 @@ fn text_place(space: u64, first: u64, length: u64) -> TextPlace
     if WIDEST < length {
         return TextPlace::Nowhere;
     }
-    if space == 0 {
-        TextPlace::At(TextSpace::Literal, first as u16, length as u16)
-    } else if space == 1 {
-        TextPlace::At(TextSpace::Binding, first as u16, length as u16)
-    } else if space == 2 {
-        TextPlace::At(TextSpace::Evaluation, first as u16, length as u16)
-    } else {
-        TextPlace::Nowhere
+    let from = first as u16;
+    let count = length as u16;
+    match space {
+        0 => TextPlace::At(TextSpace::Literal, from, count),
+        1 => TextPlace::At(TextSpace::Binding, from, count),
+        2 => TextPlace::At(TextSpace::Evaluation, from, count),
+        _ => TextPlace::Nowhere,
     }
 }
 
@@ -169,12 +168,12 @@ fn cell_place(space: u64, first: u64, length: u64) -> CellPlace
     if WIDEST < length {
         return CellPlace::Nowhere;
     }
-    if space == 0 {
-        CellPlace::At(CellSpace::Binding, first as u16, length as u16)
-    } else if space == 1 {
-        CellPlace::At(CellSpace::Evaluation, first as u16, length as u16)
-    } else {
-        CellPlace::Nowhere
+    let from = first as u16;
+    let count = length as u16;
+    match space {
+        0 => CellPlace::At(CellSpace::Binding, from, count),
+        1 => CellPlace::At(CellSpace::Evaluation, from, count),
+        _ => CellPlace::Nowhere,
     }
 }
 
@@ -182,34 +181,24 @@ fn cell_place(space: u64, first: u64, length: u64) -> CellPlace
 pub fn bare_value(kind: u64, payload: u64) -> Value
     ensures { λ r. ⌜ r ≡ bareOf kind payload ⌝ }
 {
-    if kind == NULL {
-        if payload == 0 {
-            Value::Null
-        } else {
-            Value::Absent
-        }
-    } else if kind == BOOL {
-        if payload == 0 {
-            Value::Bool(false)
-        } else if payload == 1 {
-            Value::Bool(true)
-        } else {
-            Value::Absent
-        }
-    } else if kind == INT {
-        Value::Int(signed_of(payload))
-    } else if kind == UINT {
-        Value::Uint(payload)
-    } else if kind == DOUBLE {
-        rooms::value::double_value(payload)
-    } else if kind == OPTIONAL_NONE {
-        if payload == 0 {
-            Value::OptionalNone
-        } else {
-            Value::Absent
-        }
-    } else {
-        Value::Absent
+    match kind {
+        NULL => match payload {
+            0 => Value::Null,
+            _ => Value::Absent,
+        },
+        BOOL => match payload {
+            0 => Value::Bool(false),
+            1 => Value::Bool(true),
+            _ => Value::Absent,
+        },
+        INT => Value::Int(signed_of(payload)),
+        UINT => Value::Uint(payload),
+        DOUBLE => rooms::value::double_value(payload),
+        OPTIONAL_NONE => match payload {
+            0 => Value::OptionalNone,
+            _ => Value::Absent,
+        },
+        _ => Value::Absent,
     }
 }
 
@@ -222,10 +211,9 @@ pub fn text_value(kind: u64, space: u64, nesting: u64, first: u64, length: u64) 
     if nesting != 0 {
         return Value::Absent;
     }
-    if kind == STRING {
-        Value::String(home, from, count)
-    } else {
-        Value::Bytes(home, from, count)
+    match kind {
+        STRING => Value::String(home, from, count),
+        _ => Value::Bytes(home, from, count),
     }
 }
 
@@ -238,13 +226,13 @@ pub fn container(kind: u64, space: u64, nesting: u64, first: u64, length: u64) -
     if 255 < nesting {
         return Value::Absent;
     }
-    if kind == LIST {
-        Value::List(nesting as u8, home, from, count)
-    } else if kind == MAP {
-        Value::Map(nesting as u8, home, from, count)
-    } else if count == 0 {
-        Value::OptionalOf(nesting as u8, home, from)
-    } else {
-        Value::Absent
+    let deep = nesting as u8;
+    match kind {
+        LIST => Value::List(deep, home, from, count),
+        MAP => Value::Map(deep, home, from, count),
+        _ => match count {
+            0 => Value::OptionalOf(deep, home, from),
+            _ => Value::Absent,
+        },
     }
 }

@@ -1,5 +1,5 @@
 -- `packing::container` meets its contract. Assumes nothing.
-use borrow.Author.Tests.{eq-eqb, le-ltb, lt-ltb, ne-eqb}
+use borrow.Author.Tests.{le-ltb, lt-ltb, ne-eqb}
 use Rattle.rooms.specs.Cells.{containerOf}
 use borrow.Author.Needs.{needs}
 use Rattle.packing.proofs.container.Statement.{statement}
@@ -22,30 +22,24 @@ returns-2 : tie.Need-returns-2
 unfolding containerOf
 returns-2 c = simp (← c .before .before .before .before .cell-place .ensures, c .before .before .home .given .1, lt-ltb _ _ (c .if1 .taken))
 
-cast-t12 : tie.Need-cast-t12
-cast-t12 c = search needs
-
-cast-t15 : tie.Need-cast-t15
-cast-t15 c = search needs
-
-cast-t18 : tie.Need-cast-t18
-cast-t18 c = search needs
+cast-deep : tie.Need-cast-deep
+cast-deep c = search needs
 
 returns-3 : tie.Need-returns-3
 unfolding containerOf
-returns-3 c = simp (← c .before .before .before .before .before .cell-place .ensures, c .before .before .before .home .given .1, le-ltb _ _ (c .before .if1 .left), eq-eqb _ _ (c .if2 .taken))
+returns-3 c = simp (← c .before .before .before .before .before .cell-place .ensures, c .before .before .before .home .given .1, le-ltb _ _ (c .before .if1 .left), c .match2 .keys1)
 
 returns-4 : tie.Need-returns-4
 unfolding containerOf
-returns-4 c = simp (← c .before .before .before .before .before .before .cell-place .ensures, c .before .before .before .before .home .given .1, le-ltb _ _ (c .before .before .if1 .left), ne-eqb _ _ (c .before .if2 .left), eq-eqb _ _ (c .if3 .taken))
+returns-4 c = simp (← c .before .before .before .before .before .cell-place .ensures, c .before .before .before .home .given .1, le-ltb _ _ (c .before .if1 .left), c .match2 .keys2)
 
 returns-5 : tie.Need-returns-5
 unfolding containerOf
-returns-5 c = simp (← c .before .before .before .before .before .before .before .cell-place .ensures, c .before .before .before .before .before .home .given .1, le-ltb _ _ (c .before .before .before .if1 .left), ne-eqb _ _ (c .before .before .if2 .left), ne-eqb _ _ (c .before .if3 .left), eq-eqb _ _ (c .if4 .taken))
+returns-5 c = simp (← c .before .before .before .before .before .before .cell-place .ensures, c .before .before .before .before .home .given .1, le-ltb _ _ (c .before .before .if1 .left), ne-eqb _ _ (c .before .match2 .rest .0 .1), ne-eqb _ _ (c .before .match2 .rest .1), c .match3 .keys1)
 
 returns-6 : tie.Need-returns-6
 unfolding containerOf
-returns-6 c = simp (← c .before .before .before .before .before .before .before .cell-place .ensures, c .before .before .before .before .before .home .given .1, le-ltb _ _ (c .before .before .before .if1 .left), ne-eqb _ _ (c .before .before .if2 .left), ne-eqb _ _ (c .before .if3 .left), ne-eqb _ _ (c .if4 .left))
+returns-6 c = simp (← c .before .before .before .before .before .before .cell-place .ensures, c .before .before .before .before .home .given .1, le-ltb _ _ (c .before .before .if1 .left), ne-eqb _ _ (c .before .match2 .rest .0 .1), ne-eqb _ _ (c .before .match2 .rest .1), ne-eqb _ _ (c .match3 .rest .1))
 
 pub container-spec : {M : Type 1} → statement M
 container-spec =
@@ -56,9 +50,7 @@ container-spec =
     enum-told
     returns
     returns-2
-    cast-t12
-    cast-t15
-    cast-t18
+    cast-deep
     returns-3
     returns-4
     returns-5

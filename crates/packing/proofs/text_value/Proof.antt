@@ -24,11 +24,11 @@ returns-2 c = simp (← c .before .before .before .before .text-place .ensures, 
 
 returns-3 : tie.Need-returns-3
 unfolding textOf
-returns-3 c = simp (← c .before .before .before .before .before .text-place .ensures, c .before .before .before .home .given .1, eq-eqb _ _ (c .before .if1 .left), eq-eqb _ _ (c .if2 .taken))
+returns-3 c = simp (← c .before .before .before .before .before .text-place .ensures, c .before .before .before .home .given .1, eq-eqb _ _ (c .before .if1 .left), c .match2 .keys1)
 
 returns-4 : tie.Need-returns-4
 unfolding textOf
-returns-4 c = simp (← c .before .before .before .before .before .text-place .ensures, c .before .before .before .home .given .1, eq-eqb _ _ (c .before .if1 .left), ne-eqb _ _ (c .if2 .left))
+returns-4 c = simp (← c .before .before .before .before .before .text-place .ensures, c .before .before .before .home .given .1, eq-eqb _ _ (c .before .if1 .left), ne-eqb _ _ (c .match2 .rest .1))
 
 pub text-value-spec : {M : Type 1} → statement M
 text-value-spec =
