@@ -1,17 +1,16 @@
 // Binds and evaluates by lines from standard input, and writes a line for each `bind` and each `eval`.
 ghost use mathlib.Core.Path.{_≡_};
 ghost use lib.ListN.{length};
-use crate::commands::Bench;
 use crate::commands::answer_line;
-use crate::commands::bad;
+use crate::said::bad;
+use bench::Bench;
 use libc::STDIN_FILENO;
 use lines::LONGEST_LINE;
 use pieces::put_word;
 use spelling::find;
 
 mod commands;
-mod line;
-mod spelled;
+mod said;
 
 // So much is read at once.
 const CHUNK: usize = 65536;

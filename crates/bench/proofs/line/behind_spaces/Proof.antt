@@ -2,8 +2,8 @@
 use borrow.Author.Needs.{needs}
 use Prim.Native.Nat.{_-_, _≤_}
 use lib.ListN.{length}
-use Rattle.replay.proofs.line.behind_spaces.Statement.{statement}
-use Rattle.replay.proofs.line.behind_spaces.Tie as tie
+use Rattle.bench.proofs.line.behind_spaces.Statement.{statement}
+use Rattle.bench.proofs.line.behind_spaces.Tie as tie
 
 abbrev Inv-loop : tie.InvT-loop
 Inv-loop line from at₀ at = from ≤ at
