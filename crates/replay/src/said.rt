@@ -35,7 +35,8 @@ fn say_brought(answer: Answer) {
 
 pub fn tell(done: Done) -> Bench {
     let bench = done.bench;
-    match done.said {
+    let said = done.said;
+    match said {
         Said::Nothing => bench,
         Said::Brought(answer) => {
             say_brought(answer);
