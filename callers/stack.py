@@ -15,7 +15,7 @@ from typing import Iterator, NamedTuple
 HERE = Path(__file__).resolve().parent
 sys.path[:0] = [str(HERE.parent / "tools"), str(HERE.parent / "tools" / "rules")]
 
-from assemble import Node, assemble, comprehension, equals, listing, mapping, name, null, plus, true
+from assemble import Node, assemble, comprehension, conditional, equals, listing, mapping, name, null, plus, true
 from constants import header_numbers, source
 from stack import RECORDS, SHAPES, VALUES, nested
 
@@ -23,10 +23,15 @@ from stack import RECORDS, SHAPES, VALUES, nested
 AMPLE = 8 << 20
 # seconds that a call may take
 PATIENCE = 60
-# an element of the list that the append path adds: three records a level
+# an element of the list that the append path adds, three records a level; and its guard, two
 APPENDED = lambda inner: comprehension(1, 2, listing(true), listing(), true, plus(name(1), listing(inner)), name(1))
+GUARDED = lambda inner: comprehension(1, 2, listing(true), listing(), true, conditional(inner, plus(name(1), listing()), name(1)), name(1))
 # an evaluation goes down to the last record also where the value would nest deeper than values may
-RULES = {**{words: (RECORDS, around) for words, (_, around) in SHAPES.items()}, "append path": (22, APPENDED)}
+RULES = {
+    **{words: (RECORDS, around) for words, (_, around) in SHAPES.items()},
+    "append path": (22, APPENDED),
+    "guard of the append path": (32, GUARDED),
+}
 # the same number of KiB in all of them
 PROMISES = {
     "include/ombravelik.h": r"A call takes up to ([0-9,]+) KiB of the calling thread's stack",
