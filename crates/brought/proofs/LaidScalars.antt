@@ -23,7 +23,7 @@ use Rattle.laws.proofs.MatchingKeys.{not-found}
 use Rattle.rooms.specs.declared.value.Value.{Value}
 use Rattle.rooms.specs.declared.value.TextSpace.the-variants as Text
 use Rattle.rooms.specs.declared.value.CellSpace.the-variants as Cells
-use Rattle.rooms.specs.Value.{doubleValue}
+use Rattle.rooms.specs.Value.{doubleValue, isKey}
 use Rattle.rooms.specs.Cells.{cellIn, settled}
 use Rattle.rooms.specs.Rooms.{Rooms, rooms, cellAt, part}
 use Rattle.rooms.specs.Stands.{Alive, TextAt, StandsScalar, Stands, StandsEntries}
@@ -32,7 +32,7 @@ use Rattle.rooms.proofs.Frame.{part-same}
 use Rattle.comparing.specs.Seen.{sameSeen, seenIn}
 use Rattle.comparing.proofs.SeenMeaning.{scalar-seen}
 use Rattle.mapkeys.specs.Keys as Keys
-use Rattle.mapkeys.specs.Keys.{isKey, repeatedIn, keysFit}
+use Rattle.mapkeys.specs.Keys.{repeatedIn, keysFit}
 use Rattle.references.specs.Fits.{valueFits}
 use Rattle.held.specs.Held.{aliveBelow}
 use Rattle.scalars.specs.Laying.{Room, typed, laidScalar}

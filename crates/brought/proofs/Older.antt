@@ -15,14 +15,14 @@ use Rattle.rooms.specs.declared.value.Value.{Value}
 use Rattle.rooms.specs.declared.value.Value.the-variants as Value
 use Rattle.rooms.specs.declared.value.TextSpace.the-variants as Text
 use Rattle.rooms.specs.declared.value.CellSpace.the-variants as Cells
-use Rattle.rooms.specs.Value.{nestingOf, plainOf}
+use Rattle.rooms.specs.Value.{nestingOf, plainOf, isKey}
 use Rattle.rooms.specs.Cells.{cellIn}
 use Rattle.rooms.specs.Rooms.{cellAt, part}
 use Rattle.rooms.specs.Reading.{Reader, elementsIn, entriesIn, readBy, readTo}
 use Rattle.rooms.proofs.Frame.{part-same}
 use Rattle.comparing.specs.Seen.{seenScalar, seenOf, sameSeen}
 use Rattle.mapkeys.specs.Keys as Keys
-use Rattle.mapkeys.specs.Keys.{isKey, repeatedIn, keysFit}
+use Rattle.mapkeys.specs.Keys.{repeatedIn, keysFit}
 use Rattle.references.specs.Fits.{deepestIn, spanFits, stringFits, rowFits, mapFits, valueFits}
 use Rattle.held.specs.Held.{bindingRooms}
 use Rattle.held.proofs.Goods.{both-true, span-good, string-good, row-good, map-good}

@@ -12,7 +12,7 @@ use Rattle.building.specs.declared.Taken.the-variants as Taken
 use Rattle.comparing.specs.declared.lookup.Found.{Found}
 use Rattle.comparing.specs.declared.lookup.Found.the-variants as Found
 use Rattle.rooms.specs.Rooms.{Rooms, rooms}
-use Rattle.rooms.specs.Value.{nestingOf}
+use Rattle.rooms.specs.Value.{nestingOf, isKey}
 use Rattle.building.specs.Building.{cellRoom, takenOf, cellsTaken}
 use Rattle.comparing.specs.LookUp.{findIn}
 use Rattle.rooms.specs.declared.value.CellSpace.the-variants as Cells
@@ -21,7 +21,6 @@ use Rattle.machine.specs.declared.outcome.Limit.the-variants as Limit
 use Rattle.machine.specs.declared.outcome.Outcome.{Outcome}
 use Rattle.machine.specs.declared.outcome.Outcome.the-variants as Outcome
 use Rattle.machine.specs.Outcomes.{Res, withCells, written, withValue, onTaken, taking}
-use Rattle.machine.specs.Views.{isKey}
 use Rattle.machine.specs.Containers.{Filling, addElement, ifKey, ifNew, addEntry}
 use Rattle.outcomes.proofs.Taking.{cells-within}
 use Rattle.containers.specs.declared.Begun.{Begun}

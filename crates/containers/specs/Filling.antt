@@ -10,7 +10,7 @@ use Rattle.building.specs.declared.Taken.{Taken}
 use Rattle.building.specs.declared.Taken.the-variants as Taken
 use Rattle.comparing.specs.declared.lookup.Found.{Found}
 use Rattle.comparing.specs.declared.lookup.Found.the-variants as Found
-use Rattle.rooms.specs.Value.{nestingOf}
+use Rattle.rooms.specs.Value.{nestingOf, isKey}
 use Rattle.rooms.specs.Cells.{writtenIn}
 use Rattle.rooms.specs.Rooms.{Rooms}
 use Rattle.building.specs.Building.{cellRoom, takenOf, cellsTaken}
@@ -21,7 +21,6 @@ use Rattle.machine.specs.declared.outcome.Limit.the-variants as Limit
 use Rattle.machine.specs.declared.outcome.Outcome.{Outcome}
 use Rattle.machine.specs.declared.outcome.Outcome.the-variants as Outcome
 use Rattle.machine.specs.Outcomes.{Res, withSteps, withCells}
-use Rattle.machine.specs.Views.{isKey}
 use Rattle.machine.specs.Containers as Machine
 use Rattle.containers.specs.declared.Part.{Part}
 use Rattle.containers.specs.declared.Part.the-variants as Part

@@ -8,11 +8,11 @@ use machine::outcome::Error;
 use machine::outcome::Limit;
 use machine::outcome::Outcome;
 use machine::outcome::Used;
-use outcomes::outcomes::is_key;
 use outcomes::outcomes::with_cells;
 use rooms::value::CellSpace;
 use rooms::value::DEEPEST;
 use rooms::value::Value;
+use rooms::value::is_key;
 
 // The cells of a record that begins: the first of them, and how many parts it has.
 pub enum Begun {

@@ -16,12 +16,12 @@ use Rattle.rooms.specs.declared.value.TextSpace.{TextSpace}
 use Rattle.rooms.specs.declared.value.TextSpace.the-variants as Text
 use Rattle.rooms.specs.declared.value.CellSpace.{CellSpace}
 use Rattle.rooms.specs.declared.value.CellSpace.the-variants as Cells
-use Rattle.rooms.specs.Value.{nestingOf}
+use Rattle.rooms.specs.Value.{nestingOf, isKey}
 use Rattle.rooms.specs.Cells.{cellIn}
 use Rattle.rooms.specs.Rooms.{rooms, cellAt, part}
 use Rattle.rooms.specs.Stands.{TextAt, StandsScalar, Stands, StandsCells, StandsEntries}
 use Rattle.rooms.proofs.Depths.{stands-nesting}
-use Rattle.mapkeys.specs.Keys.{isKey, repeatedIn, keysFit}
+use Rattle.mapkeys.specs.Keys.{repeatedIn, keysFit}
 use Rattle.references.specs.Fits.{deepestIn, valueFits}
 use Rattle.held.specs.Held.{aliveBelow}
 use Rattle.held.proofs.Goods.{both-true, Span, span-good, string-good, row-good, map-good}

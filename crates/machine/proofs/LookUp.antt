@@ -25,7 +25,7 @@ use Rattle.rooms.specs.declared.value.CellSpace.{CellSpace}
 use Rattle.rooms.specs.declared.value.Parts.the-variants as Parts
 use Rattle.sizes.specs.declared.Position.the-variants as Position
 use Rattle.rooms.specs.declared.scope.Scope.{Scope}
-use Rattle.rooms.specs.Value.{partsOf, doubleValue}
+use Rattle.rooms.specs.Value.{partsOf, doubleValue, isKey}
 use Rattle.rooms.specs.Rooms.{Rooms, cellAt}
 use Rattle.rooms.specs.Stands.{Alive, StandsScalar, Stands, StandsCells, StandsEntries, Holds}
 use Rattle.comparing.specs.LookUp.{findIn}
@@ -36,7 +36,6 @@ use Rattle.machine.specs.declared.outcome.Outcome.{Outcome}
 use Rattle.machine.specs.declared.outcome.Outcome.the-variants as Outcome
 use Rattle.machine.specs.declared.outcome.Error.the-variants as Error
 use Rattle.machine.specs.Outcomes.{truthOut, noOverload}
-use Rattle.machine.specs.Views.{isKey}
 use Rattle.machine.specs.Comparison.{onFound}
 use Rattle.machine.specs.Selection.{elementOut, entryOut, lookUpIn, lookUp, inParts, optionally, tells}
 use Rattle.machine.specs.Refines.{usedOf, Start}

@@ -25,7 +25,7 @@ use Rattle.rooms.specs.declared.value.CellSpace.the-variants as Cells
 use Rattle.comparing.specs.declared.lookup.Found.{Found}
 use Rattle.comparing.specs.declared.lookup.Found.the-variants as Found
 use Rattle.rooms.specs.declared.scope.Scope.{Scope}
-use Rattle.rooms.specs.Value.{nestingOf}
+use Rattle.rooms.specs.Value.{nestingOf, isKey}
 use Rattle.rooms.specs.Rooms.{Rooms, cellAt}
 use Rattle.rooms.specs.Stands.{Alive, Stands, StandsCells, StandsEntries, Holds}
 use Rattle.comparing.specs.LookUp.{findIn}
@@ -39,7 +39,7 @@ use Rattle.machine.specs.declared.outcome.Used.{Used}
 use Rattle.machine.specs.declared.outcome.Error.the-variants as Error
 use Rattle.machine.specs.declared.outcome.Outcome.the-variants as Outcome
 use Rattle.machine.specs.Outcomes.{Res, Does, written, withValue, taking}
-use Rattle.machine.specs.Views.{isKey, partIn, unmarkedIn, optionalIn}
+use Rattle.machine.specs.Views.{partIn, unmarkedIn, optionalIn}
 use Rattle.machine.specs.Containers as Machine
 use Rattle.machine.specs.Containers.{ifKey, ifNew, mapDone}
 use Rattle.laws.specs.Charges.{countsOf}

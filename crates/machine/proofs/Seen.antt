@@ -12,10 +12,10 @@ use Rattle.meaning.specs.Value.{null, bool, int, uint, double, string, bytes, s
 use Rattle.meaning.specs.Maps.{probeOf, probeIn}
 use Rattle.rooms.specs.declared.value.Value.{Value}
 use Rattle.rooms.specs.declared.value.Value.the-variants as Value
-use Rattle.rooms.specs.Value.{doubleValue}
+use Rattle.rooms.specs.Value.{doubleValue, isKey}
 use Rattle.rooms.specs.Rooms.{Rooms}
 use Rattle.rooms.specs.Stands.{Alive, StandsScalar, Stands, Holds}
-use Rattle.machine.specs.Views.{boolIn, isKey, isString, notOptional, optionalIn}
+use Rattle.machine.specs.Views.{boolIn, isString, notOptional, optionalIn}
 
 -- ---- Bools
 

@@ -9,7 +9,7 @@ use Rattle.rooms.specs.declared.value.CellSpace.the-variants as Cells
 use Rattle.comparing.specs.declared.lookup.Found.{Found}
 use Rattle.comparing.specs.declared.lookup.Found.the-variants as Found
 use Rattle.rooms.specs.declared.scope.Scope.{Scope}
-use Rattle.rooms.specs.Value.{nestingOf}
+use Rattle.rooms.specs.Value.{nestingOf, isKey}
 use Rattle.rooms.specs.Rooms.{Rooms}
 use Rattle.comparing.specs.LookUp.{findIn}
 use Rattle.machine.specs.declared.outcome.Used.{Used}
@@ -17,7 +17,7 @@ use Rattle.machine.specs.declared.outcome.Error.the-variants as Error
 use Rattle.machine.specs.declared.outcome.Limit.the-variants as Limit
 use Rattle.machine.specs.declared.outcome.Outcome.the-variants as Outcome
 use Rattle.machine.specs.Outcomes.{Res, Does, withSteps, written, withValue, whole}
-use Rattle.machine.specs.Views.{isKey, partIn}
+use Rattle.machine.specs.Views.{partIn}
 
 -- what is left to do, from the parts stored
 abbrev pub Filling : Type 0

@@ -8,7 +8,7 @@ use Rattle.rooms.specs.declared.value.Parts.{Parts}
 use Rattle.rooms.specs.declared.value.Parts.the-variants as Parts
 use Rattle.sizes.specs.declared.Position.{Position}
 use Rattle.sizes.specs.declared.Position.the-variants as Position
-use Rattle.rooms.specs.Value.{partsOf}
+use Rattle.rooms.specs.Value.{partsOf, isKey}
 use Rattle.rooms.specs.Rooms.{Rooms, cellAt}
 use Rattle.comparing.specs.LookUp.{findIn}
 use Rattle.equality.specs.Equality.{amongIn}
@@ -18,7 +18,7 @@ use Rattle.machine.specs.declared.outcome.Error.the-variants as Error
 use Rattle.machine.specs.declared.outcome.Outcome.{Outcome}
 use Rattle.machine.specs.declared.outcome.Outcome.the-variants as Outcome
 use Rattle.machine.specs.Outcomes.{Res, truthOut, noOverload, present}
-use Rattle.machine.specs.Views.{isKey, isString, Optional, notOptional, nonePresent, optionalIn}
+use Rattle.machine.specs.Views.{isString, Optional, notOptional, nonePresent, optionalIn}
 use Rattle.machine.specs.Views as Views
 use Rattle.machine.specs.Comparison.{onPairs, onFound}
 

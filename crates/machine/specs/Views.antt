@@ -1,9 +1,7 @@
--- What is seen of a value of the code: a Bool, a key, an Optional. One view for each question.
+-- What is seen of a value of the code: a Bool, a String, an Optional. One view for each question.
 use Prim.Native.Nat.{ℕ}
 use mathlib.Core.Bool.{Bool, true, false}
 use mathlib.Core.Option.{Option, none, some}
-use Rattle.numbers.specs.declared.order.Number.{Number}
-use Rattle.numbers.specs.declared.order.Number.the-variants as Number
 use Rattle.rooms.specs.declared.value.Value.{Value}
 use Rattle.rooms.specs.declared.value.CellSpace.{CellSpace}
 use Rattle.rooms.specs.declared.value.Plain.{Plain}
@@ -26,25 +24,6 @@ plainBool Plain.Other = none
 
 abbrev pub boolIn : Value → Option Bool
 boolIn v = plainBool (plainOf v)
-
--- ---- what may stand as a key, or be looked up in a map
-
-abbrev pub numberKey : Number → Bool
-numberKey (Number.Int z) = true
-numberKey (Number.Uint n) = true
-numberKey (Number.Double d) = false
-
-abbrev pub plainKey : Plain → Bool
-plainKey Plain.Null = false
-plainKey (Plain.Bool b) = true
-plainKey (Plain.Number n) = numberKey n
-plainKey (Plain.String s a n) = true
-plainKey (Plain.Bytes s a n) = false
-plainKey Plain.OptionalNone = false
-plainKey Plain.Other = false
-
-abbrev pub isKey : Value → Bool
-isKey v = plainKey (plainOf v)
 
 -- ---- a String
 

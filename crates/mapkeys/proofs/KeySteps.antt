@@ -5,8 +5,9 @@ use mathlib.Core.List.{List}
 use mathlib.Core.Bool.{true, false, not, _&&_, _||_}
 use native.Mathlib.Omega.{arith}
 use Rattle.rooms.specs.declared.value.Value.{Value}
+use Rattle.rooms.specs.Value.{isKey}
 use Rattle.rooms.specs.Cells.{cellIn}
-use Rattle.mapkeys.specs.Keys.{isKey, match, repeatedIn, keysFit}
+use Rattle.mapkeys.specs.Keys.{match, repeatedIn, keysFit}
 
 two-more : (a : ℕ) → a + 2 ≡ suc (suc a)
 two-more a = omega arith

@@ -1,30 +1,11 @@
 // The keys of a Map where they lie: their kinds, and that no two of them match.
 ghost use mathlib.Core.Path.{_≡_};
 ghost use Prim.Native.Nat.{_+_, _*_, _<_};
-ghost use Rattle.mapkeys.specs.Keys.{isKey, repeatedIn, keysFit};
+ghost use Rattle.mapkeys.specs.Keys.{repeatedIn, keysFit};
 use cells::read_cell;
 use comparing::plain::key_equal;
 use rooms::value::Value;
-
-pub fn is_key(v: Value) -> bool
-    ensures { λ r. ⌜ r ≡ isKey v ⌝ }
-{
-    match v {
-        Value::Null => false,
-        Value::Bool(_) => true,
-        Value::Int(_) => true,
-        Value::Uint(_) => true,
-        Value::Double(_) => false,
-        Value::Nan(_) => false,
-        Value::String(_, _, _) => true,
-        Value::Bytes(_, _, _) => false,
-        Value::List(_, _, _, _) => false,
-        Value::Map(_, _, _, _) => false,
-        Value::OptionalNone => false,
-        Value::OptionalOf(_, _, _) => false,
-        Value::Absent => false,
-    }
-}
+use rooms::value::is_key;
 
 // Whether one of so many keys from a cell on is equal to a key, Int and Uint of one number being equal.
 fn repeated(cells: &[u64], text: &[u8], key: Value, first: usize, count: usize) -> bool

@@ -10,13 +10,13 @@ use comparing::lookup::Found;
 use equality::Pairs;
 use machine::outcome::Outcome;
 use machine::outcome::Used;
-use outcomes::outcomes::is_key;
 use outcomes::outcomes::no_overload;
 use outcomes::outcomes::out_of_steps;
 use outcomes::outcomes::truth_out;
 use outcomes::outcomes::with_steps;
 use rooms::value::Parts;
 use rooms::value::Value;
+use rooms::value::is_key;
 
 fn from_found(found: Found, used: Used) -> Outcome
     ensures { λ r. ⌜ r ≡ onFound found used (λ c u. truthOut true u) (λ u. truthOut false u) ⌝ }

@@ -4,13 +4,12 @@ ghost use Prim.Native.Nat.{_+_, _<_, _^_};
 ghost use Rattle.machine.specs.Outcomes.{stepped, withSteps, withCells, withBytes, truthOut, noOverload};
 ghost use mathlib.Core.Option.{some};
 ghost use Rattle.rooms.specs.Value.{plainOf};
-ghost use Rattle.machine.specs.Views.{boolIn, numberKey, isKey, plainNone, optionalIn};
+ghost use Rattle.machine.specs.Views.{boolIn, plainNone, optionalIn};
 ghost use Rattle.outcomes.specs.Seen.{boolSeen, optionalSeen};
 use machine::outcome::Error;
 use machine::outcome::Limit;
 use machine::outcome::Outcome;
 use machine::outcome::Used;
-use numbers::order::Number;
 use rooms::value::CellSpace;
 use rooms::value::Parts;
 use rooms::value::Plain;
@@ -108,31 +107,6 @@ pub fn truth_of(v: Value) -> Truth
         Plain::Bytes(_, _, _) => Truth::Other,
         Plain::OptionalNone => Truth::Other,
         Plain::Other => Truth::Other,
-    }
-}
-
-fn number_key(n: Number) -> bool
-    ensures { λ r. ⌜ r ≡ numberKey n ⌝ }
-{
-    match n {
-        Number::Int(_) => true,
-        Number::Uint(_) => true,
-        Number::Double(_) => false,
-    }
-}
-
-// Whether a value may be a map's key.
-pub fn is_key(v: Value) -> bool
-    ensures { λ r. ⌜ r ≡ isKey v ⌝ }
-{
-    match plain_of(v) {
-        Plain::Null => false,
-        Plain::Bool(_) => true,
-        Plain::Number(n) => number_key(n),
-        Plain::String(_, _, _) => true,
-        Plain::Bytes(_, _, _) => false,
-        Plain::OptionalNone => false,
-        Plain::Other => false,
     }
 }
 

@@ -12,9 +12,8 @@ use Rattle.layout.specs.Layout.{after}
 use Rattle.accepted.specs.Records.{exprOf, Sound}
 use Rattle.rooms.specs.declared.value.Value.{Value}
 use Rattle.rooms.specs.declared.value.Value.the-variants as Value
-use Rattle.rooms.specs.Value.{plainOf}
+use Rattle.rooms.specs.Value.{plainOf, isKey}
 use Rattle.comparing.specs.Seen.{seenOf, seenScalar, sameSeen}
-use Rattle.mapkeys.specs.Keys.{isKey}
 use Rattle.findings.specs.declared.Fault.{Fault}
 use Rattle.findings.specs.declared.Fault.the-variants.{At, Nowhere}
 use Rattle.scalars.specs.Literals.{literalIn, literalValue, keysFrom, Entries}

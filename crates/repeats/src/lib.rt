@@ -5,9 +5,9 @@ ghost use Rattle.scalars.specs.Literals.{Entries, keysFrom, literalIn};
 ghost use Rattle.findings.specs.Judging.{repeatedIn, keyFault};
 use comparing::plain::key_equal;
 use findings::Fault;
-use mapkeys::is_key;
 use outline::end_at;
 use rooms::value::Value;
+use rooms::value::is_key;
 use scalars::literal_at;
 
 // Whether a key is equal to one of the first so many in a Map whose first key stands at a place.

@@ -1,5 +1,6 @@
 -- What is seen of a value of the code without looking into a room.
 use Prim.Native.Nat.{ℕ}
+use mathlib.Core.Bool.{Bool, true, false}
 use Rattle.numbers.specs.declared.double.Double as Numbers
 use Rattle.numbers.specs.declared.double.Double.the-variants as Bits
 use Rattle.rooms.specs.declared.value.Value.{Value}
@@ -59,3 +60,19 @@ plainOf (Value.Map d s a n) = Plain.Other
 plainOf Value.OptionalNone = Plain.OptionalNone
 plainOf (Value.OptionalOf d s a) = Plain.Other
 plainOf Value.Absent = Plain.Other
+
+-- what may stand as a key, or be looked up in a map
+abbrev pub isKey : Value → Bool
+isKey Value.Null = false
+isKey (Value.Bool b) = true
+isKey (Value.Int z) = true
+isKey (Value.Uint n) = true
+isKey (Value.Double x) = false
+isKey (Value.Nan b) = false
+isKey (Value.String s a n) = true
+isKey (Value.Bytes s a n) = false
+isKey (Value.List d s a n) = false
+isKey (Value.Map d s a n) = false
+isKey Value.OptionalNone = false
+isKey (Value.OptionalOf d s a) = false
+isKey Value.Absent = false

@@ -1,7 +1,7 @@
 // A value as the evaluator has it: a scalar by itself, text and containers by where they lie.
 ghost use mathlib.Core.Path.{_≡_};
 ghost use Prim.Native.Nat.{max};
-ghost use Rattle.rooms.specs.Value.{nestingOf, partsOf, doubleValue, plainOf};
+ghost use Rattle.rooms.specs.Value.{nestingOf, partsOf, doubleValue, plainOf, isKey};
 ghost use Rattle.numbers.specs.Double.{doubleOf};
 use numbers::double::Double;
 use numbers::order::Number;
@@ -119,5 +119,26 @@ pub fn plain_of(value: Value) -> Plain
         Value::Bytes(space, first, length) => Plain::Bytes(space, first, length),
         Value::OptionalNone => Plain::OptionalNone,
         _ => Plain::Other,
+    }
+}
+
+// Whether a value may be a map's key.
+pub fn is_key(value: Value) -> bool
+    ensures { λ r. ⌜ r ≡ isKey value ⌝ }
+{
+    match value {
+        Value::Null => false,
+        Value::Bool(_) => true,
+        Value::Int(_) => true,
+        Value::Uint(_) => true,
+        Value::Double(_) => false,
+        Value::Nan(_) => false,
+        Value::String(_, _, _) => true,
+        Value::Bytes(_, _, _) => false,
+        Value::List(_, _, _, _) => false,
+        Value::Map(_, _, _, _) => false,
+        Value::OptionalNone => false,
+        Value::OptionalOf(_, _, _) => false,
+        Value::Absent => false,
     }
 }

@@ -35,9 +35,8 @@ use Rattle.accepted.proofs.Parts.{sound-kind}
 use Rattle.rooms.specs.declared.value.Value.{Value}
 use Rattle.rooms.specs.declared.value.Value.the-variants as Value
 use Rattle.rooms.specs.declared.value.TextSpace.the-variants as Text
-use Rattle.rooms.specs.Value.{plainOf, doubleValue}
+use Rattle.rooms.specs.Value.{plainOf, doubleValue, isKey}
 use Rattle.comparing.specs.Seen.{seenOf, seenScalar}
-use Rattle.mapkeys.specs.Keys.{isKey}
 use Rattle.references.specs.Fits.{isAbsent}
 use Rattle.building.specs.Building.{pasted}
 use Rattle.scalars.specs.Literals.{literalIn, literalValue, textLength, textFirst, movedTo}

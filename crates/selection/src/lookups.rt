@@ -11,13 +11,13 @@ use comparing::lookup::Found;
 use machine::outcome::Error;
 use machine::outcome::Outcome;
 use machine::outcome::Used;
-use outcomes::outcomes::is_key;
 use outcomes::outcomes::no_overload;
 use outcomes::outcomes::out_of_steps;
 use outcomes::outcomes::with_steps;
 use rooms::value::CellSpace;
 use rooms::value::Parts;
 use rooms::value::Value;
+use rooms::value::is_key;
 use rooms::value::parts_of;
 use sizes::Position;
 

@@ -21,14 +21,14 @@ use Rattle.rooms.specs.declared.value.Value.{Value}
 use Rattle.rooms.specs.declared.value.TextSpace.{TextSpace}
 use Rattle.rooms.specs.declared.value.CellSpace.{CellSpace}
 use Rattle.rooms.specs.declared.value.CellSpace.the-variants as Cells
-use Rattle.rooms.specs.Value.{doubleValue}
+use Rattle.rooms.specs.Value.{doubleValue, isKey}
 use Rattle.rooms.specs.Cells.{Fits, cellIn}
 use Rattle.rooms.specs.Rooms.{Rooms, cellAt, part}
 use Rattle.rooms.specs.Stands.{Alive, TextAt, StandsScalar, Stands, StandsCells, StandsEntries}
 use Rattle.comparing.specs.Seen.{sameSeen, seenIn}
 use Rattle.comparing.proofs.SeenMeaning.{scalar-seen}
 use Rattle.mapkeys.specs.Keys as Keys
-use Rattle.mapkeys.specs.Keys.{isKey, repeatedIn, keysFit}
+use Rattle.mapkeys.specs.Keys.{repeatedIn, keysFit}
 use Rattle.references.specs.Fits.{valueFits}
 use Rattle.held.specs.Held.{bindingRooms, aliveBelow}
 use Rattle.held.proofs.Goods.{both-true, Span, span-good, string-good, row-good, map-good}
