@@ -68,7 +68,8 @@ fn signed_of(word: u64) -> i64
     }
 }
 
-fn text_number(space: TextSpace) -> u64
+// The number of a text space in a cell, and where a value is shown as words.
+pub fn text_number(space: TextSpace) -> u64
     ensures { λ r. ⌜ r ≡ textNumber space ⌝ }
 {
     match space {

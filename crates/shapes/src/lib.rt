@@ -2,7 +2,6 @@
 ghost use mathlib.Core.Path.{_≡_};
 ghost use mathlib.Core.List.{List};
 ghost use Prim.Native.Nat.{ℕ};
-ghost use Rattle.rooms.specs.Cells.{textNumber};
 ghost use Rattle.overlay.specs.Over.{handed};
 ghost use Rattle.reading.specs.Values.{kindOf};
 ghost use Rattle.shapes.specs.Shape.{numberWord, spanWords, shapeOf, partOf};
@@ -11,8 +10,8 @@ use extents::count_of;
 use extents::text_of;
 use overlay::hand;
 use overlay::words_of;
+use packing::text_number;
 use reading::kind_of;
-use rooms::value::TextSpace;
 use rooms::value::Value;
 
 // The kinds up to this one are Null, Bools and numbers.
@@ -28,21 +27,11 @@ fn number_word(value: Value) -> u64
     words[1]
 }
 
-fn space_number(space: TextSpace) -> u64
-    ensures { λ r. ⌜ r ≡ textNumber space ⌝ }
-{
-    match space {
-        TextSpace::Literal => 0,
-        TextSpace::Binding => 1,
-        TextSpace::Evaluation => 2,
-    }
-}
-
 fn span_words(span: Span) -> [u64; 3]
     ensures { λ r. ⌜ r ≡ spanWords span ⌝ }
 {
     match span {
-        Span::At(space, first, length) => [space_number(space), first as u64, length as u64],
+        Span::At(space, first, length) => [text_number(space), first as u64, length as u64],
         Span::NoText => [0, 0, 0],
     }
 }
