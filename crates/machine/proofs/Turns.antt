@@ -106,7 +106,7 @@ module _ (l : Counts) (src : List ℕ) where
     abbrev pub looping : Loop
     looping = record { place = p; accumulator = a; item = i; fold = fold; condition = mt; step = mn; result = mr }
 
-    finish-says : {L : Alive} {u : Counts} {r : Rooms} {s : Code.Scope} {t : Scope} → Start l src L u r s t → (e : Rules.Pending) → Says l src p L u r (Machine.finish looping (pendingOf e) s (usedOf u) r) (finish fr t e)
+    finish-says : {L : Alive} {u : Counts} {r : Rooms} {s : Code.Scope} {t : Scope} → Start l src L u r s t → (e : Rules.Pending) → Says l src p L u r (Machine.finish mr (pendingOf e) s (usedOf u) r) (finish fr t e)
     unfolding finish raisedError
     finish-says {L} {u} {r} {s} {t} st none = operand-says l src p L u r (mr s (usedOf u) r) (fr t) (hr L s t u r st)
     finish-says {L} {u} {r} {s} {t} st (some e) = raises l src st p (byOperand e)
@@ -166,16 +166,16 @@ module _ (l : Counts) (src : List ℕ) where
         unfolding turns loop turn _>>=_ onValue
         turns-ok [] e L s t u r at st h = finish-says st e
         turns-ok (x ∷ xs) e L s t u r at st h =
-            try-bool l src st p mt ft ht (λ y. asks p y (λ w q. Machine.turn looping (cellAt q space at) (pendingOf e) (λ o t′ z d. turns looping space stride (length xs) (at + stride) o t′ z d) s w q) (λ w q. Machine.finish looping (pendingOf e) s w q))
+            try-bool l src st p mt ft ht (λ y. asks p y (λ w q. Machine.turn looping (cellAt q space at) (pendingOf e) (λ o t′ z d. turns looping space stride (length xs) (at + stride) o t′ z d) s w q) (λ w q. Machine.finish mr (pendingOf e) s w q))
             (onValue (choose (after (fn (store t i x)) (afterStep a fold (λ t′ e′. loop meant xs t′ e′) (store t i x) e)) (finish fr t e)))
             (λ M c q b j m y k. chosen (turns-ok xs) M c q b (items-frame L M r q j (x ∷ xs) space stride at h) m y k)
-            (λ M c q b j m k. subst (λ o. Says l src p M c q (branch p (usedOf c) q o (λ w d. Machine.turn looping (cellAt d space at) (pendingOf e) (λ o′ t′ z d′. turns looping space stride (length xs) (at + stride) o′ t′ z d′) s w d) (λ w d. Machine.finish looping (pendingOf e) s w d)) ([], error (byRule (UnexpectedType aBool)))) (sym k) (wanted b))
+            (λ M c q b j m k. subst (λ o. Says l src p M c q (branch p (usedOf c) q o (λ w d. Machine.turn looping (cellAt d space at) (pendingOf e) (λ o′ t′ z d′. turns looping space stride (length xs) (at + stride) o′ t′ z d′) s w d) (λ w d. Machine.finish mr (pendingOf e) s w d)) ([], error (byRule (UnexpectedType aBool)))) (sym k) (wanted b))
             (λ M c q b j y. raises l src b p y)
             (λ y z q. refl)
           where
             wanted : {M : Alive} {c : Counts} {q : Rooms} → Start l src M c q s t → Says l src p M c q (Outcome.Error (errorOf (UnexpectedType aBool)) p (usedOf c), q) ([], error (byRule (UnexpectedType aBool)))
             wanted b = unfold raisedError in raises l src b p (byRule (UnexpectedType aBool))
 
-            chosen : LoopOk xs (λ e′ at′. turns looping space stride (length xs) at′ e′) (λ t′ e′. loop meant xs t′ e′) → (M : Alive) (c : Counts) (q : Rooms) → Start l src M c q s t → ItemsAt (x ∷ xs) M q space stride at → (m : Value) (y : Bool) → boolIn m ≡ some y → Says l src p M c q (branch p (usedOf c) q (boolIn m) (λ w d. Machine.turn looping (cellAt d space at) (pendingOf e) (λ o′ t′ z d′. turns looping space stride (length xs) (at + stride) o′ t′ z d′) s w d) (λ w d. Machine.finish looping (pendingOf e) s w d)) (choose (after (fn (store t i x)) (afterStep a fold (λ t′ e′. loop meant xs t′ e′) (store t i x) e)) (finish fr t e) y)
-            chosen ih M c q b g m true k = subst (λ o. Says l src p M c q (branch p (usedOf c) q o (λ w d. Machine.turn looping (cellAt d space at) (pendingOf e) (λ o′ t′ z d′. turns looping space stride (length xs) (at + stride) o′ t′ z d′) s w d) (λ w d. Machine.finish looping (pendingOf e) s w d)) (choose (after (fn (store t i x)) (afterStep a fold (λ t′ e′. loop meant xs t′ e′) (store t i x) e)) (finish fr t e) true)) (sym k) (unfold choose in turn-ok xs (λ o at′ t′ z d. turns looping space stride (length xs) at′ o t′ z d) (λ t′ e′. loop meant xs t′ e′) ih b e at x g)
-            chosen ih M c q b g m false k = subst (λ o. Says l src p M c q (branch p (usedOf c) q o (λ w d. Machine.turn looping (cellAt d space at) (pendingOf e) (λ o′ t′ z d′. turns looping space stride (length xs) (at + stride) o′ t′ z d′) s w d) (λ w d. Machine.finish looping (pendingOf e) s w d)) (choose (after (fn (store t i x)) (afterStep a fold (λ t′ e′. loop meant xs t′ e′) (store t i x) e)) (finish fr t e) false)) (sym k) (unfold choose in finish-says b e)
+            chosen : LoopOk xs (λ e′ at′. turns looping space stride (length xs) at′ e′) (λ t′ e′. loop meant xs t′ e′) → (M : Alive) (c : Counts) (q : Rooms) → Start l src M c q s t → ItemsAt (x ∷ xs) M q space stride at → (m : Value) (y : Bool) → boolIn m ≡ some y → Says l src p M c q (branch p (usedOf c) q (boolIn m) (λ w d. Machine.turn looping (cellAt d space at) (pendingOf e) (λ o′ t′ z d′. turns looping space stride (length xs) (at + stride) o′ t′ z d′) s w d) (λ w d. Machine.finish mr (pendingOf e) s w d)) (choose (after (fn (store t i x)) (afterStep a fold (λ t′ e′. loop meant xs t′ e′) (store t i x) e)) (finish fr t e) y)
+            chosen ih M c q b g m true k = subst (λ o. Says l src p M c q (branch p (usedOf c) q o (λ w d. Machine.turn looping (cellAt d space at) (pendingOf e) (λ o′ t′ z d′. turns looping space stride (length xs) (at + stride) o′ t′ z d′) s w d) (λ w d. Machine.finish mr (pendingOf e) s w d)) (choose (after (fn (store t i x)) (afterStep a fold (λ t′ e′. loop meant xs t′ e′) (store t i x) e)) (finish fr t e) true)) (sym k) (unfold choose in turn-ok xs (λ o at′ t′ z d. turns looping space stride (length xs) at′ o t′ z d) (λ t′ e′. loop meant xs t′ e′) ih b e at x g)
+            chosen ih M c q b g m false k = subst (λ o. Says l src p M c q (branch p (usedOf c) q o (λ w d. Machine.turn looping (cellAt d space at) (pendingOf e) (λ o′ t′ z d′. turns looping space stride (length xs) (at + stride) o′ t′ z d′) s w d) (λ w d. Machine.finish mr (pendingOf e) s w d)) (choose (after (fn (store t i x)) (afterStep a fold (λ t′ e′. loop meant xs t′ e′) (store t i x) e)) (finish fr t e) false)) (sym k) (unfold choose in finish-says b e)

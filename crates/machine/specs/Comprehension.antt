@@ -67,9 +67,10 @@ asks p x holds fails = withValue (x .0) (x .1) (λ v u r. branch p u r (boolIn v
 
 -- ---- the loop
 
-abbrev pub finish : Loop → Pending → Does
-finish c none s u r = c .result s u r
-finish c (some e) s u r = (Outcome.Error (e .0) (e .1) u, r)
+-- the pending error, or the result
+abbrev pub finish : (result : Does) → Pending → Does
+finish result none s u r = result s u r
+finish result (some e) s u r = (Outcome.Error (e .0) (e .1) u, r)
 
 -- the accumulator is bound, or an error is held
 abbrev pub Binds : Type 0
@@ -109,11 +110,11 @@ turn c v held rest s u r =
 
 -- n items are left, the next of them in cell `at`; its condition sees the item before it
 unfoldable pub turns : Loop → CellSpace → (stride n at : ℕ) → Pending → Does
-turns c space stride zero at held s u r = finish c held s u r
+turns c space stride zero at held s u r = finish (c .result) held s u r
 turns c space stride (suc n) at held s u r =
     asks (c .place) (c .condition s u r)
     (λ w q. turn c (cellAt q space at) held (λ e t z o. turns c space stride n (at + stride) e t z o) s w q)
-    (λ w q. finish c held s w q)
+    (λ w q. finish (c .result) held s w q)
 
 -- ---- the append path
 

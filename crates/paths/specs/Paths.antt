@@ -11,7 +11,6 @@ use Rattle.rooms.specs.Value.{partsOf}
 use lib.ListN.{getD}
 use Rattle.layout.specs.Layout.{wordAt, after}
 use Rattle.accepted.specs.Records.{Sound, exprOf}
-use Rattle.machine.specs.declared.outcome.Outcome.the-variants as Outcome
 use Rattle.machine.specs.Outcomes.{Does}
 use Rattle.machine.specs.Comprehension as Machine
 use Rattle.machine.specs.Comprehension.{AppendStep, emptyParts}
@@ -41,11 +40,6 @@ loopAt t x limit p c =
       step = machine t limit (exprOf t x (c .step));
       result = machine t limit (exprOf t x (c .result));
     }
-
--- the pending error, or the result
-abbrev pub finishWith : Does → Machine.Pending → Does
-finishWith result none s u r = result s u r
-finishWith result (some e) s u r = (Outcome.Error (e .0) (e .1) u, r)
 
 abbrev pub foldIn : Binary → Option LogicalFold
 foldIn (logic f) = some f

@@ -3,7 +3,7 @@
 use Prim.Native.Nat.{ℕ, zero, suc, _+_, _-_, _*_, _<_, _≤_}
 use mathlib.Core.Path.{_≡_, refl, sym, _∙_, ap}
 use mathlib.Core.List.{List}
-use mathlib.Core.Option.{Option, none, some}
+use mathlib.Core.Option.{Option, none}
 use native.Mathlib.Numerals.{sub-one}
 use native.Mathlib.Omega.{arith}
 use lib.ListN.{length, getD}
@@ -23,7 +23,6 @@ use Rattle.machine.specs.declared.outcome.Error.{Error}
 use Rattle.machine.specs.declared.outcome.Outcome.{Outcome}
 use Rattle.machine.specs.declared.outcome.Outcome.the-variants as Outcome
 use Rattle.machine.specs.Outcomes.{Res, Does}
-use Rattle.machine.specs.Comprehension as Machine
 use Rattle.machine.specs.Comprehension.{Loop, Binds, Holds, asks, finish, afterStep, turn, turns}
 use Rattle.conditions.specs.declared.Asked.{Asked}
 use Rattle.conditions.specs.declared.Asked.the-variants as Asked
@@ -36,7 +35,7 @@ use Rattle.loops.specs.declared.Step.the-variants as Step
 use Rattle.loops.specs.Loops.{pendingSeen, stepOf, onStep}
 use Rattle.loops.proofs.Looped.{step-as}
 use Rattle.paths.specs.declared.Places.{Places}
-use Rattle.paths.specs.Paths.{loopAt, finishWith}
+use Rattle.paths.specs.Paths.{loopAt}
 use Rattle.nearby.proofs.Stops.{Is}
 
 -- ---- a condition
@@ -47,17 +46,13 @@ asked m p {o} {z} e {a} f holds fails = sym (asked-as p holds fails (o, z) a f) 
 
 -- ---- the end
 
-finished-by : (c : Loop) (held : Machine.Pending) (s : Scope) (u : Used) (r : Rooms) → finishWith (c .result) held s u r ≡ finish c held s u r
-finished-by c none s u r = refl
-finished-by c (some e) s u r = refl
-
 -- a pending error, or what the result came to
 pub held-is : (m : Does) {held : Pending} {e : Error} {p : ℕ} → held ≡ Pending.Held e p → (s : Scope) (u : Used) (r : Rooms) →
-    Is (Outcome.Error e p u) r (finishWith m (pendingSeen held) s u r)
+    Is (Outcome.Error e p u) r (finish m (pendingSeen held) s u r)
 held-is m is s u r = rw is refl
 
 pub result-is : (m : Does) {held : Pending} → held ≡ Pending.Nothing → (s : Scope) (u : Used) (r : Rooms) {o : Outcome} {z : Rooms} → Is o z (m s u r) →
-    Is o z (finishWith m (pendingSeen held) s u r)
+    Is o z (finish m (pendingSeen held) s u r)
 result-is m is s u r f = rw is f
 
 module _ (c : Loop) (space : CellSpace) (stride : ℕ) where
@@ -66,11 +61,11 @@ module _ (c : Loop) (space : CellSpace) (stride : ℕ) where
   fromTurn n at held s u r = turns c space stride n at (pendingSeen held) s u r
 
   pub no-turn : (n at : ℕ) → n ≡ 0 → (held : Pending) (s : Scope) (u : Used) (r : Rooms) {o : Outcome} {z : Rooms} →
-      Is o z (finishWith (c .result) (pendingSeen held) s u r) → Is o z (fromTurn n at held s u r)
+      Is o z (finish (c .result) (pendingSeen held) s u r) → Is o z (fromTurn n at held s u r)
   unfolding turns
-  no-turn n at e held s u r f = rw e (f ∙ finished-by c (pendingSeen held) s u r)
+  no-turn n at e held s u r f = rw e f
 
-  turns-done : (at : ℕ) (held : Pending) (s : Scope) (u : Used) (r : Rooms) → fromTurn 0 at held s u r ≡ finish c (pendingSeen held) s u r
+  turns-done : (at : ℕ) (held : Pending) (s : Scope) (u : Used) (r : Rooms) → fromTurn 0 at held s u r ≡ finish (c .result) (pendingSeen held) s u r
   unfolding turns
   turns-done at held s u r = refl
 
@@ -79,11 +74,11 @@ module _ (c : Loop) (space : CellSpace) (stride : ℕ) where
     inTurn w q = turn c (cellAt q space at) (pendingSeen held) (λ e t z o. turns c space stride (n - 1) (at + stride) e t z o) s w q
 
     abbrev atEnd : Used → Rooms → Res
-    atEnd w q = finish c (pendingSeen held) s w q
+    atEnd w q = finish (c .result) (pendingSeen held) s w q
 
     some-turn : (n : ℕ) → 0 < n → fromTurn n at held s u r ≡
         asks (c .place) (c .condition s u r) (λ w q. turn c (cellAt q space at) (pendingSeen held) (λ e t z o. turns c space stride (n - 1) (at + stride) e t z o) s w q)
-        (λ w q. finish c (pendingSeen held) s w q)
+        (λ w q. finish (c .result) (pendingSeen held) s w q)
     unfolding turns
     some-turn zero h = absurd (omega arith)
     some-turn (suc n) h = rw sub-one

@@ -7,11 +7,11 @@ ghost use Rattle.meaning.specs.Limits.{names};
 ghost use Rattle.rooms.specs.Rooms.{rooms};
 ghost use Rattle.rooms.specs.Scope.{stored};
 ghost use Rattle.accepted.specs.Records.{Sound, exprOf};
-ghost use Rattle.machine.specs.Comprehension.{turns};
+ghost use Rattle.machine.specs.Comprehension.{finish, turns};
 ghost use Rattle.machine.specs.Machine.{body, machine};
 ghost use Rattle.outcomes.specs.Gives.{Gives};
 ghost use Rattle.loops.specs.Loops.{pendingSeen};
-ghost use Rattle.paths.specs.Paths.{loopAt, finishWith};
+ghost use Rattle.paths.specs.Paths.{loopAt};
 use crate::appending::appends;
 use crate::eval::eval;
 use cells::cell_at;
@@ -318,7 +318,7 @@ pub fn finish(
     held: Pending,
 ) -> Outcome
     requires { ⌜ Sound (now table) (now literal) result ⌝ }
-    ensures { λ r. ⌜ Gives r (now (literal .entry)) (now («binding_cells» .entry)) (now («binding_text» .entry)) (now (cells .exit)) (now (text .exit)) (finishWith (machine (now (table .entry)) limit (exprOf (now (table .entry)) (now (literal .entry)) result)) (pendingSeen held) scope used (rooms (now (literal .entry)) (now («binding_cells» .entry)) (now («binding_text» .entry)) (now (cells .entry)) (now (text .entry)))) ⌝ }
+    ensures { λ r. ⌜ Gives r (now (literal .entry)) (now («binding_cells» .entry)) (now («binding_text» .entry)) (now (cells .exit)) (now (text .exit)) (finish (machine (now (table .entry)) limit (exprOf (now (table .entry)) (now (literal .entry)) result)) (pendingSeen held) scope used (rooms (now (literal .entry)) (now («binding_cells» .entry)) (now («binding_text» .entry)) (now (cells .entry)) (now (text .entry)))) ⌝ }
 {
     match held {
         Pending::Held(error, place) => Outcome::Error(error, place, used),
