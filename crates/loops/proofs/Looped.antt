@@ -15,11 +15,11 @@ use Rattle.machine.specs.Comprehension.{Binds, Holds, afterStep}
 use Rattle.loops.specs.declared.Pending.{Pending}
 use Rattle.loops.specs.declared.Pending.the-variants as Pending
 use Rattle.loops.specs.declared.Step.{Step}
-use Rattle.loops.specs.Loops.{pendingSeen, unlessCleared, stepOf, onStep}
+use Rattle.loops.specs.Loops.{pendingSeen, clearedStep, stepOf, onStep}
 
 module _ (r : Rooms) (binds : Binds) (holds : Holds) where
   by-clearing : (c : Bool) (held : Pending) (v : Value) (u : Used) →
-      Machine.unlessCleared c (pendingSeen held) v u r binds holds ≡ onStep (unlessCleared c held v u) r binds holds
+      Machine.unlessCleared c (pendingSeen held) v u r binds holds ≡ onStep (clearedStep c held v u) r binds holds
   by-clearing true held v u = refl
   by-clearing false held v u = refl
 

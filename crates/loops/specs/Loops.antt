@@ -27,16 +27,16 @@ abbrev pub pendingSeen : Pending → Machine.Pending
 pendingSeen Pending.Nothing = none
 pendingSeen (Pending.Held e p) = some (e, p)
 
-abbrev pub unlessCleared : Bool → Pending → Value → Used → Step
-unlessCleared true held v u = Step.Bind v u
-unlessCleared false held v u = Step.Hold held u
+abbrev pub clearedStep : Bool → Pending → Value → Used → Step
+clearedStep true held v u = Step.Bind v u
+clearedStep false held v u = Step.Hold held u
 
-abbrev pub foldValue : LogicalFold → Pending → Value → Used → Step
-foldValue f Pending.Nothing v u = Step.Bind v u
-foldValue f (Pending.Held e p) v u = unlessCleared (absorbs f (boolIn v)) (Pending.Held e p) v u
+abbrev pub valueStep : LogicalFold → Pending → Value → Used → Step
+valueStep f Pending.Nothing v u = Step.Bind v u
+valueStep f (Pending.Held e p) v u = clearedStep (absorbs f (boolIn v)) (Pending.Held e p) v u
 
 abbrev pub foldStep : LogicalFold → Pending → Outcome → Step
-foldStep f held (Outcome.Value v u) = foldValue f held v u
+foldStep f held (Outcome.Value v u) = valueStep f held v u
 foldStep f held (Outcome.Error e p u) = Step.Hold (Pending.Held e p) u
 foldStep f held (Outcome.Exhausted x u) = Step.Ends (Outcome.Exhausted x u)
 

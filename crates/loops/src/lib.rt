@@ -1,7 +1,7 @@
 // What a comprehension makes of a step: its accumulator, a pending error, or the end.
 ghost use mathlib.Core.Path.{_≡_};
 ghost use Rattle.outcomes.specs.Seen.{foldSeen};
-ghost use Rattle.loops.specs.Loops.{foldsSeen, unlessCleared, foldValue, foldStep, plainStep, stepOf};
+ghost use Rattle.loops.specs.Loops.{foldsSeen, clearedStep, valueStep, foldStep, plainStep, stepOf};
 use deciding::absorbs;
 use machine::outcome::Error;
 use machine::outcome::Outcome;
@@ -31,8 +31,8 @@ pub enum Step {
     Ends(Outcome),
 }
 
-fn unless_cleared(clears: bool, held: Pending, v: Value, used: Used) -> Step
-    ensures { λ r. ⌜ r ≡ unlessCleared clears held v used ⌝ }
+fn cleared_step(clears: bool, held: Pending, v: Value, used: Used) -> Step
+    ensures { λ r. ⌜ r ≡ clearedStep clears held v used ⌝ }
 {
     if clears {
         Step::Bind(v, used)
@@ -42,12 +42,12 @@ fn unless_cleared(clears: bool, held: Pending, v: Value, used: Used) -> Step
 }
 
 // A value of a fold's step: it becomes the accumulator, unless an error is pending that it does not clear.
-fn fold_value(fold: Fold, held: Pending, v: Value, used: Used) -> Step
-    ensures { λ r. ⌜ r ≡ foldValue (foldSeen fold) held v used ⌝ }
+fn value_step(fold: Fold, held: Pending, v: Value, used: Used) -> Step
+    ensures { λ r. ⌜ r ≡ valueStep (foldSeen fold) held v used ⌝ }
 {
     match held {
         Pending::Nothing => Step::Bind(v, used),
-        Pending::Held(_, _) => unless_cleared(absorbs(fold, truth_of(v)), held, v, used),
+        Pending::Held(_, _) => cleared_step(absorbs(fold, truth_of(v)), held, v, used),
     }
 }
 
@@ -55,7 +55,7 @@ fn fold_step(fold: Fold, held: Pending, outcome: Outcome) -> Step
     ensures { λ r. ⌜ r ≡ foldStep (foldSeen fold) held outcome ⌝ }
 {
     match outcome {
-        Outcome::Value(v, used) => fold_value(fold, held, v, used),
+        Outcome::Value(v, used) => value_step(fold, held, v, used),
         Outcome::Error(error, place, used) => Step::Hold(Pending::Held(error, place), used),
         Outcome::Exhausted(limit, used) => Step::Ends(Outcome::Exhausted(limit, used)),
     }
