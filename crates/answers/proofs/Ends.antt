@@ -11,10 +11,10 @@ use Rattle.machine.specs.declared.outcome.Limit.{Limit}
 use Rattle.machine.specs.declared.outcome.Outcome.{Outcome}
 use Rattle.machine.specs.declared.outcome.Outcome.the-variants as Outcome
 use Rattle.machine.specs.Outcomes.{Res}
-use Rattle.machine.specs.Answer.{left}
+use Rattle.machine.specs.Answer.{cellsLeft, textLeft, left}
 use Rattle.answers.specs.declared.Answer.{Answer}
 use Rattle.answers.specs.declared.Answer.the-variants as Answer
-use Rattle.answers.specs.Evaluated.{asAnswer, cellsLeft, textLeft, ended}
+use Rattle.answers.specs.Evaluated.{asAnswer, ended}
 
 -- an answer, and what the cells and the text were and are
 abbrev pub Ends : Outcome → Answer → (words wordsLeft bytes bytesLeft : List ℕ) → Type 0

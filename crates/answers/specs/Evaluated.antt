@@ -8,7 +8,6 @@ use Rattle.meaning.specs.Expr.{Expr}
 use Rattle.meaning.specs.Heads.{Got, got, refused, _>>=_}
 use Rattle.meaning.specs.Table.{readTable}
 use Rattle.rooms.specs.Rooms.{Rooms}
-use Rattle.building.specs.Building.{cellsCleared, bytesCleared}
 use Rattle.soundness.specs.declared.Bindings.{Bindings}
 use Rattle.soundness.specs.Sound.{soundOf, ifSound}
 use Rattle.machine.specs.declared.outcome.Outcome.{Outcome}
@@ -22,17 +21,6 @@ abbrev pub asAnswer : Outcome → Answer
 asAnswer (Outcome.Value v u) = Answer.Value v u
 asAnswer (Outcome.Error e p u) = Answer.Error e p u
 asAnswer (Outcome.Exhausted x u) = Answer.Exhausted x u
-
--- a value leaves the rooms as they are; otherwise what was charged is cleared
-abbrev pub cellsLeft : Outcome → List ℕ → List ℕ
-cellsLeft (Outcome.Value v u) words = words
-cellsLeft (Outcome.Error e p u) words = cellsCleared words (u .cells)
-cellsLeft (Outcome.Exhausted x u) words = cellsCleared words (u .cells)
-
-abbrev pub textLeft : Outcome → List ℕ → List ℕ
-textLeft (Outcome.Value v u) bytes = bytes
-textLeft (Outcome.Error e p u) bytes = bytesCleared bytes (u .bytes)
-textLeft (Outcome.Exhausted x u) bytes = bytesCleared bytes (u .bytes)
 
 abbrev pub ended : Res → Answer × Rooms
 ended x = (asAnswer (x .0), x .1)

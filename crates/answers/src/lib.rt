@@ -2,7 +2,8 @@
 ghost use mathlib.Core.Path.{_≡_};
 ghost use Prim.Native.Nat.{min};
 ghost use Rattle.meaning.specs.Limits.{mostSteps};
-ghost use Rattle.answers.specs.Evaluated.{asAnswer, cellsLeft, textLeft};
+ghost use Rattle.machine.specs.Answer.{cellsLeft, textLeft};
+ghost use Rattle.answers.specs.Evaluated.{asAnswer};
 use clearing::clear_cells;
 use clearing::clear_text;
 use machine::outcome::Error;

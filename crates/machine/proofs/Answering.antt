@@ -33,7 +33,7 @@ use Rattle.machine.specs.Machine.{machine}
 use Rattle.laws.specs.Charges.{countsOf}
 use Rattle.machine.specs.Refines.{usedOf, errorOf, limitOf, FitCells, Live, Below, Roomy, Keeps, Logged, Good, Matches, Start}
 use Rattle.machine.specs.Accepted.{Accepted}
-use Rattle.machine.specs.Answer.{emptied, left, answered, CellsHave, Answers}
+use Rattle.machine.specs.Answer.{left, answered, CellsHave, Answers}
 use Rattle.machine.proofs.Keeping.{keeps-roomy}
 use Rattle.machine.proofs.Taking.{zeroed-drop}
 use Rattle.machine.proofs.Refine.{refines}
@@ -98,8 +98,8 @@ module _ (L : Alive) (r q : Rooms) (t : Trace) (c : Counts) (k : Keeps nothingYe
   roomy : Roomy c q
   roomy = keeps-roomy nothingYet c r q k
 
-  empty-cells : CellsHave (emptied (usedOf c) q) 0 (replicate (c .cells) zeroCell)
-  empty-cells = zero-cells (emptied (usedOf c) q) (c .cells) 0 (λ i l. cleared-words (q .cells) (c .cells) i (omega (arith, roomy .cells)) (omega arith))
+  empty-cells : (z : Rooms) → z .cells ≡ cellsCleared (q .cells) (c .cells) → CellsHave z 0 (replicate (c .cells) zeroCell)
+  empty-cells z e = zero-cells z (c .cells) 0 (λ i l. ap (λ w. getD w i 0) e ∙ cleared-words (q .cells) (c .cells) i (omega (arith, roomy .cells)) (omega arith))
 
   empty-bytes : take (c .bytes) (bytesCleared (q .text) (c .bytes)) ≡ replicate (c .bytes) 0
   unfolding bytesCleared
@@ -124,12 +124,12 @@ module _ (L : Alive) (r q : Rooms) (t : Trace) (c : Counts) (k : Keeps nothingYe
   unfolding bytesCleared
   bytes-sized = zeroed-length (q .text) 0 (min (c .bytes) (length (q .text))) ∙ k .textSized
 
-  with-error : (e : ErrorAt) → Answers r (emptied (usedOf c) q) (Outcome.Error (errorOf (e .error)) (e .place) (usedOf c)) t (Limited.error e c)
+  with-error : (e : ErrorAt) → Answers r (left (Outcome.Error (errorOf (e .error)) (e .place) (usedOf c)) q) (Outcome.Error (errorOf (e .error)) (e .place) (usedOf c)) t (Limited.error e c)
   unfolding roomsAfter cleared
   with-error e =
       record {
         answer = refl;
-        cells = empty-cells;
+        cells = empty-cells _ refl;
         counted = replicated (c .cells) zeroCell;
         bytes = empty-bytes;
         cellsAbove = cells-kept;
@@ -141,12 +141,12 @@ module _ (L : Alive) (r q : Rooms) (t : Trace) (c : Counts) (k : Keeps nothingYe
         bindingTexts = k .bindingTexts;
       }
 
-  with-exhaustion : (x : Exhausted) → Answers r (emptied (usedOf c) q) (Outcome.Exhausted (limitOf x) (usedOf c)) t (Limited.exhausted x c)
+  with-exhaustion : (x : Exhausted) → Answers r (left (Outcome.Exhausted (limitOf x) (usedOf c)) q) (Outcome.Exhausted (limitOf x) (usedOf c)) t (Limited.exhausted x c)
   unfolding roomsAfter cleared
   with-exhaustion x =
       record {
         answer = refl;
-        cells = empty-cells;
+        cells = empty-cells _ refl;
         counted = replicated (c .cells) zeroCell;
         bytes = empty-bytes;
         cellsAbove = cells-kept;

@@ -15,7 +15,6 @@ use Rattle.rooms.specs.declared.scope.Scope.{Scope}
 use Rattle.rooms.specs.Rooms.{Rooms, cellAt}
 use Rattle.rooms.specs.Reading.{reading}
 use Rattle.building.specs.Building.{cellsCleared, bytesCleared}
-use Rattle.machine.specs.declared.outcome.Used.{Used}
 use Rattle.machine.specs.declared.outcome.Outcome.{Outcome}
 use Rattle.machine.specs.declared.outcome.Outcome.the-variants as Outcome
 use Rattle.machine.specs.Outcomes.{Res}
@@ -25,20 +24,26 @@ use Rattle.machine.specs.Refines.{usedOf, errorOf, limitOf}
 
 -- ---- the run
 
-abbrev pub emptied : Used → Rooms → Rooms
-emptied u r =
+-- a value leaves the rooms as they are; otherwise what was charged is cleared
+abbrev pub cellsLeft : Outcome → List ℕ → List ℕ
+cellsLeft (Outcome.Value v u) words = words
+cellsLeft (Outcome.Error e p u) words = cellsCleared words (u .cells)
+cellsLeft (Outcome.Exhausted x u) words = cellsCleared words (u .cells)
+
+abbrev pub textLeft : Outcome → List ℕ → List ℕ
+textLeft (Outcome.Value v u) bytes = bytes
+textLeft (Outcome.Error e p u) bytes = bytesCleared bytes (u .bytes)
+textLeft (Outcome.Exhausted x u) bytes = bytesCleared bytes (u .bytes)
+
+abbrev pub left : Outcome → Rooms → Rooms
+left o r =
     record {
       literal = r .literal;
       bindingText = r .bindingText;
-      text = bytesCleared (r .text) (u .bytes);
+      text = textLeft o (r .text);
       bindingCells = r .bindingCells;
-      cells = cellsCleared (r .cells) (u .cells);
+      cells = cellsLeft o (r .cells);
     }
-
-abbrev pub left : Outcome → Rooms → Rooms
-left (Outcome.Value v u) r = r
-left (Outcome.Error e p u) r = emptied u r
-left (Outcome.Exhausted x u) r = emptied u r
 
 abbrev pub answered : (table : List ℕ) (limit : ℕ) → Expr → Scope → Rooms → Res
 answered table limit e s r =
