@@ -13,7 +13,7 @@ use Rattle.laws.specs.Answers.{Fills}
 use Rattle.laws.proofs.Exhausted.{value-exactly}
 use Rattle.laws.proofs.Fine.{join-count}
 
-length-values : (vs : Values) → length (valueList vs) ≡ count vs
+pub length-values : (vs : Values) → length (valueList vs) ≡ count vs
 unfolding valueList count
 length-values nil = refl
 length-values (cons v vs) = ap suc (length-values vs)

@@ -4,11 +4,11 @@ use Prim.Native.Nat.{ℕ, zero, suc, _+_, _*_, _/_, _≤_, _<_, min}
 use mathlib.Core.Path.{_≡_, refl, sym, ap, _∙_, subst}
 use mathlib.Core.List.{List, [], _∷_, map}
 use native.Mathlib.Omega.{arith}
-use lib.ListN.{length, getD, take, drop, replicate}
+use lib.ListN.{length, getD, take, drop, replicate, length-map}
 use Rattle.meaning.specs.Limits.{Counts, nothingYet, cut}
 use Rattle.meaning.specs.Errors.{ErrorAt, Exhausted}
 use Rattle.meaning.specs.Value as Meaning
-use Rattle.meaning.specs.Value.{nil, cons, count, valueList}
+use Rattle.meaning.specs.Value.{nil, cons, valueList}
 use Rattle.meaning.specs.Expr.{Expr}
 use Rattle.meaning.specs.Run.{Trace}
 use Rattle.meaning.specs.Comprehension as Comprehension
@@ -31,6 +31,7 @@ use Rattle.machine.specs.declared.outcome.Outcome.{Outcome}
 use Rattle.machine.specs.declared.outcome.Outcome.the-variants as Outcome
 use Rattle.machine.specs.Machine.{machine}
 use Rattle.laws.specs.Charges.{countsOf}
+use Rattle.laws.proofs.Filled.{length-values}
 use Rattle.machine.specs.Refines.{usedOf, errorOf, limitOf, FitCells, Live, Below, Roomy, Keeps, Logged, Good, Matches, Start}
 use Rattle.machine.specs.Accepted.{Accepted}
 use Rattle.machine.specs.Answer.{left, answered, CellsHave, Answers}
@@ -56,11 +57,6 @@ unfolding StandsCells valueList
 reads-cells L q nil a h = tt
 reads-cells L q (cons v vs) a h = (reads L q v (cellAt q Cells.Evaluation a) (h .1), reads-cells L q vs (suc a) (h .2))
 
-values-counted : (vs : Meaning.Values) → length (map holding (valueList vs)) ≡ count vs
-unfolding valueList count
-values-counted nil = refl
-values-counted (cons v vs) = ap suc (values-counted vs)
-
 zero-cells : (q : Rooms) (n a : ℕ) → ((i : ℕ) → i < (a + n) * 2 → getD (q .cells) i 0 ≡ 0) → CellsHave q a (replicate n zeroCell)
 zero-cells q zero a h = tt
 zero-cells q (suc n) a h = ((h (a * 2) (omega arith), h (a * 2 + 1) (omega arith)), zero-cells q n (suc a) (λ i l. h i (omega arith)))
@@ -80,7 +76,7 @@ module _ (L : Alive) (r q : Rooms) (t : Trace) (c : Counts) (k : Keeps nothingYe
       record {
         answer = (m, refl, reads (Live L nothingYet c) q v m h);
         cells = reads-cells (Live L nothingYet c) q (cellsBuilt t) 0 (g .cells);
-        counted = values-counted (cellsBuilt t) ∙ omega (arith, g .counted);
+        counted = length-map (valueList (cellsBuilt t)) holding ∙ length-values (cellsBuilt t) ∙ omega (arith, g .counted);
         bytes = ap (λ n. take n (q .text)) (same (length (textBuilt t)) (g .bytesCounted)) ∙ g .bytes;
         cellsAbove = k .high;
         bytesAbove = k .textHigh;

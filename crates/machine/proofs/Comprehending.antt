@@ -10,7 +10,7 @@ use lib.ListN.{length}
 use Rattle.meaning.specs.Limits.{Counts, names}
 use Rattle.meaning.specs.Errors.{UnexpectedType, anIterable}
 use Rattle.meaning.specs.Value as Meaning
-use Rattle.meaning.specs.Value.{Values, nil, cons, Entries, empty, entry, scalar, list, map, optionalNone, optionalOf, nesting, count, countEntries, valueList}
+use Rattle.meaning.specs.Value.{nil, cons, Entries, empty, entry, scalar, list, map, optionalNone, optionalOf, nesting, count, countEntries}
 use Rattle.meaning.specs.Expr.{LogicalFold}
 use Rattle.meaning.specs.Run.{Eval, pure, charged, after, onValue, _>>=_, fail, orFail, choose}
 use Rattle.meaning.specs.Comprehension as Rules
@@ -29,17 +29,13 @@ use Rattle.machine.specs.Comprehension.{Loop, Items, itemsParts, onItems
 use Rattle.machine.specs.Refines.{usedOf, Start, Refines}
 use Rattle.machine.proofs.Match.{Says, error-now}
 use Rattle.machine.proofs.Operands.{value-of}
+use Rattle.laws.proofs.Filled.{length-values}
 use Rattle.comparing.proofs.SeenMeaning.{scalar-parts}
 use Rattle.machine.proofs.Turns.{ItemsAt, list-items, map-items, stores, turns-ok}
 use Rattle.machine.proofs.Gathering.{ItemsOk, gathers-nothing}
 use Rattle.machine.proofs.Appending.{GuardOk, append-ok}
 
 -- ---- what is iterated over
-
-values-length : (vs : Values) → length (valueList vs) ≡ count vs
-unfolding valueList count
-values-length nil = refl
-values-length (cons v vs) = ap suc (values-length vs)
 
 keys-length : (es : Entries) → length (keyList es) ≡ countEntries es
 unfolding keyList countEntries
@@ -55,7 +51,7 @@ items-view : (L : Alive) (r : Rooms) (w : Meaning.Value) (m : Value) → Holds w
 unfolding itemsOf Stands nesting
 items-view L r (scalar x) m h = ap itemsParts (scalar-parts L r x m (h .stands))
 items-view L r (list vs) m h =
-    (h .stands .0, h .stands .1, 1, ap (λ x. itemsParts (partsOf x)) (h .stands .2) ∙ ap (λ n. some (record { space = h .stands .0; first = h .stands .1; count = n; stride = 1 })) (sym (values-length vs)), list-items L r vs (h .stands .0) (h .stands .1) (omega (arith, h .nests)) (h .stands .3))
+    (h .stands .0, h .stands .1, 1, ap (λ x. itemsParts (partsOf x)) (h .stands .2) ∙ ap (λ n. some (record { space = h .stands .0; first = h .stands .1; count = n; stride = 1 })) (sym (length-values vs)), list-items L r vs (h .stands .0) (h .stands .1) (omega (arith, h .nests)) (h .stands .3))
 items-view L r (map es) m h =
     (h .stands .0, h .stands .1, 2, ap (λ x. itemsParts (partsOf x)) (h .stands .2) ∙ ap (λ n. some (record { space = h .stands .0; first = h .stands .1; count = n; stride = 2 })) (sym (keys-length es)), map-items L r es (h .stands .0) (h .stands .1) (h .stands .3))
 items-view L r optionalNone m h = ap (λ x. itemsParts (partsOf x)) (h .stands)
