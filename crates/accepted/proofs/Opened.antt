@@ -62,7 +62,7 @@ utf8-of : (x : List ℕ) (o n : ℕ) → isSome (utf8 (span x o n)) ≡ true →
 unfolding span
 utf8-of x o n e = utf8-by (leb (o + n) (length x)) (spanOf x o n) e
 
-both-of : (a b : Bool) → (a && b) ≡ true → (a ≡ true) × (b ≡ true)
+pub both-of : (a b : Bool) → (a && b) ≡ true → (a ≡ true) × (b ≡ true)
 both-of true b e = (refl, e)
 both-of false b e = let z : _≡_ {A = ℕ} 0 1 = cc in absurd (omega arith)
 

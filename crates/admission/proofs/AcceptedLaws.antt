@@ -1,6 +1,6 @@
 -- What is known of a binding that is accepted; and the ways through `judge_all` and `bring_in`, over plain variables. Assumes nothing.
 use Prim.Native.Nat.{ℕ, _+_, _≤_, _<_}
-use mathlib.Core.Path.{_≡_, refl, sym, ap, _∙_}
+use mathlib.Core.Path.{_≡_, refl, ap, _∙_}
 use mathlib.Core.List.{List}
 use mathlib.Core.Bool.{Bool, true, false, _&&_, cond}
 use mathlib.Core.Option.{none, some}
@@ -23,6 +23,7 @@ use Rattle.table.specs.declared.Checked.the-variants as Checked
 use Rattle.table.specs.Check.{verdict, checkOf}
 use Rattle.accepted.specs.Records.{exprOf, partOf, Sound, SoundPart}
 use Rattle.accepted.proofs.Accepted as table
+use Rattle.accepted.proofs.Opened.{both-of}
 use Rattle.rooms.specs.declared.value.Value.{Value}
 use Rattle.building.specs.Building.{cellRoom, textRoom}
 use Rattle.rooms.specs.Scope.{slotOf, stored}
@@ -40,20 +41,13 @@ use Rattle.admission.specs.Bringing.{literalFor, accepted, said, Outcome
 use Rattle.scalars.proofs.PartLaws.{bare-part}
 use Rattle.judged.proofs.SpelledLaws.{literal-in, Spells, spelled-spells, spells-cells, spells-bytes}
 
-never : {A : Type 0} {b : Bool} → b ≡ true → b ≡ false → A
-never e f = let z : true ≡ false = sym e ∙ f in let y : _≡_ {A = ℕ} 1 0 = ap (λ b. cond b 1 0) z in absurd (omega arith)
-
-both-true : (a b : Bool) → (a && b) ≡ true → (a ≡ true) × (b ≡ true)
-both-true true b e = (refl, e)
-both-true false b e = never e refl
-
 -- ---- a table that is read
 
 table-long : (t x : List ℕ) → Reads (λ e. length t ≤ 16384) (readTable t x)
 unfolding readTable
 table-long t x =
     reads-demand (leb 1 (length t) && leb (length t) 16384) TableLength start
-    (λ d. all-long (rootAt wordBytes t x start) (leb-true (length t) 16384 (both-true (leb 1 (length t)) (leb (length t) 16384) d .1)))
+    (λ d. all-long (rootAt wordBytes t x start) (leb-true (length t) 16384 (both-of (leb 1 (length t)) (leb (length t) 16384) d .1)))
   where
     all-long : (g : Got Expr) → length t ≤ 16384 → Reads (λ e. length t ≤ 16384) g
     all-long (got e) h = reads-got e h
@@ -116,7 +110,7 @@ fits-by w t b name table text Soundness.Sound s =
     (λ v u. reads-demand (leb (b .cells + cellsOf v) (cellRoom w) && leb (b .bytes + bytesOf v) (textRoom t)) BindingRoomFull start
     (λ d. let q = read-read table text e r in
     let same : e ≡ exprOf table text 0 = cc in
-    let k = both-true (leb (b .cells + cellsOf v) (cellRoom w)) (leb (b .bytes + bytesOf v) (textRoom t)) d in
+    let k = both-of (leb (b .cells + cellsOf v) (cellRoom w)) (leb (b .bytes + bytesOf v) (textRoom t)) d in
     let g = was-read (root-read l) u in
     let sp = was-read (spelled-spells l) (g .0) in
     reads-got l (record {

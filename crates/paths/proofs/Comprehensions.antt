@@ -17,17 +17,13 @@ use Rattle.rooms.specs.Value.{partsOf}
 use Rattle.rooms.specs.Scope.{stored}
 use Rattle.layout.specs.Layout.{headBytes, wordAt, after}
 use Rattle.accepted.specs.Records.{exprOf, Sound}
-use Rattle.accepted.proofs.Opened.{opened}
+use Rattle.accepted.proofs.Opened.{both-of, opened}
 use Rattle.fields.proofs.FieldLaws.{name-below}
 use Rattle.machine.specs.declared.outcome.Used.{Used}
 use Rattle.machine.specs.Comprehension.{Items, Loop, AppendStep, emptyParts, turns, appendTurns, nothingGathered, loopFrom, comprehends}
 use Rattle.machine.specs.Machine.{body, machine, appendStep}
 use Rattle.paths.specs.declared.Places.{Places}
 use Rattle.paths.specs.Paths.{placesAt, loopAt, pathOf}
-
-both-of : (a b : Bool) → (a && b) ≡ true → (a ≡ true) × (b ≡ true)
-both-of true b e = (refl, e)
-both-of false b e = let z : _≡_ {A = ℕ} 0 1 = cc in absurd (omega arith)
 
 -- the append path of the operands, whatever is begun from
 abbrev pub openPath : (t x : List ℕ) (limit : ℕ) → Places → Option AppendStep

@@ -17,6 +17,7 @@ use Rattle.rooms.specs.Rooms.{Rooms}
 use Rattle.rooms.specs.Scope.{stored}
 use Rattle.layout.specs.Layout.{wordAt, after, headBytes}
 use Rattle.accepted.specs.Records.{exprOf, Sound}
+use Rattle.accepted.proofs.Opened.{both-of}
 use Rattle.machine.specs.declared.outcome.Used.{Used}
 use Rattle.machine.specs.declared.outcome.Error.the-variants as Error
 use Rattle.machine.specs.declared.outcome.Outcome.{Outcome}
@@ -41,10 +42,6 @@ cond-some : {A : Type 0} (b : Bool) (m : Option A) {a : A} → cond b m none ≡
 cond-some true m e = (refl, e)
 cond-some false m e = let z : _≡_ {A = ℕ} 0 1 = cc in absurd (omega arith)
 
-both-true : (a b : Bool) → (a && b) ≡ true → a ≡ true
-both-true true b e = refl
-both-true false b e = let z : _≡_ {A = ℕ} 0 1 = cc in absurd (omega arith)
-
 literal-condition : (t x : List ℕ) (limit : ℕ) (c : Places) (start : Value) → Sound t x (c .condition) → {path : AppendStep} → pathOf t x limit c start ≡ some path →
     getD t (c .condition) 0 < 7
 literal-condition t x limit c start s e =
@@ -52,7 +49,7 @@ literal-condition t x limit c start s e =
     let g = cond-some ((look (exprOf t x (c .condition))) .isLiteral && named (c .accumulator) ((look (exprOf t x (c .result))) .isName))
     (appendStep t limit (c .accumulator) (exprOf t x (c .step))) (f .1) in
     ltb-true (getD t (c .condition) 0) 7
-    (literal-seen t x (c .condition) s ∙ both-true ((look (exprOf t x (c .condition))) .isLiteral) (named (c .accumulator) ((look (exprOf t x (c .result))) .isName)) (g .0))
+    (literal-seen t x (c .condition) s ∙ both-of ((look (exprOf t x (c .condition))) .isLiteral) (named (c .accumulator) ((look (exprOf t x (c .result))) .isName)) (g .0) .0)
 
 -- ---- the record
 
