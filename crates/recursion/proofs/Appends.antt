@@ -37,7 +37,7 @@ use Rattle.paths.specs.declared.Places.{Places}
 use Rattle.paths.specs.Paths.{loopAt, guardAt, appendAt}
 use Rattle.nearby.proofs.Stops.{Is, after-operand}
 use Rattle.recursion.proofs.Operands.{Came}
-use Rattle.recursion.proofs.Turns.{asked}
+use Rattle.recursion.proofs.Turns.{asked, item-is}
 
 -- ---- a guard
 
@@ -132,13 +132,9 @@ module _ (c : Loop) (path : AppendStep) (space : CellSpace) (stride : ℕ) where
         abbrev scope : Scope
         scope = stored s (c .item) v
 
-        item-is : v ≡ cellAt z space at
-        unfolding cellAt
-        item-is = cell
-
         this-guard : onAsked b z′ (λ y q. appendItems path g scope y q (λ k y′ q′. onward scope k y′ q′)) (λ y q. onward scope g y q) ≡ all
         this-guard =
-            passed .is _ _ ∙ (ap (λ (v : Value). inTurn (stored s (c .item) v) w z) item-is ∙ (ap (λ a. onAsked a z inItem (λ w q. gathered g w q)) (sym is) ∙ this-turn))
+            passed .is _ _ ∙ (ap (λ (v : Value). inTurn (stored s (c .item) v) w z) (item-is z space at cell) ∙ (ap (λ a. onAsked a z inItem (λ w q. gathered g w q)) (sym is) ∙ this-turn))
 
         pub guard-ends : {e : Outcome} → b ≡ Asked.Ends e → Is e z′ all
         guard-ends way = ap (λ b. onAsked b z′ (λ y q. appendItems path g scope y q (λ k y′ q′. onward scope k y′ q′)) (λ y q. onward scope g y q)) (sym way) ∙ this-guard

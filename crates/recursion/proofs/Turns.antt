@@ -44,6 +44,13 @@ pub asked : (m : Res) (p : ℕ) {o : Outcome} {z : Rooms} → Is o z m → {a : 
     onAsked a z holds fails ≡ asks p m holds fails
 asked m p {o} {z} e {a} f holds fails = sym (asked-as p holds fails (o, z) a f) ∙ ap (λ (m : Res). asks p m holds fails) e
 
+-- ---- an item
+
+-- what the code read from its cell
+pub item-is : (r : Rooms) (space : CellSpace) (at : ℕ) {v : Value} → v ≡ cellIn (wordsOf (r .bindingCells) (r .cells) space) at → v ≡ cellAt r space at
+unfolding cellAt
+item-is r space at e = e
+
 -- ---- the end
 
 -- a pending error, or what the result came to
@@ -103,15 +110,11 @@ module _ (c : Loop) (space : CellSpace) (stride : ℕ) where
         abbrev holds : Holds
         holds e y q = turns c space stride (n - 1) (at + stride) e (stored s (c .item) v) y q
 
-        item-is : v ≡ cellAt z space at
-        unfolding cellAt
-        item-is = cell
-
         this-step : onStep k z′ binds holds ≡ fromTurn n at held s u r
         this-step =
             sym (step-as z′ binds holds (c .fold) held o′ k (taken ∙ ap (λ f. stepOf f held o′) folds)) ∙
             (ap (λ (y : Res). afterStep (c .fold) (pendingSeen held) (y .0) (y .1) binds holds) step ∙
-            (ap (λ (v : Value). turn c v (pendingSeen held) (λ e t z o. turns c space stride (n - 1) (at + stride) e t z o) s w z) item-is ∙
+            (ap (λ (v : Value). turn c v (pendingSeen held) (λ e t z o. turns c space stride (n - 1) (at + stride) e t z o) s w z) (item-is z space at cell) ∙
             (ap (λ a. onAsked a z inTurn atEnd) (sym is) ∙ this-turn)))
 
         pub step-ends : {e : Outcome} → k ≡ Step.Ends e → Is e z′ (fromTurn n at held s u r)
