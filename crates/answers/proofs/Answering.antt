@@ -103,7 +103,7 @@ module _ (table : List ℕ) (bindings : Bindings) (steps : ℕ) (lent : Rooms) w
 
   module _ (all : Lent table bindings lent) where
     -- the scope of a sound room stands for that of the definition's room
-    scope : soundOf (lent .bindingCells) (lent .bindingText) bindings ≡ Sound → StandsScope (scopeOf (bound table bindings steps lent)) alive lent (bindings .scope)
+    scope : soundOf (lent .bindingCells) (lent .bindingText) bindings ≡ Sound → StandsScope (scopeOf (bound bindings lent)) alive lent (bindings .scope)
     scope s =
         let h = sound-scope (lent .bindingCells) (lent .bindingText) bindings s (all .slots) (all .values) (lent .literal) (lent .cells) (lent .text) in
         record {
@@ -112,16 +112,16 @@ module _ (table : List ℕ) (bindings : Bindings) (steps : ℕ) (lent : Rooms) w
         }
 
     ran-says : (e : Expr) → readTable table (lent .literal) ≡ got e → soundOf (lent .bindingCells) (lent .bindingText) bindings ≡ Sound
-        → Says (answerRun (limits table bindings steps lent) (run e (scopeOf (bound table bindings steps lent)))) lent (after table bindings steps lent (got e) .0) (after table bindings steps lent (got e) .1)
+        → Says (answerRun (limits steps lent) (run e (scopeOf (bound bindings lent)))) lent (after table bindings steps lent (got e) .0) (after table bindings steps lent (got e) .1)
     unfolding answerRun cut
     ran-says e g s =
-        let t : Comprehension.Scope = scopeOf (bound table bindings steps lent) in
+        let t : Comprehension.Scope = scopeOf (bound bindings lent) in
         let x : Res = answered table (min steps mostSteps) e (bindings .scope) lent in
-        answers-say lent (x .1) (x .0) (run e t .0) (limited (limits table bindings steps lent) (run e t))
+        answers-say lent (x .1) (x .0) (run e t .0) (limited (limits steps lent) (run e t))
         (table-answers table (all .tableBytes) steps lent e g alive (bindings .scope) t below (words-fit lent (all .words) (all .bindingWords)) (scope s))
 
-    got-says : (g : Got Expr) → accepted table bindings steps lent ≡ g
-        → Says (answerRead (limits table bindings steps lent) (scopeOf (bound table bindings steps lent)) g) lent (after table bindings steps lent g .0) (after table bindings steps lent g .1)
+    got-says : (g : Got Expr) → accepted table bindings lent ≡ g
+        → Says (answerRead (limits steps lent) (scopeOf (bound bindings lent)) g) lent (after table bindings steps lent g .0) (after table bindings steps lent g .1)
     unfolding accepted answerRead
     got-says (refused why place) h =
         record {
@@ -143,7 +143,7 @@ module _ (table : List ℕ) (bindings : Bindings) (steps : ℕ) (lent : Rooms) w
     -- what the definition says, below the counts and above them.
     pub evaluation-answers : Evaluates table bindings steps lent (evaluated table bindings steps lent .0) (evaluated table bindings steps lent .1)
     unfolding evaluated meant
-    evaluation-answers = record { exactly = refl; says = got-says (accepted table bindings steps lent) refl }
+    evaluation-answers = record { exactly = refl; says = got-says (accepted table bindings lent) refl }
 
     -- so whatever equals it is
     pub evaluates : (answer : Answer) (left : Rooms) → _≡_ {A = Answer × Rooms} (answer, left) (evaluated table bindings steps lent) → Evaluates table bindings steps lent answer left

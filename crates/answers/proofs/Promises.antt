@@ -76,9 +76,9 @@ module _ (table : List ℕ) (bindings : Bindings) (steps : ℕ) (lent : Rooms) w
   -- Otherwise it is the definition's answer, over the bindings that the room holds.
   pub meant-sound : soundOf (lent .bindingCells) (lent .bindingText) bindings ≡ Sound
       → meant table bindings steps lent
-      ≡ answerOf table (lent .literal) (bound table bindings steps lent) (record { steps = steps; cells = length (lent .cells) / 2; bytes = length (lent .text) })
+      ≡ answerOf table (lent .literal) (bound bindings lent) (record { steps = steps; cells = length (lent .cells) / 2; bytes = length (lent .text) })
   unfolding meant accepted answerOf _>>=_
-  meant-sound h = rw h (ap (answerRead (limits table bindings steps lent) (scopeOf (bound table bindings steps lent))) (passed (readTable table (lent .literal))))
+  meant-sound h = rw h (ap (answerRead (limits steps lent) (scopeOf (bound bindings lent))) (passed (readTable table (lent .literal))))
     where
       passed : (g : Got Expr) → _>>=_ g (λ e. got e) ≡ g
       passed (got e) = refl
@@ -163,13 +163,13 @@ told-exhausted (ran (Limited.error e d)) x c h = let z : _≡_ {A = ℕ} 0 1 = c
 told-exhausted (ran (Limited.exhausted y d)) x c h = cc
 
 module _ (table : List ℕ) (bindings : Bindings) (steps : ℕ) (lent : Rooms) (answer : Answer) (left : Rooms)
-    (h : Evaluates table bindings steps lent answer left) (e : Expr) (g : accepted table bindings steps lent ≡ got e) where
+    (h : Evaluates table bindings steps lent answer left) (e : Expr) (g : accepted table bindings lent ≡ got e) where
   abbrev under : Counts
-  under = limits table bindings steps lent
+  under = limits steps lent
 
   -- the rule, over the bindings that the room holds
   abbrev ruled : Eval Value
-  ruled = run e (scopeOf (bound table bindings steps lent))
+  ruled = run e (scopeOf (bound bindings lent))
 
   meant-ran : meant table bindings steps lent .answer ≡ ran (limited under ruled)
   unfolding meant answerRead answerRun
@@ -191,7 +191,7 @@ module _ (table : List ℕ) (bindings : Bindings) (steps : ℕ) (lent : Rooms) (
 
   -- Nothing in a rule turns exhaustion into another answer: where a part that the rule begins, at any depth, is exhausted, so is the
   -- evaluation, of the same limit and with the same counts.
-  pub exhaustion-kept : {f : Expr} {t : Scope} {before : Trace} → Reaches e (scopeOf (bound table bindings steps lent)) before f t
+  pub exhaustion-kept : {f : Expr} {t : Scope} {before : Trace} → Reaches e (scopeOf (bound bindings lent)) before f t
       → (x : Exhausted) (c : Counts) → Stops under (before ++ run f t .0) x c → told left answer ≡ Told.exhausted x c
   exhaustion-kept r x c s = told-run ∙ ap (λ o. toldBy (ran o)) (part-exhausts r under c x s)
 
@@ -243,11 +243,11 @@ module _ (table : List ℕ) (bindings : Bindings) (steps : ℕ) (lent : Rooms) (
     (h : Evaluates table bindings steps lent answer left) where
   meant-cleared : (o : Limited.Outcome) → meant table bindings steps lent .answer ≡ ran o → NoValue o → meant table bindings steps lent .rooms ≡ cleared (countsOf o)
   unfolding meant answerRead answerRun
-  meant-cleared o e none = by-read (accepted table bindings steps lent) e
+  meant-cleared o e none = by-read (accepted table bindings lent) e
     where
-      by-read : (g : Got Expr) → answerRead (limits table bindings steps lent) (scopeOf (bound table bindings steps lent)) g .answer ≡ ran o
-          → answerRead (limits table bindings steps lent) (scopeOf (bound table bindings steps lent)) g .rooms ≡ cleared (countsOf o)
-      by-read (got e) f = let same : limited (limits table bindings steps lent) (run e (scopeOf (bound table bindings steps lent))) ≡ o = cc in rw same (cleared-after _ o none)
+      by-read : (g : Got Expr) → answerRead (limits steps lent) (scopeOf (bound bindings lent)) g .answer ≡ ran o
+          → answerRead (limits steps lent) (scopeOf (bound bindings lent)) g .rooms ≡ cleared (countsOf o)
+      by-read (got e) f = let same : limited (limits steps lent) (run e (scopeOf (bound bindings lent))) ≡ o = cc in rw same (cleared-after _ o none)
       by-read (refused why place) f = let z : _≡_ {A = ℕ} 0 1 = cc in absurd (omega arith)
 
   -- An error or exhaustion clears what it charged: every word of the cells that were counted, and every byte, is zero. (What is above them is

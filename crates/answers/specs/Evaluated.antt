@@ -26,13 +26,14 @@ abbrev pub ended : Res → Answer × Rooms
 ended x = (asAnswer (x .0), x .1)
 
 -- the rooms as they are lent: the literal text, the bindings' cells and text, the evaluation's
-module _ (table : List ℕ) (bindings : Bindings) (steps : ℕ) (lent : Rooms) where
+module _ (table : List ℕ) (bindings : Bindings) (lent : Rooms) where
   -- refusals 1 to 7, then 8
   unfoldable pub accepted : Got Expr
   accepted = do
     e ← readTable table (lent .literal)
     ifSound (soundOf (lent .bindingCells) (lent .bindingText) bindings) (got e)
 
+module _ (table : List ℕ) (bindings : Bindings) (steps : ℕ) (lent : Rooms) where
   -- a refusal changes nothing
   abbrev pub after : Got Expr → Answer × Rooms
   after (refused why place) = (Answer.Refused (refusalNumber why) place, lent)
@@ -40,4 +41,4 @@ module _ (table : List ℕ) (bindings : Bindings) (steps : ℕ) (lent : Rooms) w
 
   -- the answer, and the rooms as they are left
   unfoldable pub evaluated : Answer × Rooms
-  evaluated = after accepted
+  evaluated = after (accepted table bindings lent)

@@ -80,17 +80,18 @@ pub record Says (m : Answered) (lent : Rooms) (answer : Answer) (left : Rooms) :
 abbrev pub lentBy : (steps : ℕ) → Rooms → Counts
 lentBy steps lent = record { steps = steps; cells = length (lent .cells) / 2; bytes = length (lent .text) }
 
+-- the limits in force
+abbrev pub limits : (steps : ℕ) → (lent : Rooms) → Counts
+limits steps lent = cut (lentBy steps lent)
+
+-- the bindings that the lent binding room holds
+abbrev pub bound : Bindings → (lent : Rooms) → BindingRoom
+bound bindings lent = roomOf (lent .bindingCells) (lent .bindingText) bindings
+
 module _ (table : List ℕ) (bindings : Bindings) (steps : ℕ) (lent : Rooms) where
-  abbrev pub limits : Counts
-  limits = cut (lentBy steps lent)
-
-  -- the bindings that the lent binding room holds
-  abbrev pub bound : BindingRoom
-  bound = roomOf (lent .bindingCells) (lent .bindingText) bindings
-
   -- the binding room is judged after the table
   unfoldable pub meant : Answered
-  meant = answerRead limits (scopeOf bound) (accepted table bindings steps lent)
+  meant = answerRead (limits steps lent) (scopeOf (bound bindings lent)) (accepted table bindings lent)
 
   -- the contract of an evaluation
   pub record Evaluates (answer : Answer) (left : Rooms) : Type 0 where

@@ -78,7 +78,7 @@ module _ (table : List ℕ) (bindings : Bindings) (steps : ℕ) (lent : Rooms) (
       (begins table (all .tableBytes) steps lent alive (bindings .scope) scope below (words-fit lent (all .words) (all .bindingWords)) (stands s)) in
       good-fits alive nothingYet (x .1) (x .0) (run e scope .0) (from (cut lengths) (run e scope) nothingYet) (matches .good) m u (value-is (x .0) m u h)
 
-  after-fits : (g : Got Expr) → accepted table bindings steps lent ≡ g → (m : Value) (u : Used) → after table bindings steps lent g .0 ≡ Answer.Value m u → Fits m
+  after-fits : (g : Got Expr) → accepted table bindings lent ≡ g → (m : Value) (u : Used) → after table bindings steps lent g .0 ≡ Answer.Value m u → Fits m
   unfolding accepted
   after-fits (refused why p) a m u h = let z : _≡_ {A = ℕ} 0 1 = cc in absurd (omega arith)
   after-fits (got e) a m u h =
@@ -88,4 +88,4 @@ module _ (table : List ℕ) (bindings : Bindings) (steps : ℕ) (lent : Rooms) (
   -- A value that comes back is one that words can hold.
   pub value-fits : (m : Value) (u : Used) → evaluated table bindings steps lent .0 ≡ Answer.Value m u → Fits m
   unfolding evaluated
-  value-fits m u h = after-fits (accepted table bindings steps lent) refl m u h
+  value-fits m u h = after-fits (accepted table bindings lent) refl m u h

@@ -124,24 +124,24 @@ told-value (ran (Limited.exhausted y d)) v c h = let z : _≡_ {A = ℕ} 0 1 = c
 
 module _ (table : List ℕ) (bindings : Bindings) (steps : ℕ) (lent : Rooms) (tableBytes : AllBytes table) (literalBytes : AllBytes (lent .literal))
     (room : Lent (lent .bindingCells) (lent .bindingText) bindings) where
-  meant-formed : (g : Got Expr) → accepted table bindings steps lent ≡ g → (v : Meaning.Value) (c : Counts)
-      → answerRead (limits table bindings steps lent) (scopeOf (bound table bindings steps lent)) g .answer ≡ ran (Limited.value v c) → WellFormed v
+  meant-formed : (g : Got Expr) → accepted table bindings lent ≡ g → (v : Meaning.Value) (c : Counts)
+      → answerRead (limits steps lent) (scopeOf (bound bindings lent)) g .answer ≡ ran (Limited.value v c) → WellFormed v
   unfolding accepted answerRead answerRun
   meant-formed (refused why p) a v c h = let z : _≡_ {A = ℕ} 0 1 = cc in absurd (omega arith)
   meant-formed (got e) a v c h =
       let s = was-accepted (readTable table (lent .literal)) (soundOf (lent .bindingCells) (lent .bindingText) bindings) e a in
       let formed = accepted-table-formed table (lent .literal) tableBytes literalBytes e (s .0) in
-      let fine : FineScope (scopeOf (bound table bindings steps lent)) =
+      let fine : FineScope (scopeOf (bound bindings lent)) =
       λ n. subst (Perhaps Fine) (sym (room-scope (lent .bindingCells) (lent .bindingText) bindings (room .slots) n)) (held-fine (lent .bindingCells) (lent .bindingText) bindings room (s .1) n) in
-      let same : limited (limits table bindings steps lent) (run e (scopeOf (bound table bindings steps lent))) ≡ Limited.value v c = cc in
-      fine-well-formed v (value-kept (record { steps = steps; cells = length (lent .cells) / 2; bytes = length (lent .text) }) (run e (scopeOf (bound table bindings steps lent))) (run-kept e formed (scopeOf (bound table bindings steps lent)) fine) v c same)
+      let same : limited (limits steps lent) (run e (scopeOf (bound bindings lent))) ≡ Limited.value v c = cc in
+      fine-well-formed v (value-kept (record { steps = steps; cells = length (lent .cells) / 2; bytes = length (lent .text) }) (run e (scopeOf (bound bindings lent))) (run-kept e formed (scopeOf (bound bindings lent)) fine) v c same)
 
   -- of an answer that says what the definition says
   pub says-formed : (answer : Answer) (left : Rooms) → Says (meant table bindings steps lent) lent answer left → (v : Meaning.Value) (c : Counts) → told left answer ≡ Told.value (some v) c
       → WellFormed v
   unfolding meant
   says-formed answer left h v c t =
-      meant-formed (accepted table bindings steps lent) refl v c (told-value (meant table bindings steps lent .answer) v c (sym (h .tells) ∙ t))
+      meant-formed (accepted table bindings lent) refl v c (told-value (meant table bindings steps lent .answer) v c (sym (h .tells) ∙ t))
 
   -- A value that comes back is well formed, whatever table, binding room, limits and rooms are lent: numbers in range, Strings in UTF-8, no two
   -- keys of a Map that match, nesting at most 32.

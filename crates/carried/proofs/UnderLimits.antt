@@ -42,7 +42,7 @@ pub counts-within : (table : List ℕ) (bindings : Bindings) (steps : ℕ) (lent
 unfolding meant
 counts-within table bindings steps lent answer left h =
     subst (λ (t : Told). AtMost (countsTold t) (cut (lentBy steps lent))) (sym (h .says .tells))
-    (read-counts (cut (lentBy steps lent)) (scopeOf (bound table bindings steps lent)) (accepted table bindings steps lent))
+    (read-counts (cut (lentBy steps lent)) (scopeOf (bound bindings lent)) (accepted table bindings lent))
 
 -- ---- more room
 
@@ -74,5 +74,5 @@ more-room-same table literal words bytes bindings steps more cells text largerCe
     let few = rooms literal words bytes cells text in
     k .says .tells
     ∙ read-stays (cut (lentBy steps few)) (cut (lentBy more (rooms literal words bytes largerCells largerText))) (cut-more _ _ most)
-    (scopeOf (bound table bindings steps few)) (accepted table bindings steps few) (subst NotExhausted (h .says .tells) n)
+    (scopeOf (bound bindings few)) (accepted table bindings few) (subst NotExhausted (h .says .tells) n)
     ∙ sym (h .says .tells)

@@ -100,14 +100,14 @@ module _ (w t : List ℕ) (b : Bindings) (name : ℕ) (table literal : List ℕ)
 -- ---- evaluating
 
 module _ (table : List ℕ) (b : Bindings) (fit : (n : ℕ) → Fits (slotOf (b .scope) n)) (steps : ℕ) (lent : Rooms) where
-  accepted-too : Evaluated.accepted table (settledBindings b) steps lent ≡ Evaluated.accepted table b steps lent
+  accepted-too : Evaluated.accepted table (settledBindings b) lent ≡ Evaluated.accepted table b lent
   unfolding Evaluated.accepted
   accepted-too = λ i. _>>=_ (readTable table (lent .literal)) (λ e. ifSound (settled-sound (lent .bindingCells) (lent .bindingText) b i) (got e))
 
   -- Evaluating over settled bindings: the definition's answer is the one over the bindings themselves.
   pub settled-meant : meant table (settledBindings b) steps lent ≡ meant table b steps lent
   unfolding meant
-  settled-meant = λ i. answerRead (limits table b steps lent) (scopeOf (settled-room (lent .bindingCells) (lent .bindingText) b fit i)) (accepted-too i)
+  settled-meant = λ i. answerRead (limits steps lent) (scopeOf (settled-room (lent .bindingCells) (lent .bindingText) b fit i)) (accepted-too i)
 
 -- So evaluations over the two come to the same: what is told, what each cell below the counts holds, every other word and byte.
 pub settled-alike : (table : List ℕ) (b : Bindings) → ((n : ℕ) → Fits (slotOf (b .scope) n)) → (steps : ℕ) (lent : Rooms) (answer other : Answer) (left leftOther : Rooms)
