@@ -2,9 +2,10 @@
 ghost use mathlib.Core.Path.{_≡_};
 ghost use Prim.Native.Nat.{_+_, _<_, _≤_};
 ghost use lib.ListN.{length, getD};
+ghost use Rattle.meaning.specs.Kinds.{nameKind};
 ghost use Rattle.meaning.specs.Limits.{names};
 ghost use Rattle.layout.specs.Layout.{wordAt};
-ghost use Rattle.accepted.specs.Records.{Sound, SoundPart, exprOf};
+ghost use Rattle.accepted.specs.Records.{Sound, SoundPart, exprOf, kindByte};
 ghost use Rattle.machine.specs.Literals.{nameOut};
 ghost use lib.Dec.{eqb, ltb};
 ghost use Rattle.leaves.specs.Leaf.{leafKinds, literalOf, slotIn, leafOut, leafStep, unmarkedAt};
@@ -53,7 +54,7 @@ fn bytes_at(table: &[u8], at: usize) -> Value
 
 // What a literal's record spells.
 fn literal_at(table: &[u8], literal: &[u8], at: usize, kind: u8) -> Value
-    requires { ⌜ Sound (now table) (now literal) at × (getD (now table) at 0 ≡ kind) × (kind < 7) ⌝ }
+    requires { ⌜ Sound (now table) (now literal) at × (getD (now table) at 0 ≡ kind) × (kind < kindByte nameKind) ⌝ }
     ensures { λ r. ⌜ r ≡ literalOf (now (table .entry)) (exprOf (now (table .entry)) (now (literal .entry)) at) ⌝ }
 {
     match kind {

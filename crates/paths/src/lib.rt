@@ -2,10 +2,11 @@
 ghost use mathlib.Core.Path.{_≡_};
 ghost use Prim.Native.Nat.{ℕ, _+_};
 ghost use lib.ListN.{getD};
+ghost use Rattle.meaning.specs.Kinds.{comprehensionKind, conditionalKind};
 ghost use Rattle.meaning.specs.Look.{ofName, named};
 ghost use Rattle.meaning.specs.Meaning.{look};
 ghost use Rattle.layout.specs.Layout.{after};
-ghost use Rattle.accepted.specs.Records.{Sound, exprOf, binaryOf};
+ghost use Rattle.accepted.specs.Records.{Sound, exprOf, kindByte, binaryOf};
 ghost use Rattle.machine.specs.Machine.{appendSum, appendStep};
 ghost use Rattle.loops.specs.Loops.{foldsSeen};
 ghost use Rattle.paths.specs.Paths.{placesAt, foldIn, pathOf, pathSeen, PathIn, itemsSeen, ItemsIn};
@@ -36,7 +37,7 @@ pub struct Places {
 }
 
 pub fn places_at(table: &[u8], literal: &[u8], at: usize, init: usize) -> Places
-    requires { ⌜ Sound (now table) (now literal) at × (getD (now table) at 0 ≡ 15) × (init ≡ after (now table) (at + 5)) ⌝ }
+    requires { ⌜ Sound (now table) (now literal) at × (getD (now table) at 0 ≡ kindByte comprehensionKind) × (init ≡ after (now table) (at + 5)) ⌝ }
     ensures { λ r. ⌜ r ≡ placesAt (now (table .entry)) at ⌝ }
 {
     let condition = end_at(table, init);
@@ -126,7 +127,7 @@ fn items_of(table: &[u8], literal: &[u8], at: usize, accumulator: usize) -> List
 
 // `guard ? accumulator + [..] : accumulator`.
 fn guarded_step(table: &[u8], literal: &[u8], step: usize, accumulator: usize) -> Path
-    requires { ⌜ Sound (now table) (now literal) step × (getD (now table) step 0 ≡ 10) ⌝ }
+    requires { ⌜ Sound (now table) (now literal) step × (getD (now table) step 0 ≡ kindByte conditionalKind) ⌝ }
     ensures { λ r. ⌜ ((limit : ℕ) → pathSeen (now (table .entry)) (now (literal .entry)) limit r ≡ appendStep (now (table .entry)) limit accumulator (exprOf (now (table .entry)) (now (literal .entry)) step)) × PathIn (now (table .entry)) (now (literal .entry)) step r ⌝ }
 {
     let guard = first_operand(table, step);

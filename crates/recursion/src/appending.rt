@@ -1,10 +1,11 @@
 // The append path of a comprehension.
 ghost use Prim.Native.Nat.{_+_, _<_};
 ghost use lib.ListN.{getD};
+ghost use Rattle.meaning.specs.Kinds.{nameKind};
 ghost use Rattle.meaning.specs.Limits.{names};
 ghost use Rattle.rooms.specs.Rooms.{rooms};
 ghost use Rattle.layout.specs.Layout.{wordAt};
-ghost use Rattle.accepted.specs.Records.{Sound};
+ghost use Rattle.accepted.specs.Records.{Sound, kindByte};
 ghost use Rattle.machine.specs.Comprehension.{appendTurns, nothingGathered};
 ghost use Rattle.outcomes.specs.Gives.{Gives};
 ghost use Rattle.paths.specs.Paths.{loopAt, appendAt};
@@ -54,7 +55,7 @@ pub fn appends(
     count: u16,
     each: u16,
 ) -> Outcome
-    requires { ⌜ Sound (now table) (now literal) (places .condition) × (getD (now table) (places .condition) 0 < 7) × Sound (now table) (now literal) guard × Sound (now table) (now literal) list × (wordAt (now table) (guard + 1) < wordAt (now table) (at + 1)) × (wordAt (now table) (list + 1) < wordAt (now table) (at + 1)) × (places .item < names) ⌝ }
+    requires { ⌜ Sound (now table) (now literal) (places .condition) × (getD (now table) (places .condition) 0 < kindByte nameKind) × Sound (now table) (now literal) guard × Sound (now table) (now literal) list × (wordAt (now table) (guard + 1) < wordAt (now table) (at + 1)) × (wordAt (now table) (list + 1) < wordAt (now table) (at + 1)) × (places .item < names) ⌝ }
     ensures { λ r. ⌜ Gives r (now (literal .entry)) (now («binding_cells» .entry)) (now («binding_text» .entry)) (now (cells .exit)) (now (text .exit)) (appendTurns (loopAt (now (table .entry)) (now (literal .entry)) limit at places) (appendAt (now (table .entry)) (now (literal .entry)) limit guarded guard list) space each count first nothingGathered scope used (rooms (now (literal .entry)) (now («binding_cells» .entry)) (now («binding_text» .entry)) (now (cells .entry)) (now (text .entry)))) ⌝ }
 {
     let item = places.item;

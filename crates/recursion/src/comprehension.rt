@@ -3,10 +3,11 @@ ghost use mathlib.Core.Path.{_≡_};
 ghost use mathlib.Core.Option.{none};
 ghost use Prim.Native.Nat.{_<_};
 ghost use lib.ListN.{getD};
+ghost use Rattle.meaning.specs.Kinds.{comprehensionKind};
 ghost use Rattle.meaning.specs.Limits.{names};
 ghost use Rattle.rooms.specs.Rooms.{rooms};
 ghost use Rattle.rooms.specs.Scope.{stored};
-ghost use Rattle.accepted.specs.Records.{Sound, exprOf};
+ghost use Rattle.accepted.specs.Records.{Sound, exprOf, kindByte};
 ghost use Rattle.machine.specs.Comprehension.{finish, turns};
 ghost use Rattle.machine.specs.Machine.{body, machine};
 ghost use Rattle.outcomes.specs.Gives.{Gives};
@@ -56,7 +57,7 @@ pub fn comprehend(
     scope: Scope,
     used: Used,
 ) -> Outcome
-    requires { ⌜ Sound (now table) (now literal) at × (getD (now table) at 0 ≡ 15) ⌝ }
+    requires { ⌜ Sound (now table) (now literal) at × (getD (now table) at 0 ≡ kindByte comprehensionKind) ⌝ }
     ensures { λ r. ⌜ Gives r (now (literal .entry)) (now («binding_cells» .entry)) (now («binding_text» .entry)) (now (cells .exit)) (now (text .exit)) (body (now (table .entry)) limit (exprOf (now (table .entry)) (now (literal .entry)) at) scope used (rooms (now (literal .entry)) (now («binding_cells» .entry)) (now («binding_text» .entry)) (now (cells .entry)) (now (text .entry)))) ⌝ }
 {
     let over = first_operand(table, at);

@@ -2,9 +2,10 @@
 ghost use mathlib.Core.Path.{_≡_};
 ghost use Prim.Native.Nat.{_+_};
 ghost use lib.ListN.{getD};
+ghost use Rattle.meaning.specs.Kinds.{mapKind};
 ghost use Rattle.rooms.specs.Rooms.{rooms};
 ghost use Rattle.layout.specs.Layout.{wordAt};
-ghost use Rattle.accepted.specs.Records.{Sound, pairsOf};
+ghost use Rattle.accepted.specs.Records.{Sound, kindByte, pairsOf};
 ghost use Rattle.machine.specs.Machine.{entries};
 ghost use Rattle.outcomes.specs.Gives.{Gives};
 use crate::eval::eval;
@@ -41,7 +42,7 @@ pub fn map_parts(
     first: u16,
     count: u16,
 ) -> Outcome
-    requires { ⌜ Sound (now table) (now literal) at × (getD (now table) at 0 ≡ 13) × (count ≡ wordAt (now table) (at + 3)) ⌝ }
+    requires { ⌜ Sound (now table) (now literal) at × (getD (now table) at 0 ≡ kindByte mapKind) × (count ≡ wordAt (now table) (at + 3)) ⌝ }
     ensures { λ r. ⌜ Gives r (now (literal .entry)) (now («binding_cells» .entry)) (now («binding_text» .entry)) (now (cells .exit)) (now (text .exit)) (entries (now (table .entry)) limit at (pairsOf (now (table .entry)) (now (literal .entry)) count (at + 5)) scope first 0 0 used (rooms (now (literal .entry)) (now («binding_cells» .entry)) (now («binding_text» .entry)) (now (cells .entry)) (now (text .entry)))) ⌝ }
 {
     let mut place = first_operand(table, at);
