@@ -2,9 +2,25 @@
 ghost use mathlib.Core.Path.{_≡_};
 ghost use Rattle.rooms.specs.Value.{plainOf};
 ghost use Rattle.reading.specs.Values.{kindOf, truthIn};
+use layout::kinds::BOOL;
+use layout::kinds::BYTES;
+use layout::kinds::DOUBLE;
+use layout::kinds::INT;
+use layout::kinds::LIST;
+use layout::kinds::MAP;
+use layout::kinds::NULL;
+use layout::kinds::STRING;
+use layout::kinds::UINT;
 use rooms::value::Plain;
 use rooms::value::Value;
 use rooms::value::plain_of;
+
+// The kinds that no table spells: none, a present Optional, and no value. The others have their numbers in a table.
+const OPTIONAL_NONE: u8 = 14;
+
+const OPTIONAL_OF: u8 = 15;
+
+const ABSENT: u8 = 16;
 
 pub enum Truth {
     Is(bool),
@@ -16,19 +32,19 @@ pub fn kind_of(value: Value) -> u8
     ensures { λ r. ⌜ r ≡ kindOf value ⌝ }
 {
     match value {
-        Value::Null => 0,
-        Value::Bool(_) => 1,
-        Value::Int(_) => 2,
-        Value::Uint(_) => 3,
-        Value::Double(_) => 4,
-        Value::Nan(_) => 4,
-        Value::String(_, _, _) => 5,
-        Value::Bytes(_, _, _) => 6,
-        Value::List(_, _, _, _) => 12,
-        Value::Map(_, _, _, _) => 13,
-        Value::OptionalNone => 14,
-        Value::OptionalOf(_, _, _) => 15,
-        Value::Absent => 16,
+        Value::Null => NULL,
+        Value::Bool(_) => BOOL,
+        Value::Int(_) => INT,
+        Value::Uint(_) => UINT,
+        Value::Double(_) => DOUBLE,
+        Value::Nan(_) => DOUBLE,
+        Value::String(_, _, _) => STRING,
+        Value::Bytes(_, _, _) => BYTES,
+        Value::List(_, _, _, _) => LIST,
+        Value::Map(_, _, _, _) => MAP,
+        Value::OptionalNone => OPTIONAL_NONE,
+        Value::OptionalOf(_, _, _) => OPTIONAL_OF,
+        Value::Absent => ABSENT,
     }
 }
 

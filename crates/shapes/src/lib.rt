@@ -8,19 +8,18 @@ ghost use Rattle.shapes.specs.Shape.{numberWord, spanWords, shapeOf, par
 use extents::Span;
 use extents::count_of;
 use extents::text_of;
+use layout::kinds::DOUBLE;
 use overlay::hand;
 use overlay::words_of;
 use packing::text_number;
 use reading::kind_of;
 use rooms::value::Value;
 
-// The kinds up to this one are Null, Bools and numbers.
-const DOUBLE: u8 = 4;
-
 fn number_word(value: Value) -> u64
     ensures { λ r. ⌜ r ≡ numberWord value ⌝ }
 {
     let words = words_of(value);
+    // the kinds up to this one are Null, Bools and numbers
     if DOUBLE < kind_of(value) {
         return 0;
     }
