@@ -2,8 +2,9 @@
 ghost use mathlib.Core.Path.{_≡_};
 ghost use Prim.Native.Nat.{_+_, _≤_};
 ghost use lib.ListN.{length};
+ghost use Rattle.meaning.specs.Kinds.{selectKind};
 ghost use Rattle.rooms.specs.Rooms.{rooms};
-ghost use Rattle.accepted.specs.Records.{Sound, exprOf};
+ghost use Rattle.accepted.specs.Records.{Sound, exprOf, headOfKind};
 ghost use Rattle.machine.specs.Literals.{fieldValue};
 ghost use Rattle.forms.specs.Records.{shapeOf, NextIn, nextOf};
 use crate::applied::call;
@@ -26,7 +27,7 @@ mod applied;
 mod unaries;
 
 fn field_value(table: &[u8], at: usize) -> Value
-    requires { ⌜ at + 8 ≤ length (now table) ⌝ }
+    requires { ⌜ at + headOfKind selectKind ≤ length (now table) ⌝ }
     ensures { λ r. ⌜ r ≡ fieldValue (now (table .entry)) at ⌝ }
 {
     let span = field_at(table, at);
