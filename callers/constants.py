@@ -44,10 +44,10 @@ def equations(path: str, function: str) -> Numbers:
     return {case: int(number) for case, number in rows}
 
 
-def arms(path: str, kind: str) -> Numbers:
-    """`Kind::Case => number` of code."""
-    rows = found(rf"^ +{kind}::(\w+)(?:\([_, ]*\))? => (\d+),$", source(path), path)
-    return {case: int(number) for case, number in rows}
+def arms(path: str, kind: str, names: "Numbers | None" = None) -> Numbers:
+    """`Kind::Case => number` of code, or the name of a number."""
+    rows = found(rf"^ +{kind}::(\w+)(?:\([_, ]*\))? => (\w+),$", source(path), path)
+    return {case: int(number) if number.isdigit() else (names or {})[number] for case, number in rows}
 
 
 def declared(path: str) -> Numbers:
@@ -140,13 +140,13 @@ def kinds() -> "list[Numbers]":
     code = declared("crates/packing/src/lib.rt")
     code["NOTHING"] = code.pop("ABSENT")
     specs = of(equations("crates/reading/specs/Values.antt", "kindOf"), "kindOf")
-    return [specs, of(arms("crates/reading/src/lib.rt", "Value"), "kind_of"), code]
+    names = {**declared("crates/layout/src/kinds.rt"), **declared("crates/reading/src/lib.rt")}
+    return [specs, of(arms("crates/reading/src/lib.rt", "Value", names), "kind_of"), code]
 
 
 def spaces() -> "list[Numbers]":
     specs = equations("crates/rooms/specs/Cells.antt", "textNumber")
-    code = [arms(f"crates/{crate}/src/lib.rt", "TextSpace") for crate in ("packing", "shapes")]
-    return [prefixed("SPACE_", numbers) for numbers in (specs, *code)]
+    return [prefixed("SPACE_", numbers) for numbers in (specs, arms("crates/packing/src/lib.rt", "TextSpace"))]
 
 
 def most() -> "list[Numbers]":
@@ -192,11 +192,11 @@ def shapes() -> "list[Numbers]":
     specs = laid_out("SHAPE", positions(whole, meant, where))
     where = "crates/shapes/src/lib.rt"
     words, = found(r"^    let words = \[(.*)\];$", source(where), where)
-    spans, = found(r"=> \[(space_number.*)\],$", source(where), where)
+    spans, = found(r"=> \[(text_number.*)\],$", source(where), where)
     span = dict(zip(("span[0]", "span[1]", "span[2]"), spans.split(", ")))
     whole = [span.get(word, word) for word in words.split(", ")]
     meant = {
-        "kind as u64": "KIND", "number": "NUMBER", "space_number(space)": "SPACE", "first as u64": "FIRST", "length as u64": "LENGTH",
+        "kind as u64": "KIND", "number": "NUMBER", "text_number(space)": "SPACE", "first as u64": "FIRST", "length as u64": "LENGTH",
         "count as u64": "COUNT",
     }
     return [specs, laid_out("SHAPE", positions(whole, meant, where))]
