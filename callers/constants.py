@@ -140,8 +140,12 @@ def kinds() -> "list[Numbers]":
     code = declared("crates/packing/src/lib.rt")
     code["NOTHING"] = code.pop("ABSENT")
     specs = of(equations("crates/reading/specs/Values.antt", "kindOf"), "kindOf")
-    names = {**declared("crates/layout/src/kinds.rt"), **declared("crates/reading/src/lib.rt")}
-    return [specs, of(arms("crates/reading/src/lib.rt", "Value", names), "kind_of"), code]
+    where = "crates/reading/src/lib.rt"
+    # a name of the table's kinds, brought in under that name, or of the reader's own
+    brought = found(r"^use layout::kinds::(\w+);$", source(where), where)
+    table = declared("crates/layout/src/kinds.rt")
+    names = {**{name: table[name] for name in brought}, **declared(where)}
+    return [specs, of(arms(where, "Value", names), "kind_of"), code]
 
 
 def spaces() -> "list[Numbers]":
@@ -193,6 +197,7 @@ def shapes() -> "list[Numbers]":
     where = "crates/shapes/src/lib.rt"
     words, = found(r"^    let words = \[(.*)\];$", source(where), where)
     spans, = found(r"=> \[(text_number.*)\],$", source(where), where)
+    found(r"^use packing::text_number;$", source(where), where)
     span = dict(zip(("span[0]", "span[1]", "span[2]"), spans.split(", ")))
     whole = [span.get(word, word) for word in words.split(", ")]
     meant = {

@@ -101,7 +101,8 @@ counted-told (ran (Limited.error e c)) = refl
 counted-told (ran (Limited.exhausted x c)) = refl
 
 -- Even what it says in the definition's terms alone leaves one answer: what it tells, what each cell below the counts holds, and every
--- other word and byte. (This part leaves open only where the parts of the value and of those cells lie, and so which words spell them.)
+-- other word and byte. (This part leaves open only how the value and those cells are spelled: where text and parts lie, and which nesting
+-- is carried, if it is not less than the true one.)
 pub says-alike : (m : Answered) (lent lentOther : Rooms) (answer other : Answer) (left leftOther : Rooms)
     → lent .cells ≡ lentOther .cells → lent .text ≡ lentOther .text
     → Says m lent answer left → Says m lentOther other leftOther → Alike answer left other leftOther

@@ -146,7 +146,7 @@ addRun false g first n d =
 abbrev pub Gathering : Type 0
 Gathering = Gathered → Used → Rooms → Res
 
--- as many cells as the item adds elements, and at once a copy of each; an item of the append path is a List, so the other arms are never taken
+-- as many cells as the item adds elements, and at once a copy of each; what it adds is the value of a List record, so the other arms are never taken
 abbrev pub gatherParts : Value → Gathered → Parts → Used → Rooms → Gathering → Res
 gatherParts v g (Parts.Elements s a n) u r k =
     taking n u r (λ w q. k (addRun (eqb n 0) g (u .cells) n (nestingOf v)) w (withWords q (copied (q .bindingCells) s (q .cells) a (u .cells) n)))
