@@ -1,0 +1,12 @@
+-- `spelled_room` meets its contract, by the length of a repeated byte: no list of that length is written out. Assumes nothing.
+use Prim.Native.Nat.{ℕ}
+use mathlib.Core.Path.{sym}
+use lib.ListN.{length-replicate}
+use Rattle.replay.proofs.spelled_room.Statement.{statement}
+use Rattle.replay.proofs.spelled_room.Tie as tie
+
+returns : tie.Need-returns
+returns c = sym {A = ℕ} {b = 262144} (length-replicate {0} {A = ℕ} 262144 0)
+
+pub spelled-room-spec : {M : Type 1} → statement M
+spelled-room-spec = tie.close (tie.spec returns)
