@@ -93,21 +93,21 @@ def laid_out(prefix: str, places: Numbers) -> Numbers:
 
 
 def answers() -> "list[Numbers]":
-    specs = {name.removeprefix("which"): number for name, number in named("crates/reports/specs/Report.antt").items()}
-    code = declared("crates/reports/src/lib.rt")
+    specs = {name.removeprefix("which"): number for name, number in named("crates/board_words/specs/Answers.antt").items()}
+    code = declared("crates/board_words/src/answers.rt")
     words = code.pop("ANSWER_WORDS")
     meant = {
         "which": "WHICH", "number": "NUMBER", "place": "PLACE", "u .steps": "STEPS", "u .cells": "CELLS", "u .bytes": "BYTES",
         "headOf v": "HEAD", "payloadOf v": "PAYLOAD",
     }
-    layout = laid_out("ANSWER", positions(listed("crates/reports/specs/Report.antt", "report"), meant, "report"))
-    no_room = {"NO_ROOM": named("crates/overlay/specs/Over.antt")["noRoom"]}
-    code |= declared("crates/overlay/src/lib.rt") | layout | {"ANSWER_WORDS": words}
+    layout = laid_out("ANSWER", positions(listed("crates/board_words/specs/Answers.antt", "report"), meant, "report"))
+    no_room = {"NO_ROOM": named("crates/board_words/specs/Overlay.antt")["noRoom"]}
+    code |= declared("crates/board_words/src/overlay.rt") | layout | {"ANSWER_WORDS": words}
     return [prefixed("", specs) | no_room | layout, code]
 
 
 def refusals() -> "list[Numbers]":
-    code = declared("crates/heads/src/refusals.rt")
+    code = declared("crates/table_check/src/refusals.rt")
     for other in ("NO_FAULT", "LONGEST_TABLE", "RECORD_LEVELS"):
         code.pop(other)
     specs = equations("crates/meaning/specs/Errors.antt", "refusalNumber")
@@ -117,17 +117,17 @@ def refusals() -> "list[Numbers]":
 def errors() -> "list[Numbers]":
     where = "crates/meaning/specs/Errors.antt"
     of_meaning = {case: int(number) for case, number in found(r"^errorNumber \(?([\w ]+?)\)? = (\d+)$", source(where), where)}
-    where = "crates/reasons/specs/Numbers.antt"
+    where = "crates/answer/specs/Numbers.antt"
     meant = dict(found(r"^errorMeant Error\.(\w+) = Errors\.([\w ]+)$", source(where), where))
     arithmetic = equations("crates/numbers/specs/Error.antt", "numberOf")
     specs = {case: of_meaning[meaning] for case, meaning in meant.items()} | arithmetic
-    code = arms("crates/reasons/src/lib.rt", "Error") | arms("crates/numbers/src/error.rt", "ArithmeticError")
+    code = arms("crates/answer/src/reasons.rt", "Error") | arms("crates/numbers/src/error.rt", "ArithmeticError")
     return [prefixed("ERROR_", specs), prefixed("ERROR_", code)]
 
 
 def limits_exhausted() -> "list[Numbers]":
-    specs = equations("crates/reasons/specs/Numbers.antt", "limitNumber")
-    return [prefixed("LIMIT_", specs), prefixed("LIMIT_", arms("crates/reasons/src/lib.rt", "Limit"))]
+    specs = equations("crates/answer/specs/Numbers.antt", "limitNumber")
+    return [prefixed("LIMIT_", specs), prefixed("LIMIT_", arms("crates/answer/src/reasons.rt", "Limit"))]
 
 
 def kinds() -> "list[Numbers]":
@@ -137,20 +137,20 @@ def kinds() -> "list[Numbers]":
         numbers["Nothing"] = numbers.pop("Absent")
         return prefixed("", numbers)
 
-    code = declared("crates/packing/src/lib.rt")
+    code = declared("crates/rooms_cells/src/packing.rt")
     code["NOTHING"] = code.pop("ABSENT")
-    specs = of(equations("crates/reading/specs/Values.antt", "kindOf"), "kindOf")
-    where = "crates/reading/src/lib.rt"
+    specs = of(equations("crates/answer_values/specs/Kinds.antt", "kindOf"), "kindOf")
+    where = "crates/answer_values/src/kinds.rt"
     # a name of the table's kinds, brought in under that name, or of the reader's own
     brought = found(r"^use layout::kinds::(\w+);$", source(where), where)
-    table = declared("crates/layout/src/kinds.rt")
+    table = declared("crates/table_layout/src/kinds.rt")
     names = {**{name: table[name] for name in brought}, **declared(where)}
     return [specs, of(arms(where, "Value", names), "kind_of"), code]
 
 
 def spaces() -> "list[Numbers]":
     specs = equations("crates/rooms/specs/Cells.antt", "textNumber")
-    return [prefixed("SPACE_", numbers) for numbers in (specs, arms("crates/packing/src/lib.rt", "TextSpace"))]
+    return [prefixed("SPACE_", numbers) for numbers in (specs, arms("crates/rooms_cells/src/packing.rt", "TextSpace"))]
 
 
 def most() -> "list[Numbers]":
@@ -160,20 +160,20 @@ def most() -> "list[Numbers]":
         "shortestTable": "", "byteNumbers": "",  # no caller's concern
     }
     specs = renamed(named("crates/meaning/specs/Limits.antt"), names, "Limits.antt")
-    table = declared("crates/heads/src/refusals.rt")
-    rooms = declared("crates/building/src/lib.rt")
+    table = declared("crates/table_check/src/refusals.rt")
+    rooms = declared("crates/rooms_taking/src/lib.rt")
     code = {
         "MOST_TABLE_BYTES": table["LONGEST_TABLE"], "MOST_RECORD_NESTING": table["RECORD_LEVELS"],
         "MOST_VALUE_NESTING": declared("crates/rooms/src/value.rt")["DEEPEST"],
         "NAMES": declared("crates/rooms/src/scope.rt")["NAMES"],
-        "MOST_STEPS": declared("crates/answers/src/lib.rt")["MOST_STEPS"],
+        "MOST_STEPS": declared("crates/answer/src/lib.rt")["MOST_STEPS"],
         "MOST_CELLS": rooms["MOST_CELLS"], "MOST_TEXT_BYTES": rooms["MOST_BYTES"],
     }
     return [specs, code]
 
 
 def states() -> "list[Numbers]":
-    where = "crates/slots/specs/State.antt"
+    where = "crates/board_state/specs/State.antt"
     (words, mark, names), = found(r"^isState w = eqb \(length w\) (\w+) && eqb \(getD w (\w+) 0\) (\w+)$", source(where), where)
     (cells, used), = found(r"record \{ scope = scopeIn w; cells = getD w (\w+) 0; bytes = getD w (\w+) 0 \}", source(where), where)
     nothing, = found(r"eqb \(getD w \(i \* 2\) 0\) (\w+)", source(where), where)
@@ -183,18 +183,18 @@ def states() -> "list[Numbers]":
         "STATE_WORDS": "STATE_WORDS", "CELLS_AT": "STATE_CELLS", "BYTES_AT": "STATE_BYTES", "SLOTS_AT": "STATE_MARK", "SLOTS": "NAMES",
         "ABSENT": "NOTHING",
     }
-    return [{of: said[word] for word, of in meant.items()}, renamed(declared("crates/slots/src/lib.rt"), called, "slots")]
+    return [{of: said[word] for word, of in meant.items()}, renamed(declared("crates/board_state/src/lib.rt"), called, "slots")]
 
 
 def shapes() -> "list[Numbers]":
-    where = "crates/shapes/specs/Shape.antt"
+    where = "crates/board_words/specs/Shapes.antt"
     (first, last), = found(r"^shapeOf v = (.*) ∷ \(spanWords \(spanIn \(plainOf v\)\) \+\+ (.*) ∷ \[\]\)$", source(where), where)
     whole = first.split(" ∷ ") + listed(where, r"spanWords \(Span\.At") + [last]
     meant = {
         "kindOf v": "KIND", "numberWord v": "NUMBER", "textNumber s": "SPACE", "a": "FIRST", "n": "LENGTH", "countIn (partsOf v)": "COUNT",
     }
     specs = laid_out("SHAPE", positions(whole, meant, where))
-    where = "crates/shapes/src/lib.rt"
+    where = "crates/board_words/src/shapes.rt"
     words, = found(r"^    let words = \[(.*)\];$", source(where), where)
     spans, = found(r"=> \[(text_number.*)\],$", source(where), where)
     found(r"^use packing::text_number;$", source(where), where)
@@ -208,7 +208,7 @@ def shapes() -> "list[Numbers]":
 
 
 def parts() -> "list[Numbers]":
-    where = "crates/shapes/specs/Shape.antt"
+    where = "crates/board_words/specs/Shapes.antt"
     return [laid_out("PART", positions(listed(where, "partOf"), {"headOf v": "HEAD", "payloadOf v": "PAYLOAD"}, where))]
 
 

@@ -21,7 +21,7 @@ NAME = re.compile(rf"\b{PREFIX}\w+")
 COMMENT = re.compile(r"/\*.*?\*/", re.S)
 
 CELLS = "crates/rooms/specs/Cells.antt"
-SHAPES = "crates/shapes/specs/Shape.antt"
+SHAPES = "crates/board_words/specs/Shapes.antt"
 LIBRARY = "crates/board/src/lib.rt"
 
 
@@ -52,7 +52,7 @@ def of_cells() -> "list[str]":
 
 
 def of_answers() -> "list[str]":
-    reports, sound = "crates/reports/specs/Report.antt", "crates/soundness/specs/Sound.antt"
+    reports, sound = "crates/board_words/specs/Answers.antt", "crates/bindings_sound/specs/Sound.antt"
     nothing = {int(number) for number in re.findall(r"= (\d+)[; ]", found(r"^nothingUsed = (record .*)$", source(reports), reports)[0])}
     number, place = found(r"^done = report whichDone (\d+) (\d+) nothingUsed Value\.Absent$", source(reports), reports)[0]
     if nothing != {int(number)} or number != place:
@@ -62,7 +62,7 @@ def of_answers() -> "list[str]":
 
 
 def of_shapes() -> "list[str]":
-    bits, counts = equations(CELLS, "bitOf"), equations("crates/extents/specs/Extents.antt", "countIn")
+    bits, counts = equations(CELLS, "bitOf"), equations("crates/answer_values/specs/SpansAndCounts.antt", "countIn")
     number = equations(SHAPES, "numberOr")["NoNumber"]
     no_text = one(r"^spanWords Span\.NoText = (\d+) ∷ \1 ∷ \1 ∷ \[\]$", SHAPES)
     return [

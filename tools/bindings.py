@@ -1,7 +1,7 @@
 #!/usr/bin/env python3
 """Makes the list of binding rooms of the program `binds`, and the answers that it must give.
 
-    tools/bindings.py                 writes crates/binds/stdin and crates/binds/stdout
+    tools/bindings.py                 writes crates/test_bindings/stdin and crates/test_bindings/stdout
     tools/bindings.py --against FILE  names the lines in which FILE, what a run wrote, differs from the answers
 
 Rooms are modelled here word by word, from docs/FORMAT.md; tables are read by the model in tools/rules. Nothing is taken from the code.
@@ -21,7 +21,7 @@ from functools import cache
 from pathlib import Path
 
 TOOLS = Path(__file__).resolve().parent
-CRATE = TOOLS.parent / "crates" / "binds"
+CRATE = TOOLS.parent / "crates" / "test_bindings"
 sys.path.insert(0, str(TOOLS / "rules"))
 
 from assemble import (Node, assemble, bits, byte_string, double, false, integer, listing, mapping, mark, name, negation, none,

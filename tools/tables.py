@@ -1,7 +1,7 @@
 #!/usr/bin/env python3
 """Makes the list of node tables of the program `tables`, and the answers that it must give.
 
-    tools/tables.py                 writes crates/tables/stdin and crates/tables/stdout
+    tools/tables.py                 writes crates/test_tables/stdin and crates/test_tables/stdout
     tools/tables.py --against FILE  names the lines in which FILE, what a run wrote, differs from the answers
 
 The answers are those of the model in tools/rules, which knows nothing of the code; the rows of KNOWN are written by hand.
@@ -17,7 +17,7 @@ from functools import cache
 from pathlib import Path
 
 TOOLS = Path(__file__).resolve().parent
-CRATE = TOOLS.parent / "crates" / "tables"
+CRATE = TOOLS.parent / "crates" / "test_tables"
 sys.path.insert(0, str(TOOLS / "rules"))
 
 from assemble import (Node, assemble, binary, both, comprehension, conditional, either, has,

@@ -1,7 +1,7 @@
 #!/usr/bin/env python3
 """Makes the list of cases of the program `vectors`, and the answers that it must give.
 
-    tools/vectors.py                 writes crates/vectors/stdin and crates/vectors/stdout
+    tools/vectors.py                 writes crates/test_numbers/stdin and crates/test_numbers/stdout
     tools/vectors.py --check         compares the answers with this machine's floats and its UTF-8 decoder
     tools/vectors.py --against FILE  names the lines in which FILE, what a run wrote, differs from the answers
 
@@ -21,7 +21,7 @@ from fractions import Fraction
 from itertools import product
 from pathlib import Path
 
-CRATE = Path(__file__).resolve().parent.parent / "crates" / "vectors"
+CRATE = Path(__file__).resolve().parent.parent / "crates" / "test_numbers"
 LONGEST_LIST = 524287  # bytes that the program has room for
 
 LIMITS = {"int": (-(2**63), 2**63 - 1), "uint": (0, 2**64 - 1)}

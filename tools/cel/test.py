@@ -1,7 +1,7 @@
 #!/usr/bin/env python3
 """Tests of the tools for tables: `python3 tools/cel/test.py`. Ends with the number of checks, or names what failed.
 
-Rows by hand for tokens, precedence, macros and records; round trips over the stored tables of crates/tables and over the
+Rows by hand for tokens, precedence, macros and records; round trips over the stored tables of crates/test_tables and over the
 families of tools/rules, damaged tables included.
 """
 
@@ -159,13 +159,13 @@ def round_trip(table: bytes, text: bytes) -> None:
 
 
 def spelled_out(word: str) -> bytes:
-    """A word of crates/tables/stdin."""
+    """A word of crates/test_tables/stdin."""
     pieces = [] if word == "-" else [piece.partition("*") for piece in word.split("+")]
     return b"".join(bytes.fromhex(digits) * int(times or 1) for digits, _, times in pieces)
 
 
 def stored_tables() -> None:
-    for line in (paths.ROOT / "crates" / "tables" / "stdin").read_text().splitlines():
+    for line in (paths.ROOT / "crates" / "test_tables" / "stdin").read_text().splitlines():
         words = line.split(" ")
         if len(words) == 2:
             round_trip(*map(spelled_out, words))

@@ -3,11 +3,11 @@
 ghost use mathlib.Core.Path.{_≡_};
 ghost use Prim.Native.Nat.{_<_};
 ghost use lib.ListN.{length};
-use lending::bytes_of;
 use libc::STDIN_FILENO;
 use libc::STDOUT_FILENO;
-use lines::LONGEST_LINE;
-use lines::put_answer;
+use line_answers::LONGEST_LINE;
+use line_answers::put_answer;
+use program_memory::before_run::bytes_of;
 
 // The length, the longest text, and one byte more than the longest table, by which a longer one is seen.
 const INPUT: usize = 2 + 65535 + 16385;

@@ -1,11 +1,14 @@
 // Bindings are brought into a room from tables of literals, refused, and emptied. A refusal changes nothing that is lent.
+pub mod admission;
+pub mod laying;
+
 ghost use mathlib.Core.Path.{_≡_};
-ghost use Rattle.admission.specs.Bringing.{Outcome, outcomeOf, emptied};
-use admission::Answer;
-use admission::Brought;
-use admission::judge_all;
+ghost use Rattle.bindings.specs.Bringing.{Outcome, outcomeOf, emptied};
+use crate::admission::Answer;
+use crate::admission::Brought;
+use crate::admission::judge_all;
+use bindings_sound::Bindings;
 use rooms::scope::Scope;
-use soundness::Bindings;
 
 // Brings in the value that a table spells, under a name that has none.
 pub fn bring_in(
@@ -25,7 +28,7 @@ pub fn bring_in(
             bindings,
         };
     }
-    let laid = laid::lay(
+    let laid = crate::laying::lay(
         table,
         literal,
         cells,

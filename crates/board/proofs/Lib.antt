@@ -1,2 +1,2 @@
 -- What the proof of an evaluation uses.
-pub mod Boarding
+pub mod EvaluationSteps

@@ -5,24 +5,24 @@ ghost use Prim.Native.Nat.{ℕ};
 ghost use Rattle.rooms.specs.Rooms.{rooms};
 ghost use Rattle.rooms.specs.Cells.{cellOf};
 ghost use Rattle.rooms.specs.Value.{partsOf};
-ghost use Rattle.elements.specs.Elements.{elementIn, presentIn};
-ghost use Rattle.entries.specs.Entries.{keyIn, valueIn};
-ghost use Rattle.answers.specs.Meant.{Evaluates};
-ghost use Rattle.slots.specs.State.{bindingsIn};
-ghost use Rattle.stowing.specs.Stowing.{BindingRoom, bindingRoom};
-ghost use Rattle.intake.specs.Intake.{checks, empties, brings};
-ghost use Rattle.readout.specs.ReadOut.{reads, readsPart};
-ghost use Rattle.reports.specs.Evaluation.{EvaluatesInto};
-use answers::Answer;
-use overlay::NO_ROOM;
-use reports::ANSWER_WORDS;
+ghost use Rattle.answer_values.specs.Elements.{elementIn, presentIn};
+ghost use Rattle.answer_values.specs.Entries.{keyIn, valueIn};
+ghost use Rattle.answer.specs.Meant.{Evaluates};
+ghost use Rattle.board_state.specs.State.{bindingsIn};
+ghost use Rattle.board_state.specs.Bringing.{BindingRoom, bindingRoom};
+ghost use Rattle.board_calls.specs.Intake.{checks, empties, brings};
+ghost use Rattle.board_calls.specs.ReadOut.{reads, readsPart};
+ghost use Rattle.board_words.specs.Evaluation.{EvaluatesInto};
+use answer::Answer;
+use board_words::answers::ANSWER_WORDS;
+use board_words::overlay::NO_ROOM;
 
 // Whether a table is accepted, with its literal text.
 #[no_mangle]
 pub extern "C" fn ombravelik_check(table: &[u8], literal: &[u8], answer: &mut [u64]) -> u8
     ensures { λ r. ⌜ _≡_ {A = ℕ × List ℕ} (r, now (answer .exit)) (checks (now (table .entry)) (now (literal .entry)) (now (answer .entry))) ⌝ }
 {
-    intake::check(table, literal, answer)
+    board_calls::intake::check(table, literal, answer)
 }
 
 // A state of no bindings, whatever it was.
@@ -30,7 +30,7 @@ pub extern "C" fn ombravelik_check(table: &[u8], literal: &[u8], answer: &mut [u
 pub extern "C" fn ombravelik_empty(state: &mut [u64]) -> u8
     ensures { λ r. ⌜ _≡_ {A = ℕ × List ℕ} (r, now (state .exit)) (empties (now (state .entry))) ⌝ }
 {
-    intake::empty(state)
+    board_calls::intake::empty(state)
 }
 
 // Brings the value that a table spells into a binding room, under a name that has none.
@@ -46,7 +46,7 @@ pub extern "C" fn ombravelik_bring_in(
 ) -> u8
     ensures { λ r. ⌜ _≡_ {A = (ℕ × List ℕ) × BindingRoom} ((r, now (answer .exit)), bindingRoom (now (state .exit)) (now («binding_cells» .exit)) (now («binding_text» .exit))) (brings (bindingRoom (now (state .entry)) (now («binding_cells» .entry)) (now («binding_text» .entry))) name (now (table .entry)) (now (literal .entry)) (now (answer .entry))) ⌝ }
 {
-    intake::bring_in(
+    board_calls::intake::bring_in(
         state,
         binding_cells,
         binding_text,
@@ -70,7 +70,7 @@ fn evaluate_over(
 ) -> Answer
     ensures { λ r. ⌜ Evaluates (now (table .entry)) (bindingsIn (now (state .entry))) steps (rooms (now (literal .entry)) (now («binding_cells» .entry)) (now («binding_text» .entry)) (now (cells .entry)) (now (text .entry))) r (rooms (now (literal .entry)) (now («binding_cells» .entry)) (now («binding_text» .entry)) (now (cells .exit)) (now (text .exit))) ⌝ }
 {
-    let bindings = slots::bindings_in(state);
+    let bindings = board_state::bindings_in(state);
     evaluator::evaluate(
         table,
         literal,
@@ -111,7 +111,7 @@ pub extern "C" fn ombravelik_evaluate(
         text,
         steps,
     );
-    reports::put_answer(answer, said)
+    board_words::answers::put_answer(answer, said)
 }
 
 // What a value is by itself.
@@ -119,7 +119,7 @@ pub extern "C" fn ombravelik_evaluate(
 pub extern "C" fn ombravelik_read(head: u64, payload: u64, shape: &mut [u64]) -> u8
     ensures { λ r. ⌜ _≡_ {A = ℕ × List ℕ} (r, now (shape .exit)) (reads (cellOf head payload) (now (shape .entry))) ⌝ }
 {
-    readout::read(head, payload, shape)
+    board_calls::readout::read(head, payload, shape)
 }
 
 // Element `index` of a List.
@@ -134,7 +134,7 @@ pub extern "C" fn ombravelik_element(
 ) -> u8
     ensures { λ r. ⌜ _≡_ {A = ℕ × List ℕ} (r, now (part .exit)) (readsPart (elementIn (now («binding_cells» .entry)) (now (cells .entry)) (partsOf (cellOf head payload)) index) (now (part .entry))) ⌝ }
 {
-    readout::element(binding_cells, cells, head, payload, index, part)
+    board_calls::readout::element(binding_cells, cells, head, payload, index, part)
 }
 
 // The key of entry `index` of a Map.
@@ -149,7 +149,7 @@ pub extern "C" fn ombravelik_key(
 ) -> u8
     ensures { λ r. ⌜ _≡_ {A = ℕ × List ℕ} (r, now (part .exit)) (readsPart (keyIn (now («binding_cells» .entry)) (now (cells .entry)) (partsOf (cellOf head payload)) index) (now (part .entry))) ⌝ }
 {
-    readout::key(binding_cells, cells, head, payload, index, part)
+    board_calls::readout::key(binding_cells, cells, head, payload, index, part)
 }
 
 // The value of entry `index` of a Map.
@@ -164,7 +164,7 @@ pub extern "C" fn ombravelik_value(
 ) -> u8
     ensures { λ r. ⌜ _≡_ {A = ℕ × List ℕ} (r, now (part .exit)) (readsPart (valueIn (now («binding_cells» .entry)) (now (cells .entry)) (partsOf (cellOf head payload)) index) (now (part .entry))) ⌝ }
 {
-    readout::value(binding_cells, cells, head, payload, index, part)
+    board_calls::readout::value(binding_cells, cells, head, payload, index, part)
 }
 
 // What a present Optional holds.
@@ -178,5 +178,5 @@ pub extern "C" fn ombravelik_present(
 ) -> u8
     ensures { λ r. ⌜ _≡_ {A = ℕ × List ℕ} (r, now (part .exit)) (readsPart (presentIn (now («binding_cells» .entry)) (now (cells .entry)) (partsOf (cellOf head payload))) (now (part .entry))) ⌝ }
 {
-    readout::present(binding_cells, cells, head, payload, part)
+    board_calls::readout::present(binding_cells, cells, head, payload, part)
 }

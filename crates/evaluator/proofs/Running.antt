@@ -11,9 +11,9 @@ use Rattle.machine.specs.Outcomes.{Res}
 use Rattle.machine.specs.Machine.{machine}
 use Rattle.machine.specs.Refines.{usedOf}
 use Rattle.machine.specs.Answer.{answered}
-use Rattle.answers.specs.declared.Answer.{Answer}
-use Rattle.answers.specs.Evaluated.{ended}
-use Rattle.answers.proofs.Ends.{Ends, run-ends}
+use Rattle.answer.specs.declared.Answer.{Answer}
+use Rattle.answer.specs.Evaluated.{ended}
+use Rattle.answer.proofs.Ends.{Ends, run-ends}
 
 -- the outcome o with the cells w and the text y, and what its end makes of them
 pub run-answers : (table : List ℕ) (limit steps : ℕ) (e : Expr) (s : Scope) (l b t cells text w x y z : List ℕ) (o : Outcome) (a : Answer)

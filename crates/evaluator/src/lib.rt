@@ -2,20 +2,20 @@
 ghost use mathlib.Core.Path.{_≡_};
 ghost use Prim.Native.Nat.{min};
 ghost use Rattle.meaning.specs.Limits.{mostSteps};
-ghost use Rattle.accepted.specs.Records.{Sound, exprOf};
+ghost use Rattle.table_check.specs.Records.{Sound, exprOf};
 ghost use Rattle.rooms.specs.Rooms.{Rooms, rooms};
 ghost use Rattle.machine.specs.Answer.{answered};
-ghost use Rattle.answers.specs.declared.Answer.{Answer};
-ghost use Rattle.answers.specs.Evaluated.{ended};
-ghost use Rattle.answers.specs.Meant.{Evaluates};
-use answers::Answer;
-use heads::refusals::UNSOUND_BINDING;
+ghost use Rattle.answer.specs.declared.Answer.{Answer};
+ghost use Rattle.answer.specs.Evaluated.{ended};
+ghost use Rattle.answer.specs.Meant.{Evaluates};
+use answer::Answer;
+use bindings_sound::Bindings;
+use bindings_sound::Soundness;
+use eval_record::eval::eval;
 use machine::outcome::Used;
-use recursion::eval::eval;
 use rooms::scope::Scope;
-use soundness::Bindings;
-use soundness::Soundness;
-use table::Checked;
+use table_check::Checked;
+use table_check::refusals::UNSOUND_BINDING;
 
 // An accepted table, run from nothing and ended. `evaluate` has judged the binding room before; nothing here asks that it did.
 fn run(
@@ -36,7 +36,7 @@ fn run(
         cells: 0,
         bytes: 0,
     };
-    let limit = answers::step_limit(steps);
+    let limit = answer::step_limit(steps);
     let outcome = eval(
         table,
         literal,
@@ -49,7 +49,7 @@ fn run(
         scope,
         nothing,
     );
-    answers::answered(cells, text, outcome)
+    answer::answered(cells, text, outcome)
 }
 
 // Any table, literal text, bindings with their lent cells and text, evaluation rooms and step limit have an answer. Refused is first what the table
@@ -66,11 +66,11 @@ pub fn evaluate(
 ) -> Answer
     ensures { λ r. ⌜ Evaluates (now (table .entry)) bindings steps (rooms (now (literal .entry)) (now («binding_cells» .entry)) (now («binding_text» .entry)) (now (cells .entry)) (now (text .entry))) r (rooms (now (literal .entry)) (now («binding_cells» .entry)) (now («binding_text» .entry)) (now (cells .exit)) (now (text .exit))) ⌝ }
 {
-    let checked = table::check(table, literal);
+    let checked = table_check::check(table, literal);
     if let Checked::Refused(number, place) = checked {
         return Answer::Refused(number, place);
     }
-    let soundness = soundness::sound(binding_cells, binding_text, bindings);
+    let soundness = bindings_sound::sound(binding_cells, binding_text, bindings);
     if let Soundness::Unsound(place) = soundness {
         return Answer::Refused(UNSOUND_BINDING, place);
     }

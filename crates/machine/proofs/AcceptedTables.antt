@@ -19,12 +19,12 @@ use Rattle.meaning.specs.Kinds.{ExprKind, nullKind, boolKind, intKind, uintKind
 use Rattle.meaning.specs.Heads.{Got, got, refused, orRefuse, Head, first, second, third, fieldBytes, fieldsBytes, littleEndian, numbersAt, rowAt, headAt}
 use Rattle.meaning.specs.Table.{Part, bare, marked, addElement, addPair, Reader, elementsFrom, pairsFrom, span, utf8, filled, calledAt, bodyAt, asExpr, asPart, exprAt, partAt, rootAt, wordBytes, readTable}
 use Rattle.meaning.specs.WellFormed.{AllBytes}
-use Rattle.laws.specs.Each.{Each, Only, Reads}
-use Rattle.laws.proofs.Fine.{Perhaps}
-use Rattle.laws.proofs.Reading.{reads-got, reads-refused, reads-bind, reads-bind-any, reads-then, reads-demand, reads-orRefuse, was-read}
-use Rattle.laws.proofs.TableNumbers.{byte-at, getElem-each, NumbersFit, head-fits}
-use Rattle.laws.proofs.TableFormed.{ReadsOnly, filled-formed, reads-name}
-use Rattle.layout.specs.Layout.{wordAt}
+use Rattle.meaning_laws.specs.Each.{Each, Only, Reads}
+use Rattle.meaning_laws.proofs.Fine.{Perhaps}
+use Rattle.meaning_laws.proofs.Reading.{reads-got, reads-refused, reads-bind, reads-bind-any, reads-then, reads-demand, reads-orRefuse, was-read}
+use Rattle.meaning_laws.proofs.TableNumbers.{byte-at, getElem-each, NumbersFit, head-fits}
+use Rattle.meaning_laws.proofs.TableFormed.{ReadsOnly, filled-formed, reads-name}
+use Rattle.table_layout.specs.Layout.{wordAt}
 use Rattle.machine.specs.Accepted.{Spells, Accepted, AcceptedElements, AcceptedPairs}
 
 -- ---- words of a table

@@ -24,14 +24,14 @@ use Rattle.rooms.specs.declared.scope.Scope.{Scope}
 use Rattle.rooms.specs.Rooms.{Rooms, cellAt}
 use Rattle.rooms.specs.Stands.{Alive, StandsCells, Stands}
 use Rattle.rooms.specs.Scope.{StandsScope}
-use Rattle.building.specs.Building.{cellsCleared, bytesCleared}
+use Rattle.rooms_taking.specs.Taking.{cellsCleared, bytesCleared}
 use Rattle.rooms.proofs.ReadBack.{reads}
-use Rattle.built.proofs.Zeroed.{zeroed-length, cleared-words, cleared-bytes}
+use Rattle.rooms_taking.proofs.Zeroed.{zeroed-length, cleared-words, cleared-bytes}
 use Rattle.machine.specs.declared.outcome.Outcome.{Outcome}
 use Rattle.machine.specs.declared.outcome.Outcome.the-variants as Outcome
 use Rattle.machine.specs.Machine.{machine}
-use Rattle.laws.specs.Charges.{countsOf}
-use Rattle.laws.proofs.Filled.{length-values}
+use Rattle.meaning_laws.specs.Charges.{countsOf}
+use Rattle.meaning_laws.proofs.Filled.{length-values}
 use Rattle.machine.specs.Refines.{usedOf, errorOf, limitOf, FitCells, Live, Below, Roomy, Keeps, Logged, Good, Matches, Start}
 use Rattle.machine.specs.Accepted.{Accepted}
 use Rattle.machine.specs.Answer.{left, answered, CellsHave, Answers}

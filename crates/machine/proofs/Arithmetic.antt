@@ -29,7 +29,7 @@ use Rattle.meaning.specs.Numbers.{intIn, uintIn, doubleIn, bytesIn, intArith, i
 use Rattle.meaning.specs.Comprehension as Comprehension
 use Rattle.numbers.proofs.DoubleLaws.{add-is, sub-is, mul-is, div-is, neg-is}
 use Rattle.numbers.proofs.RangeLaws.{IntInRange, UintInRange, int-neg}
-use Rattle.laws.proofs.SoundNumbers.{int-in-range, uint-in-range, double-in-range, negated-double-in-range}
+use Rattle.meaning_laws.proofs.SoundNumbers.{int-in-range, uint-in-range, double-in-range, negated-double-in-range}
 use Rattle.rooms.specs.declared.value.Value.{Value}
 use Rattle.rooms.specs.declared.value.Value.the-variants as Value
 use Rattle.rooms.specs.declared.value.TextSpace.{TextSpace}

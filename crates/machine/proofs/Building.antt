@@ -26,9 +26,9 @@ use Rattle.rooms.specs.Value.{nestingOf}
 use Rattle.rooms.specs.Cells.{settled, Fits}
 use Rattle.rooms.specs.Rooms.{Rooms, cellAt, part}
 use Rattle.rooms.specs.Stands.{Alive, TextAt, StandsScalar, Stands, StandsCells, Agrees, Holds}
-use Rattle.laws.proofs.Fine.{join-count}
+use Rattle.meaning_laws.proofs.Fine.{join-count}
 use Rattle.rooms.proofs.Frame.{frame, frame-cells}
-use Rattle.built.proofs.Built.{settled-stands}
+use Rattle.rooms_taking.proofs.Built.{settled-stands}
 use Rattle.machine.specs.declared.outcome.Outcome.the-variants as Outcome
 use Rattle.machine.specs.Outcomes.{withText, written, whole, present}
 use Rattle.machine.specs.Numbers.{bothTexts, textSum, bothLists}

@@ -21,12 +21,12 @@ use Rattle.meaning.specs.Calls.{counted, scalarSize, sizeRule, callRule, orValu
 use Rattle.meaning.specs.Comprehension as Comprehension
 use Rattle.rooms.specs.declared.value.Value.{Value}
 use Rattle.rooms.specs.declared.value.Value.the-variants as Value
-use Rattle.sizes.specs.declared.Size.the-variants as Size
+use Rattle.rooms_text.specs.declared.sizes.Size.the-variants as Size
 use Rattle.rooms.specs.declared.scope.Scope.{Scope}
 use Rattle.rooms.specs.Value.{doubleValue}
 use Rattle.rooms.specs.Rooms.{Rooms, cellAt}
 use Rattle.rooms.specs.Stands.{Alive, StandsScalar, Stands, Holds}
-use Rattle.sizes.specs.Sizes.{sizeOf}
+use Rattle.rooms_text.specs.Sizes.{sizeOf}
 use Rattle.machine.specs.Outcomes.{Does}
 use Rattle.machine.specs.Views.{optionalIn}
 use Rattle.machine.specs.Calls.{sizeOut, hasValueOut, valueOut, orValueOut, called}

@@ -18,18 +18,18 @@ use Rattle.meaning.specs.Limited as Limited
 use Rattle.meaning.specs.Limited.{spend, onward, make, ended, outcome, cellsBuilt, textBuilt, charge, fits, through, stopped}
 use Rattle.rooms.specs.declared.value.Value.{Value}
 use Rattle.rooms.specs.declared.value.CellSpace.the-variants as Cells
-use Rattle.building.specs.declared.Taken.the-variants as Taken
+use Rattle.rooms_taking.specs.declared.Taken.the-variants as Taken
 use Rattle.rooms.specs.declared.scope.Scope.{Scope}
 use Rattle.rooms.specs.Rooms.{Rooms, part}
 use Rattle.rooms.specs.Stands.{Alive, Stands, StandsCells, Holds}
-use Rattle.building.specs.Building.{cellRoom, textRoom, takenOf, cellsTaken}
-use Rattle.building.proofs.BuildingSteps.{cells-kept}
+use Rattle.rooms_taking.specs.Taking.{cellRoom, textRoom, takenOf, cellsTaken}
+use Rattle.rooms_taking.proofs.TakingSteps.{cells-kept}
 use Rattle.machine.specs.declared.outcome.Used.{Used}
 use Rattle.machine.specs.declared.outcome.Limit.the-variants as Limit
 use Rattle.machine.specs.declared.outcome.Outcome.{Outcome}
 use Rattle.machine.specs.declared.outcome.Outcome.the-variants as Outcome
 use Rattle.machine.specs.Outcomes.{Res, Does, withCells, withWords, afterStep, recorded, onTaken, taking, whole}
-use Rattle.laws.specs.Charges.{countsOf}
+use Rattle.meaning_laws.specs.Charges.{countsOf}
 use Rattle.machine.specs.Refines.{usedOf, Live, Roomy, Keeps, Logged, Good, Matches, Start, Meets}
 use Rattle.machine.proofs.Keeping.{upto-same, keeps-same, keeps-steps}
 use Rattle.machine.proofs.Taking.{took, taken}

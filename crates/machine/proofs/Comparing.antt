@@ -19,9 +19,9 @@ use Rattle.rooms.specs.declared.value.Value.{Value}
 use Rattle.rooms.specs.declared.scope.Scope.{Scope}
 use Rattle.rooms.specs.Rooms.{Rooms}
 use Rattle.rooms.specs.Stands.{Alive, Stands, Holds}
-use Rattle.comparing.specs.Seen.{Seen, seenScalar, seenNone, seenOther, seenIn}
-use Rattle.ordering.specs.Order.{orderSeen, comparedOf}
-use Rattle.equality.proofs.EqualMeaning.{equal-pairs}
+use Rattle.rooms_comparison.specs.Seen.{Seen, seenScalar, seenNone, seenOther, seenIn}
+use Rattle.rooms_comparison.specs.Order.{orderSeen, comparedOf}
+use Rattle.rooms_comparison.proofs.EqualMeaning.{equal-pairs}
 use Rattle.machine.specs.declared.outcome.Used.{Used}
 use Rattle.machine.specs.Outcomes.{Res, Does, truthOut, withValue}
 use Rattle.machine.specs.Comparison.{equalOut, comparedOut, compareOut}
@@ -32,7 +32,7 @@ use Rattle.machine.proofs.Operands.{of-operand, value-of}
 use Rattle.machine.proofs.Steps.{pairs-then}
 use Rattle.machine.proofs.Logic.{truth-now}
 use Rattle.rooms.proofs.Frame.{holds-frame}
-use Rattle.comparing.proofs.SeenMeaning.{scalar-seen}
+use Rattle.rooms_comparison.proofs.SeenMeaning.{scalar-seen}
 
 -- ---- what is seen
 

@@ -29,8 +29,8 @@ use Rattle.machine.specs.Comprehension.{Loop, Items, itemsParts, onItems
 use Rattle.machine.specs.Refines.{usedOf, Start, Refines}
 use Rattle.machine.proofs.Match.{Says, error-now}
 use Rattle.machine.proofs.Operands.{value-of}
-use Rattle.laws.proofs.Filled.{length-values}
-use Rattle.comparing.proofs.SeenMeaning.{scalar-parts}
+use Rattle.meaning_laws.proofs.Filled.{length-values}
+use Rattle.rooms_comparison.proofs.SeenMeaning.{scalar-parts}
 use Rattle.machine.proofs.Turns.{ItemsAt, list-items, map-items, stores, turns-ok}
 use Rattle.machine.proofs.Gathering.{ItemsOk, gathers-nothing}
 use Rattle.machine.proofs.Appending.{GuardOk, append-ok}

@@ -21,8 +21,8 @@ use Rattle.rooms.specs.declared.scope.Scope.{Scope}
 use Rattle.rooms.specs.Cells.{settled, Fits}
 use Rattle.rooms.specs.Rooms.{Rooms, cellAt, part}
 use Rattle.rooms.specs.Stands.{Alive, StandsScalar, Stands, StandsCells, Agrees}
-use Rattle.built.proofs.Built.{settled-stands}
-use Rattle.laws.proofs.Fine.{pad-count, join-count}
+use Rattle.rooms_taking.proofs.Built.{settled-stands}
+use Rattle.meaning_laws.proofs.Fine.{pad-count, join-count}
 use Rattle.rooms.proofs.Frame.{frame, frame-cells, part-same}
 use Rattle.machine.specs.Outcomes.{written}
 use Rattle.machine.specs.Refines.{Live, Upto, Roomy, Keeps, Logged, Start}

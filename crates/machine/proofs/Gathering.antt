@@ -22,7 +22,7 @@ use Rattle.rooms.specs.declared.scope.Scope as Code
 use Rattle.rooms.specs.Value.{partsOf}
 use Rattle.rooms.specs.Rooms.{Rooms}
 use Rattle.rooms.specs.Stands.{Alive, Stands, StandsCells, Holds, Agrees}
-use Rattle.laws.proofs.Fine.{join-count}
+use Rattle.meaning_laws.proofs.Fine.{join-count}
 use Rattle.rooms.proofs.Frame.{frame-cells}
 use Rattle.machine.specs.declared.outcome.Used.{Used}
 use Rattle.machine.specs.declared.outcome.Outcome.the-variants as Outcome

@@ -9,7 +9,7 @@ use Rattle.rooms.specs.declared.value.CellSpace.{CellSpace}
 use Rattle.rooms.specs.declared.value.CellSpace.the-variants as Cells
 use Rattle.rooms.specs.Rooms.{Rooms, cellAt}
 use Rattle.rooms.specs.Stands.{Alive, Agrees}
-use Rattle.building.specs.Building.{cellRoom, textRoom}
+use Rattle.rooms_taking.specs.Taking.{cellRoom, textRoom}
 use Rattle.machine.specs.Refines.{Live, Upto, Roomy, Keeps, Below}
 use Rattle.machine.proofs.Words.{take-lower, drop-higher, low-cell, binding-cell}
 

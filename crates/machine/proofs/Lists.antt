@@ -21,14 +21,14 @@ use Rattle.rooms.specs.declared.scope.Scope.{Scope}
 use Rattle.rooms.specs.Value.{nestingOf}
 use Rattle.rooms.specs.Rooms.{Rooms, cellAt}
 use Rattle.rooms.specs.Stands.{Alive, Stands, Holds}
-use Rattle.laws.proofs.Fine.{pad-count, join-count}
+use Rattle.meaning_laws.proofs.Fine.{pad-count, join-count}
 use Rattle.rooms.proofs.Frame.{frame-cells}
 use Rattle.rooms.proofs.CellLaws.{written-length}
 use Rattle.machine.specs.declared.outcome.Used.{Used}
 use Rattle.machine.specs.Outcomes.{Res, Does, written, withValue, taking}
 use Rattle.machine.specs.Views.{partIn, unmarkedIn, optionalIn}
 use Rattle.machine.specs.Containers.{addElement, element, listDone}
-use Rattle.laws.specs.Charges.{countsOf}
+use Rattle.meaning_laws.specs.Charges.{countsOf}
 use Rattle.machine.specs.Refines.{usedOf, Live, Roomy, Keeps, Matches, Start, Refines}
 use Rattle.machine.proofs.Keeping.{keeps-both, keeps-higher, keeps-back, agrees-sub, roomy-same}
 use Rattle.machine.proofs.Taking.{took, taken, taken-keeps}

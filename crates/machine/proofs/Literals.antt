@@ -22,7 +22,7 @@ use Rattle.rooms.specs.Scope.{slotOf, StandsSlot}
 use Rattle.rooms.specs.Stands.{Alive, TextAt, StandsScalar, Stands, Holds}
 use Rattle.machine.specs.declared.outcome.Used.{Used}
 use Rattle.machine.specs.declared.outcome.Outcome.the-variants as Outcome
-use Rattle.layout.specs.Layout.{wordAt}
+use Rattle.table_layout.specs.Layout.{wordAt}
 use Rattle.machine.specs.Literals.{literalValue, nameOut}
 use Rattle.machine.specs.Accepted.{Spells, AcceptedLiteral}
 use Rattle.machine.specs.Refines.{usedOf, Start}

@@ -23,15 +23,15 @@ use Rattle.rooms.specs.declared.value.Value.{Value}
 use Rattle.rooms.specs.declared.value.Value.the-variants as Value
 use Rattle.rooms.specs.declared.value.CellSpace.{CellSpace}
 use Rattle.rooms.specs.declared.value.Parts.the-variants as Parts
-use Rattle.sizes.specs.declared.Position.the-variants as Position
+use Rattle.rooms_text.specs.declared.sizes.Position.the-variants as Position
 use Rattle.rooms.specs.declared.scope.Scope.{Scope}
 use Rattle.rooms.specs.Value.{partsOf, doubleValue, isKey}
 use Rattle.rooms.specs.Rooms.{Rooms, cellAt}
 use Rattle.rooms.specs.Stands.{Alive, StandsScalar, Stands, StandsCells, StandsEntries, Holds}
-use Rattle.comparing.specs.LookUp.{findIn}
-use Rattle.sizes.specs.Sizes.{insideInt}
-use Rattle.sizes.specs.Sizes as Positions
-use Rattle.equality.proofs.EqualMeaning.{find-ok, among-ok}
+use Rattle.rooms_comparison.specs.LookUp.{findIn}
+use Rattle.rooms_text.specs.Sizes.{insideInt}
+use Rattle.rooms_text.specs.Sizes as Positions
+use Rattle.rooms_comparison.proofs.EqualMeaning.{find-ok, among-ok}
 use Rattle.machine.specs.declared.outcome.Outcome.{Outcome}
 use Rattle.machine.specs.declared.outcome.Outcome.the-variants as Outcome
 use Rattle.machine.specs.declared.outcome.Error.the-variants as Error
@@ -41,11 +41,11 @@ use Rattle.machine.specs.Selection.{elementOut, entryOut, lookUpIn, look
 use Rattle.machine.specs.Refines.{usedOf, Start}
 use Rattle.machine.proofs.Match.{Says, value-now, error-now, then}
 use Rattle.machine.proofs.Steps.{pairs-then, found-then}
-use Rattle.comparing.proofs.SeenMeaning.{scalar-parts}
+use Rattle.rooms_comparison.proofs.SeenMeaning.{scalar-parts}
 use Rattle.machine.proofs.Seen.{held-none, Probe, probe-view}
 use Rattle.machine.proofs.Logic.{truth-now}
 use Rattle.machine.proofs.Building.{present-says}
-use Rattle.sizes.proofs.SizeMeaning.{nth-stands}
+use Rattle.rooms_text.proofs.SizeMeaning.{nth-stands}
 
 none≢some : {v : Meaning.Value} → _≡_ {A = Option Meaning.Value} none (some v) → ⊥
 none≢some e = let z : _≡_ {A = ℕ} 0 1 = cc in omega arith

@@ -20,7 +20,7 @@ use Rattle.rooms.specs.Stands.{Alive, Stands, Agrees, Holds}
 use Rattle.machine.specs.declared.outcome.Outcome.{Outcome}
 use Rattle.machine.specs.declared.outcome.Outcome.the-variants as Outcome
 use Rattle.machine.specs.Outcomes.{Res, Does, whole}
-use Rattle.laws.specs.Charges.{countsOf}
+use Rattle.meaning_laws.specs.Charges.{countsOf}
 use Rattle.machine.specs.Refines.{usedOf, errorOf, limitOf, Live, Upto, Keeps, Logged, Matches, Refines}
 use Rattle.machine.proofs.Keeping.{keeps-same, keeps-lower, keeps-higher, keeps-both, keeps-back, keeps-agrees}
 use Rattle.machine.proofs.Traces.{spend-append, from-grows}

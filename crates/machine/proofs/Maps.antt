@@ -22,19 +22,19 @@ use Rattle.rooms.specs.declared.value.Value.{Value}
 use Rattle.rooms.specs.declared.value.Value.the-variants as Value
 use Rattle.rooms.specs.declared.value.CellSpace.{CellSpace}
 use Rattle.rooms.specs.declared.value.CellSpace.the-variants as Cells
-use Rattle.comparing.specs.declared.lookup.Found.{Found}
-use Rattle.comparing.specs.declared.lookup.Found.the-variants as Found
+use Rattle.rooms_comparison.specs.declared.lookup.Found.{Found}
+use Rattle.rooms_comparison.specs.declared.lookup.Found.the-variants as Found
 use Rattle.rooms.specs.declared.scope.Scope.{Scope}
 use Rattle.rooms.specs.Value.{nestingOf, isKey}
 use Rattle.rooms.specs.Rooms.{Rooms, cellAt}
 use Rattle.rooms.specs.Stands.{Alive, Stands, StandsCells, StandsEntries, Holds}
-use Rattle.comparing.specs.LookUp.{findIn}
-use Rattle.laws.proofs.Fine.{pad-count}
-use Rattle.laws.proofs.Spelled.{add-nesting}
+use Rattle.rooms_comparison.specs.LookUp.{findIn}
+use Rattle.meaning_laws.proofs.Fine.{pad-count}
+use Rattle.meaning_laws.proofs.Spelled.{add-nesting}
 use Rattle.rooms.proofs.Frame.{frame-entries, scalar-frame, holds-frame}
 use Rattle.rooms.proofs.CellLaws.{written-length}
-use Rattle.equality.specs.Finds.{FoundIs, Finds}
-use Rattle.equality.proofs.EqualMeaning.{find-ok}
+use Rattle.rooms_comparison.specs.Finds.{FoundIs, Finds}
+use Rattle.rooms_comparison.proofs.EqualMeaning.{find-ok}
 use Rattle.machine.specs.declared.outcome.Used.{Used}
 use Rattle.machine.specs.declared.outcome.Error.the-variants as Error
 use Rattle.machine.specs.declared.outcome.Outcome.the-variants as Outcome
@@ -42,7 +42,7 @@ use Rattle.machine.specs.Outcomes.{Res, Does, written, withValue, taking
 use Rattle.machine.specs.Views.{partIn, unmarkedIn, optionalIn}
 use Rattle.machine.specs.Containers as Machine
 use Rattle.machine.specs.Containers.{ifKey, ifNew, mapDone}
-use Rattle.laws.specs.Charges.{countsOf}
+use Rattle.meaning_laws.specs.Charges.{countsOf}
 use Rattle.machine.specs.Refines.{usedOf, errorOf, Live, Upto, Roomy, Keeps, Matches, Start, Refines}
 use Rattle.machine.proofs.Keeping.{keeps-same, keeps-both, keeps-higher, keeps-back, agrees-sub, roomy-same}
 use Rattle.machine.proofs.Taking.{took, taken, taken-keeps}

@@ -21,14 +21,14 @@ use Rattle.rooms.specs.declared.value.CellSpace.the-variants as Cells
 use Rattle.rooms.specs.declared.scope.Scope.{Scope}
 use Rattle.rooms.specs.Rooms.{Rooms, part}
 use Rattle.rooms.specs.Stands.{Alive, Stands, StandsCells, Agrees, Holds}
-use Rattle.laws.proofs.Fine.{join-count}
+use Rattle.meaning_laws.proofs.Fine.{join-count}
 use Rattle.rooms.proofs.Frame.{frame-cells, part-same, holds-frame}
 use Rattle.machine.specs.declared.outcome.Used.{Used}
 use Rattle.machine.specs.declared.outcome.Limit.{Limit}
 use Rattle.machine.specs.declared.outcome.Outcome.{Outcome}
 use Rattle.machine.specs.declared.outcome.Outcome.the-variants as Outcome
 use Rattle.machine.specs.Outcomes.{Res}
-use Rattle.laws.specs.Charges.{countsOf}
+use Rattle.meaning_laws.specs.Charges.{countsOf}
 use Rattle.machine.specs.Refines.{usedOf, errorOf, limitOf, Live, Upto, Keeps, Logged, Good, Matches, Below, Start}
 use Rattle.machine.proofs.Keeping.{upto-same, keeps-cells, keeps-text, keeps-roomy, keeps-same, keeps-then, keeps-agrees, agrees-sub, agrees-then, live-below, live-sub}
 use Rattle.machine.proofs.Traces.{stands-join, spend-append, cells-append, text-append, part-add}

@@ -34,7 +34,7 @@ use Rattle.machine.specs.declared.outcome.Outcome.{Outcome}
 use Rattle.machine.specs.Outcomes.{Res, noOverload}
 use Rattle.machine.specs.Numbers.{intOut, uintOut, doublesOut, numberArith, textSum, stringSum, bytesSum, listSum}
 use Rattle.machine.proofs.Words.{bits-fit}
-use Rattle.comparing.proofs.SeenMeaning.{scalar-parts}
+use Rattle.rooms_comparison.proofs.SeenMeaning.{scalar-parts}
 
 -- ---- numbers are held
 

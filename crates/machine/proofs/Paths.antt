@@ -19,7 +19,7 @@ use Rattle.meaning.specs.Comprehension.{Scope}
 use Rattle.meaning.specs.Look.{Look, aSum, aFold, ofName, guardedBy, aConditional, arithLook, binaryLook, named}
 use Rattle.meaning.specs.Meaning.{run, runElements}
 use Rattle.meaning.specs.Limited.{cellsBuilt}
-use Rattle.laws.proofs.Fine.{pad-count, join-count}
+use Rattle.meaning_laws.proofs.Fine.{pad-count, join-count}
 use Rattle.machine.specs.Outcomes.{Does}
 use Rattle.machine.specs.Machine.{addedTo, sumTo, appending}
 use Rattle.machine.specs.Refines.{Refines}

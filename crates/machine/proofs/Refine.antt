@@ -29,7 +29,7 @@ use Rattle.rooms.specs.Stands.{Alive, Holds}
 use Rattle.machine.specs.declared.outcome.Used.{Used}
 use Rattle.machine.specs.declared.outcome.Outcome.the-variants as Outcome
 use Rattle.machine.specs.Outcomes.{Res, Does, recorded, withValue, taking}
-use Rattle.layout.specs.Layout.{wordAt}
+use Rattle.table_layout.specs.Layout.{wordAt}
 use Rattle.machine.specs.Literals.{literalValue, fieldValue, nameOut}
 use Rattle.machine.specs.Numbers.{arithmetic}
 use Rattle.machine.specs.Comparison.{equalOut, compareOut}

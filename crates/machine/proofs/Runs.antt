@@ -11,7 +11,7 @@ use Rattle.meaning.specs.Value.{Values, nil, count, join}
 use Rattle.rooms.specs.declared.value.CellSpace.the-variants as Cells
 use Rattle.rooms.specs.Rooms.{Rooms}
 use Rattle.rooms.specs.Stands.{Alive, Stands, StandsCells, Agrees}
-use Rattle.laws.proofs.Fine.{join-count}
+use Rattle.meaning_laws.proofs.Fine.{join-count}
 use Rattle.rooms.proofs.Frame.{frame-cells}
 use Rattle.machine.specs.Outcomes.{withWords}
 use Rattle.machine.specs.Comprehension.{runsCopied}

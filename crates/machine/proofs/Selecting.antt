@@ -34,7 +34,7 @@ use Rattle.machine.specs.Machine.{unlessNone, indexLeft, onLeft, both}
 use Rattle.machine.specs.Refines.{usedOf, Start, Refines}
 use Rattle.machine.proofs.Match.{Says, value-now, raises, error-now}
 use Rattle.machine.proofs.Operands.{of-operand, value-of}
-use Rattle.comparing.proofs.SeenMeaning.{scalar-parts}
+use Rattle.rooms_comparison.proofs.SeenMeaning.{scalar-parts}
 use Rattle.machine.proofs.Seen.{held-none, scalar-optional, StringView, string-view}
 use Rattle.machine.proofs.Logic.{truth-now}
 use Rattle.machine.proofs.LookUp.{held-cell, lookUp-says, optionally-says, tells-says}

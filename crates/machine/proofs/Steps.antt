@@ -15,16 +15,16 @@ use Rattle.meaning.specs.Comparison.{Tally, compared}
 use Rattle.meaning.specs.Limited as Limited
 use Rattle.meaning.specs.Limited.{spend, outcome, charge, fits}
 use Rattle.rooms.specs.declared.value.CellSpace.{CellSpace}
-use Rattle.equality.specs.declared.Pairs.{Pairs}
-use Rattle.equality.specs.declared.Pairs.the-variants as Pairs
-use Rattle.comparing.specs.declared.lookup.Found.{Found}
-use Rattle.comparing.specs.declared.lookup.Found.the-variants as Found
+use Rattle.rooms_comparison.specs.declared.pairs.Pairs.{Pairs}
+use Rattle.rooms_comparison.specs.declared.pairs.Pairs.the-variants as Pairs
+use Rattle.rooms_comparison.specs.declared.lookup.Found.{Found}
+use Rattle.rooms_comparison.specs.declared.lookup.Found.the-variants as Found
 use Rattle.rooms.specs.declared.scope.Scope.{Scope}
 use Rattle.rooms.specs.Rooms.{Rooms, cellAt}
 use Rattle.rooms.specs.Stands.{Alive, Stands}
-use Rattle.comparing.specs.LookUp.{pairFound}
-use Rattle.equality.specs.Equality.{pays, paysFound, pair, decided, paid}
-use Rattle.equality.specs.Finds.{FoundIs, Finds}
+use Rattle.rooms_comparison.specs.LookUp.{pairFound}
+use Rattle.rooms_comparison.specs.Equality.{pays, paysFound, pair, decided, paid}
+use Rattle.rooms_comparison.specs.Finds.{FoundIs, Finds}
 use Rattle.machine.specs.declared.outcome.Used.{Used}
 use Rattle.machine.specs.declared.outcome.Limit.the-variants as Limit
 use Rattle.machine.specs.declared.outcome.Outcome.{Outcome}

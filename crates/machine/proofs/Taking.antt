@@ -18,10 +18,10 @@ use Rattle.rooms.specs.declared.value.CellSpace.the-variants as Cells
 use Rattle.rooms.specs.Cells.{settled, Fits}
 use Rattle.rooms.specs.Rooms.{Rooms, cellAt}
 use Rattle.rooms.specs.Stands.{Alive, Stands, StandsCells, Agrees}
-use Rattle.building.specs.Building.{cellRoom, zeroed, cellsTaken, copied}
+use Rattle.rooms_taking.specs.Taking.{cellRoom, zeroed, cellsTaken, copied}
 use Rattle.rooms.proofs.Frame.{frame, frame-cells}
-use Rattle.built.proofs.Zeroed.{zeroed-length}
-use Rattle.built.proofs.Built.{settled-stands, taken-null as null-taken}
+use Rattle.rooms_taking.proofs.Zeroed.{zeroed-length}
+use Rattle.rooms_taking.proofs.Built.{settled-stands, taken-null as null-taken}
 use Rattle.machine.specs.Outcomes.{withWords, written}
 use Rattle.machine.specs.Refines.{FitCells, Live, Upto, Roomy, Keeps, Below}
 use Rattle.machine.proofs.Words.{cell-low, cell-high, store-same, store-keeps}

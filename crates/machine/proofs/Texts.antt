@@ -10,9 +10,9 @@ use Rattle.rooms.specs.declared.value.TextSpace.{TextSpace}
 use Rattle.rooms.specs.declared.value.TextSpace.the-variants as Text
 use Rattle.rooms.specs.Rooms.{Rooms, part, textOf, cellAt}
 use Rattle.rooms.specs.Stands.{Alive, Within, TextAt}
-use Rattle.building.specs.Building.{pasted}
+use Rattle.rooms_taking.specs.Taking.{pasted}
 use Rattle.rooms.proofs.Frame.{part-same, text-frame}
-use Rattle.built.proofs.Pasted.{Ahead, pasted-below, pasted-length, pasted-part}
+use Rattle.rooms_taking.proofs.Pasted.{Ahead, pasted-below, pasted-length, pasted-part}
 use Rattle.machine.specs.Outcomes.{withText}
 use Rattle.machine.specs.Numbers.{bothTexts}
 use Rattle.machine.specs.Refines.{FitCells, Live, Roomy, Keeps, Below}

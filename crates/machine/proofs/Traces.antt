@@ -15,7 +15,7 @@ use Rattle.meaning.specs.Limited.{charge, fits, limitOf, Spent, through, stoppe
 use Rattle.rooms.specs.declared.value.CellSpace.{CellSpace}
 use Rattle.rooms.specs.Rooms.{Rooms, part}
 use Rattle.rooms.specs.Stands.{Alive, Stands, StandsCells}
-use Rattle.laws.specs.Charges.{countsOf}
+use Rattle.meaning_laws.specs.Charges.{countsOf}
 use Rattle.machine.specs.Refines.{Upto, from}
 use Rattle.machine.proofs.Keeping.{upto-same, upto-then}
 

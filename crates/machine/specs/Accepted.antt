@@ -9,7 +9,7 @@ use Rattle.meaning.specs.Limits.{names}
 use Rattle.meaning.specs.Value.{Scalar, null, bool, int, uint, double, string, bytes}
 use Rattle.meaning.specs.Expr.{Expr, literal, name, unary, binary, conditional, select, listOf, mapOf, comprehension, call, noneCall, orValue, Elements, noElements, element, markedElement, Pairs, noPairs, pair, markedPair}
 use Rattle.rooms.specs.Rooms.{part}
-use Rattle.layout.specs.Layout.{wordAt}
+use Rattle.table_layout.specs.Layout.{wordAt}
 
 module _ (table text : List ℕ) where
   -- an offset and a length that spell s

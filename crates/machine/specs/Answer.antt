@@ -14,12 +14,12 @@ use Rattle.rooms.specs.declared.value.CellSpace.the-variants as Cells
 use Rattle.rooms.specs.declared.scope.Scope.{Scope}
 use Rattle.rooms.specs.Rooms.{Rooms, cellAt}
 use Rattle.rooms.specs.Reading.{reading}
-use Rattle.building.specs.Building.{cellsCleared, bytesCleared}
+use Rattle.rooms_taking.specs.Taking.{cellsCleared, bytesCleared}
 use Rattle.machine.specs.declared.outcome.Outcome.{Outcome}
 use Rattle.machine.specs.declared.outcome.Outcome.the-variants as Outcome
 use Rattle.machine.specs.Outcomes.{Res}
 use Rattle.machine.specs.Machine.{machine}
-use Rattle.laws.specs.Charges.{countsOf}
+use Rattle.meaning_laws.specs.Charges.{countsOf}
 use Rattle.machine.specs.Refines.{usedOf, errorOf, limitOf}
 
 -- ---- the run

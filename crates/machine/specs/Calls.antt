@@ -5,10 +5,10 @@ use lib.IntN.{pos}
 use Rattle.meaning.specs.Expr.{Function, sizeCall, ofCall, hasValueCall, valueCall}
 use Rattle.rooms.specs.declared.value.Value.{Value}
 use Rattle.rooms.specs.declared.value.Value.the-variants as Value
-use Rattle.sizes.specs.declared.Size.{Size}
-use Rattle.sizes.specs.declared.Size.the-variants as Size
+use Rattle.rooms_text.specs.declared.sizes.Size.{Size}
+use Rattle.rooms_text.specs.declared.sizes.Size.the-variants as Size
 use Rattle.rooms.specs.Rooms.{Rooms, cellAt}
-use Rattle.sizes.specs.Sizes.{sizeOf}
+use Rattle.rooms_text.specs.Sizes.{sizeOf}
 use Rattle.machine.specs.declared.outcome.Used.{Used}
 use Rattle.machine.specs.declared.outcome.Error.the-variants as Error
 use Rattle.machine.specs.declared.outcome.Outcome.{Outcome}

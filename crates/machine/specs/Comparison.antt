@@ -6,16 +6,16 @@ use Rattle.numbers.specs.declared.order.Order.the-variants as Order
 use Rattle.meaning.specs.Expr.{Comparison}
 use Rattle.meaning.specs.Comparison.{holds}
 use Rattle.rooms.specs.declared.value.Value.{Value}
-use Rattle.equality.specs.declared.Pairs.{Pairs}
-use Rattle.equality.specs.declared.Pairs.the-variants as Pairs
-use Rattle.comparing.specs.declared.lookup.Found.{Found}
-use Rattle.comparing.specs.declared.lookup.Found.the-variants as Found
-use Rattle.ordering.specs.declared.Compared.{Compared}
-use Rattle.ordering.specs.declared.Compared.the-variants as Compared
+use Rattle.rooms_comparison.specs.declared.pairs.Pairs.{Pairs}
+use Rattle.rooms_comparison.specs.declared.pairs.Pairs.the-variants as Pairs
+use Rattle.rooms_comparison.specs.declared.lookup.Found.{Found}
+use Rattle.rooms_comparison.specs.declared.lookup.Found.the-variants as Found
+use Rattle.rooms_comparison.specs.declared.ordering.Compared.{Compared}
+use Rattle.rooms_comparison.specs.declared.ordering.Compared.the-variants as Compared
 use Rattle.rooms.specs.Rooms.{Rooms}
-use Rattle.comparing.specs.Seen.{seenIn}
-use Rattle.equality.specs.Equality.{equalPairs}
-use Rattle.ordering.specs.Order.{orderSeen, comparedOf}
+use Rattle.rooms_comparison.specs.Seen.{seenIn}
+use Rattle.rooms_comparison.specs.Equality.{equalPairs}
+use Rattle.rooms_comparison.specs.Order.{orderSeen, comparedOf}
 use Rattle.machine.specs.declared.outcome.Used.{Used}
 use Rattle.machine.specs.declared.outcome.Error.the-variants as Error
 use Rattle.machine.specs.declared.outcome.Limit.the-variants as Limit

@@ -6,12 +6,12 @@ use mathlib.Core.Option.{Option, none, some}
 use Rattle.rooms.specs.declared.value.Value.{Value}
 use Rattle.rooms.specs.declared.value.Value.the-variants as Value
 use Rattle.rooms.specs.declared.value.CellSpace.the-variants as Cells
-use Rattle.comparing.specs.declared.lookup.Found.{Found}
-use Rattle.comparing.specs.declared.lookup.Found.the-variants as Found
+use Rattle.rooms_comparison.specs.declared.lookup.Found.{Found}
+use Rattle.rooms_comparison.specs.declared.lookup.Found.the-variants as Found
 use Rattle.rooms.specs.declared.scope.Scope.{Scope}
 use Rattle.rooms.specs.Value.{nestingOf, isKey}
 use Rattle.rooms.specs.Rooms.{Rooms}
-use Rattle.comparing.specs.LookUp.{findIn}
+use Rattle.rooms_comparison.specs.LookUp.{findIn}
 use Rattle.machine.specs.declared.outcome.Used.{Used}
 use Rattle.machine.specs.declared.outcome.Error.the-variants as Error
 use Rattle.machine.specs.declared.outcome.Limit.the-variants as Limit

@@ -3,7 +3,7 @@ use Prim.Native.Nat.{ℕ, _+_}
 use mathlib.Core.List.{List}
 use Rattle.numbers.specs.Double.{doubleOf}
 use Rattle.meaning.specs.Value.{Scalar, null, bool, int, uint, double, string, bytes}
-use Rattle.layout.specs.Layout.{wordAt}
+use Rattle.table_layout.specs.Layout.{wordAt}
 use Rattle.rooms.specs.declared.value.Value.{Value}
 use Rattle.rooms.specs.declared.value.Value.the-variants as Value
 use Rattle.rooms.specs.declared.value.TextSpace.the-variants as Text

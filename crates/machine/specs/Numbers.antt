@@ -24,7 +24,7 @@ use Rattle.rooms.specs.declared.value.Parts.{Parts}
 use Rattle.rooms.specs.declared.value.Parts.the-variants as Parts
 use Rattle.rooms.specs.Value.{plainOf, partsOf, nestingOf, doubleValue}
 use Rattle.rooms.specs.Rooms.{Rooms}
-use Rattle.building.specs.Building.{textRoom, takenOf, copied, pasted}
+use Rattle.rooms_taking.specs.Taking.{textRoom, takenOf, copied, pasted}
 use Rattle.machine.specs.declared.outcome.Used.{Used}
 use Rattle.machine.specs.declared.outcome.Error.the-variants as Error
 use Rattle.machine.specs.declared.outcome.Limit.the-variants as Limit

@@ -7,15 +7,15 @@ use Rattle.meaning.specs.Limits.{deepestValue}
 use Rattle.rooms.specs.declared.value.Value.{Value}
 use Rattle.rooms.specs.declared.value.Value.the-variants as Value
 use Rattle.rooms.specs.declared.value.CellSpace.the-variants as Cells
-use Rattle.building.specs.declared.Taken.{Taken}
-use Rattle.building.specs.declared.Taken.the-variants as Taken
+use Rattle.rooms_taking.specs.declared.Taken.{Taken}
+use Rattle.rooms_taking.specs.declared.Taken.the-variants as Taken
 use Rattle.rooms.specs.declared.scope.Scope.{Scope}
 use Rattle.rooms.specs.Value.{nestingOf}
 use Rattle.rooms.specs.Cells.{writtenIn}
 use Rattle.rooms.specs.Rooms.{Rooms}
 -- the rooms with other cells or another text, passed on to the rules
 pub use Rattle.rooms.specs.Rooms.{withWords, withText}
-use Rattle.building.specs.Building.{cellRoom, takenOf, cellsTaken}
+use Rattle.rooms_taking.specs.Taking.{cellRoom, takenOf, cellsTaken}
 use Rattle.machine.specs.declared.outcome.Used.{Used}
 use Rattle.machine.specs.declared.outcome.Error.the-variants as Error
 use Rattle.machine.specs.declared.outcome.Limit.the-variants as Limit

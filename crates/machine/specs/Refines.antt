@@ -13,7 +13,7 @@ use Rattle.meaning.specs.Run.{Trace, Eval}
 use Rattle.meaning.specs.Comprehension as Comprehension
 use Rattle.meaning.specs.Limited as Limited
 use Rattle.meaning.specs.Limited.{spend, outcome, cellsBuilt, textBuilt}
-use Rattle.laws.specs.Charges.{countsOf}
+use Rattle.meaning_laws.specs.Charges.{countsOf}
 use Rattle.rooms.specs.declared.value.Value.{Value}
 use Rattle.rooms.specs.declared.value.CellSpace.{CellSpace}
 use Rattle.rooms.specs.declared.value.CellSpace.the-variants as Cells
@@ -22,7 +22,7 @@ use Rattle.rooms.specs.Cells.{Fits}
 use Rattle.rooms.specs.Rooms.{Rooms, cellAt, part}
 use Rattle.rooms.specs.Scope.{StandsScope}
 use Rattle.rooms.specs.Stands.{Alive, StandsCells, Holds}
-use Rattle.building.specs.Building.{cellRoom, textRoom}
+use Rattle.rooms_taking.specs.Taking.{cellRoom, textRoom}
 use Rattle.machine.specs.declared.outcome.Used.{Used}
 use Rattle.machine.specs.declared.outcome.Error.{Error}
 use Rattle.machine.specs.declared.outcome.Error.the-variants as Error

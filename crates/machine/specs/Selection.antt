@@ -6,13 +6,13 @@ use Rattle.rooms.specs.declared.value.Value.the-variants as Value
 use Rattle.rooms.specs.declared.value.CellSpace.{CellSpace}
 use Rattle.rooms.specs.declared.value.Parts.{Parts}
 use Rattle.rooms.specs.declared.value.Parts.the-variants as Parts
-use Rattle.sizes.specs.declared.Position.{Position}
-use Rattle.sizes.specs.declared.Position.the-variants as Position
+use Rattle.rooms_text.specs.declared.sizes.Position.{Position}
+use Rattle.rooms_text.specs.declared.sizes.Position.the-variants as Position
 use Rattle.rooms.specs.Value.{partsOf, isKey}
 use Rattle.rooms.specs.Rooms.{Rooms, cellAt}
-use Rattle.comparing.specs.LookUp.{findIn}
-use Rattle.equality.specs.Equality.{amongIn}
-use Rattle.sizes.specs.Sizes.{positionOf}
+use Rattle.rooms_comparison.specs.LookUp.{findIn}
+use Rattle.rooms_comparison.specs.Equality.{amongIn}
+use Rattle.rooms_text.specs.Sizes.{positionOf}
 use Rattle.machine.specs.declared.outcome.Used.{Used}
 use Rattle.machine.specs.declared.outcome.Error.the-variants as Error
 use Rattle.machine.specs.declared.outcome.Outcome.{Outcome}

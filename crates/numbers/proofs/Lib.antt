@@ -4,3 +4,8 @@ pub mod IntLaws
 pub mod IntMag
 pub mod RangeLaws
 pub mod UintLaws
+-- Steps of the proofs of the functions.
+pub mod IntProducts
+pub mod IntQuot
+pub mod IntSums
+pub mod Shift

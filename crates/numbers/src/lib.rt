@@ -1,5 +1,4 @@
-// The numbers of CEL: Int, Uint and Double. The crates unsigned, signed and floats have their arithmetic, numberline their order.
-// Everything above uses only the contracts of these crates.
+// Int, Uint and Double: types and arithmetic, what order is, the bits of a Double.
 pub mod double;
 pub mod error;
 pub mod int;

@@ -2,20 +2,20 @@
 use crate::said::bad;
 use crate::said::say;
 use crate::said::tell;
-use bench::Bench;
-use bench::asked::Asked;
-use bench::asked::Lent;
-use bench::asked::asked_from;
-use bench::binding::bind;
-use bench::command::Command;
-use bench::command::command_of;
-use bench::line::word_from;
-use kept::is_kept;
-use lending::bytes_of;
-use lending::fill;
-use lending::words_of;
-use lines::put_answer;
-use soundness::Bindings;
+use bindings_sound::Bindings;
+use line_answers::put_answer;
+use program_memory::after_run::is_kept;
+use program_memory::before_run::bytes_of;
+use program_memory::before_run::fill;
+use program_memory::before_run::words_of;
+use replay_lines::Bench;
+use replay_lines::asked::Asked;
+use replay_lines::asked::Lent;
+use replay_lines::asked::asked_from;
+use replay_lines::binding::bind;
+use replay_lines::command::Command;
+use replay_lines::command::command_of;
+use replay_lines::line::word_from;
 
 // The answer's line; it says so if lent memory is not as it must be.
 fn evaluate(
@@ -134,8 +134,8 @@ pub fn answer_line(
     let start = word.start;
     let at = word.end;
     match command_of(&line[start..at]) {
-        Command::Room => tell(bench::room(line, at, bench)),
-        Command::Empty => tell(bench::empty(line, at, bench)),
+        Command::Room => tell(replay_lines::room(line, at, bench)),
+        Command::Empty => tell(replay_lines::empty(line, at, bench)),
         Command::Bind => tell(bind(line, at, literal, table, binding_cells, binding_text, bench)),
         Command::Eval => eval(
             line,

@@ -3,11 +3,11 @@ ghost use mathlib.Core.Path.{_≡_};
 ghost use lib.ListN.{length};
 use crate::commands::answer_line;
 use crate::said::bad;
-use bench::Bench;
 use libc::STDIN_FILENO;
-use lines::LONGEST_LINE;
-use pieces::put_word;
-use spelling::find;
+use line_answers::LONGEST_LINE;
+use line_pieces::put_word;
+use program_words::find;
+use replay_lines::Bench;
 
 mod commands;
 mod said;

@@ -1,9 +1,9 @@
 // What is written of a line: words, numbers, what became of a binding, and that the line is none.
-use admission::Answer;
-use bench::Bench;
-use bench::Done;
-use bench::Said;
+use bindings::admission::Answer;
 use libc::STDOUT_FILENO;
+use replay_lines::Bench;
+use replay_lines::Done;
+use replay_lines::Said;
 
 pub fn say(words: &[u8]) {
     io::write_all(STDOUT_FILENO, words);

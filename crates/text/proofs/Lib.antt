@@ -4,3 +4,7 @@ pub mod BytesLaws
 pub mod BytesSteps
 pub mod Table
 pub mod Utf8Laws
+-- One sequence of the table (`SequenceLaws`): for callers, and a law for each answer of the code.
+pub mod SequenceLaws
+-- What the loops' proofs cite (`Utf8Steps`).
+pub mod Utf8Steps

@@ -1,6 +1,6 @@
--- `bindings::bring_in` meets its contract. Assumes nothing.
+-- `bring_in` meets its contract. Assumes nothing.
 use mathlib.Core.Path.{sym, _∙_}
-use Rattle.admission.proofs.AcceptedLaws.{brought-refused, brought-asks, brought-done}
+use Rattle.bindings.proofs.AcceptedLaws.{brought-refused, brought-asks, brought-done}
 use borrow.Author.Needs.{needs}
 use Rattle.bindings.proofs.bring_in.Statement.{statement}
 use Rattle.bindings.proofs.bring_in.Tie as tie

@@ -1,4 +1,4 @@
--- `bindings::empty` meets its contract. Assumes nothing.
+-- `empty` meets its contract. Assumes nothing.
 use borrow.Author.Needs.{needs}
 use Rattle.bindings.proofs.empty.Statement.{statement}
 use Rattle.bindings.proofs.empty.Tie as tie

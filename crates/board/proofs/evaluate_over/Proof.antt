@@ -1,8 +1,8 @@
--- `board::evaluate_over`. Assumes nothing.
+-- `evaluate_over`. Assumes nothing.
 use mathlib.Core.Path.{subst}
 use Rattle.rooms.specs.Rooms.{rooms}
-use Rattle.soundness.specs.declared.Bindings.{Bindings}
-use Rattle.answers.specs.Meant.{Evaluates}
+use Rattle.bindings_sound.specs.declared.Bindings.{Bindings}
+use Rattle.answer.specs.Meant.{Evaluates}
 use borrow.Author.Needs.{needs}
 use Rattle.board.proofs.evaluate_over.Statement.{statement}
 use Rattle.board.proofs.evaluate_over.Tie as tie

@@ -1,6 +1,6 @@
--- `board::ombravelik_evaluate`. Assumes nothing.
+-- `ombravelik_evaluate`. Assumes nothing.
 use Rattle.rooms.specs.Rooms.{rooms}
-use Rattle.board.proofs.Boarding.{evaluates-none, evaluates-so}
+use Rattle.board.proofs.EvaluationSteps.{evaluates-none, evaluates-so}
 use borrow.Author.Needs.{needs}
 use Rattle.board.proofs.ombravelik_evaluate.Statement.{statement}
 use Rattle.board.proofs.ombravelik_evaluate.Tie as tie

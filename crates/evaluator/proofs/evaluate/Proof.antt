@@ -3,19 +3,19 @@ use mathlib.Core.Path.{sym, _∙_}
 use native.Mathlib.Omega.{arith}
 use Rattle.rooms.specs.Rooms.{rooms}
 use Rattle.rooms.proofs.Scopes.{mapped-length}
-use Rattle.answers.specs.declared.Answer.the-variants as Answer
-use Rattle.answers.specs.Promised.{Lent}
-use Rattle.answers.proofs.Lending.{slots-fit, is-lent}
-use Rattle.answers.proofs.Deciding.{table-refuses, root-sound, room-refuses, runs}
-use Rattle.answers.proofs.Answering.{evaluates}
+use Rattle.answer.specs.declared.Answer.the-variants as Answer
+use Rattle.answer.specs.Promised.{Lent}
+use Rattle.answer.proofs.Lending.{slots-fit, is-lent}
+use Rattle.answer.proofs.Deciding.{table-refuses, root-sound, room-refuses, runs}
+use Rattle.answer.proofs.Answering.{evaluates}
 use borrow.Author.Needs.{needs}
 use Rattle.evaluator.proofs.evaluate.Statement.{statement}
 use Rattle.evaluator.proofs.evaluate.Tie as tie
 use Rattle.evaluator.proofs.evaluate.Reads as reads
 use Rattle.evaluator.proofs.evaluate.Lts as lts
 use Rattle.evaluator.proofs.run.Reads as run-reads
-use Rattle.soundness.proofs.sound.Reads as sound-reads
-use Rattle.table.proofs.check.Reads as check-reads
+use Rattle.bindings_sound.proofs.sound.Reads as sound-reads
+use Rattle.table_check.proofs.check.Reads as check-reads
 
 -- of what is lent all is known at the start
 all-lent : (c : lts.After-slice-known2 (check-reads.Asked, check-reads.Learnt, sound-reads.Asked, sound-reads.Learnt, run-reads.Asked, run-reads.Learnt) reads.Pre reads.Post) →

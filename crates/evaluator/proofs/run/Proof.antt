@@ -1,5 +1,5 @@
 -- `run` meets its contract. Assumes nothing.
-use Rattle.accepted.specs.Records.{exprOf}
+use Rattle.table_check.specs.Records.{exprOf}
 use Rattle.evaluator.proofs.Running.{run-answers}
 use borrow.Author.Needs.{needs}
 use Rattle.evaluator.proofs.run.Statement.{statement}

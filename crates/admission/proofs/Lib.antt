@@ -1,3 +1,0 @@
--- The laws that the functions' proofs cite, those of `bindings` too.
-pub mod BringSteps
-pub mod AcceptedLaws

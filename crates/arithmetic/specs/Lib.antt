@@ -1,2 +1,0 @@
--- What the contracts cite beside the machine: `+` of what is no number (`Sums`).
-pub mod Sums

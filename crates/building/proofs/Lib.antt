@@ -1,2 +1,0 @@
--- The laws that functions' proofs cite: the steps of the code (BuildingSteps).
-pub mod BuildingSteps

@@ -1,2 +1,0 @@
--- What the contracts cite: the rooms of a run, and what they hold afterwards (`Building`).
-pub mod Building

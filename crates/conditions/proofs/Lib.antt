@@ -1,2 +1,0 @@
--- For callers: what a condition decides is what the machine does.
-pub mod Asking

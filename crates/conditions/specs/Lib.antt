@@ -1,2 +1,0 @@
--- What the contract cites: what a condition decides (`Decisions`).
-pub mod Decisions

@@ -1,2 +1,0 @@
--- What the proofs of the copies share: bytes copied from one slice (`OneSlice`).
-pub mod OneSlice

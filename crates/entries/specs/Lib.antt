@@ -1,2 +1,0 @@
--- What the contracts cite: keys and values of a Map (`Entries`).
-pub mod Entries

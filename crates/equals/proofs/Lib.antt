@@ -1,3 +1,0 @@
--- The ways through the functions.
-pub mod EqualitySteps
-pub mod PairSteps

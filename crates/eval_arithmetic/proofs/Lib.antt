@@ -1,0 +1,4 @@
+-- Laws for the functions' proofs. Assume nothing.
+pub mod JoinedTexts
+-- Laws for the functions' proofs. Assume nothing.
+pub mod NoNumber

@@ -1,0 +1,42 @@
+-- `value` meets its contract. Assumes nothing.
+use borrow.Author.Needs.{needs}
+use Rattle.rooms.specs.Rooms.{cellAt}
+use Rattle.eval_functions.proofs.optional_value.value.Statement.{statement}
+use Rattle.eval_functions.proofs.optional_value.value.Tie as tie
+
+optional-of-requires : tie.Need-optional-of-requires
+optional-of-requires c κs = search needs
+
+enum-told : tie.Need-enum-told
+enum-told c = search needs
+
+no-overload-requires : tie.Need-no-overload-requires
+no-overload-requires c κs = search needs
+
+enum-told-2 : tie.Need-enum-told-2
+enum-told-2 c = search needs
+
+enum-known-space : tie.Need-enum-known-space
+enum-known-space c = search needs
+
+cast-cell-at : tie.Need-cast-cell-at
+cast-cell-at c = search needs
+
+cell-at-requires : tie.Need-cell-at-requires
+cell-at-requires c κs = search needs
+
+returns : tie.Need-returns
+unfolding cellAt
+returns c = λ l1 t1 x1. simp (← c .before .before .before .optional-of .ensures, c .before .enum-told .given .1, ← c .no-overload .ensures)
+
+returns-2 : tie.Need-returns-2
+unfolding cellAt
+returns-2 c = λ l1 t1 x1. simp (← c .before .before .optional-of .ensures, c .enum-told2 .given .1)
+
+returns-3 : tie.Need-returns-3
+unfolding cellAt
+returns-3 c = λ l1 t1 x1. simp (← c .before .before .before .before .optional-of .ensures, c .before .before .space .given .1, ← c .cell-at .ensures)
+
+pub value-spec : {M : Type 1} → statement M
+value-spec =
+    tie.close (tie.spec optional-of-requires enum-told no-overload-requires enum-told-2 enum-known-space cast-cell-at cell-at-requires returns returns-2 returns-3)

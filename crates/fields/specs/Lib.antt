@@ -1,2 +1,0 @@
--- What the contracts cite: whether fields are right (`Fits`).
-pub mod Fits

@@ -1,2 +1,0 @@
--- What the contracts cite beside the machine: records at places (`Records`).
-pub mod Records

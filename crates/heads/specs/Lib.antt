@@ -1,2 +1,0 @@
--- What the contracts cite: heads of records (`Shapes`).
-pub mod Shapes

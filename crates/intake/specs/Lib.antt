@@ -1,2 +1,0 @@
--- What the contracts cite: what each function returns and leaves in lent memory.
-pub mod Intake

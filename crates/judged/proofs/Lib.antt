@@ -1,5 +1,0 @@
--- The laws that the functions' proofs cite, from the leaves up; and that what is found of keys is what the definition's spelling finds (SpelledLaws).
-pub mod JudgeLaws
-pub mod JudgingSteps
-pub mod JudgeSteps
-pub mod SpelledLaws

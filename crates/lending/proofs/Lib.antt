@@ -1,2 +1,0 @@
--- The laws that functions' proofs cite: memory filled place by place (`Filling`).
-pub mod Filling

@@ -1,2 +1,0 @@
--- What the contracts cite: what lent memory holds at first (`Lent`).
-pub mod Lent

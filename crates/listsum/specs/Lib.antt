@@ -1,2 +1,0 @@
--- What the contracts cite: `+` of what has parts (`ListSums`).
-pub mod ListSums

@@ -1,2 +1,0 @@
--- What the contracts cite: the keys of a Map where they lie (`Keys`).
-pub mod Keys

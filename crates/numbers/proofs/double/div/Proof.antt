@@ -1,0 +1,24 @@
+-- `double::div` meets its contract. Assumes nothing.
+use mathlib.Core.Path.{_∙_}
+use lib.Ieee as Ieee
+use lib.Ieee.{binary64, toBits}
+use borrow.Author.Needs.{needs}
+use Rattle.numbers.specs.Double.{doubleOf, divBits, divOf}
+use Rattle.numbers.proofs.double.div.Statement.{statement}
+use Rattle.numbers.proofs.double.div.Tie as tie
+
+float-of-requires : tie.Need-float-of-requires
+float-of-requires c κs = search needs
+
+float-of-requires-2 : tie.Need-float-of-requires-2
+float-of-requires-2 c κs = search needs
+
+double-of-requires : tie.Need-double-of-requires
+double-of-requires c κs = search needs
+
+returns : tie.Need-returns
+unfolding divOf divBits
+returns c = c .double-of .ensures ∙ (λ i. doubleOf (toBits binary64 (Ieee.div binary64 (c .before .before .float-of .ensures i) (c .before .float-of2 .ensures i))))
+
+pub div-spec : {M : Type 1} → statement M
+div-spec = tie.close (tie.spec float-of-requires float-of-requires-2 double-of-requires returns)

@@ -1,2 +1,0 @@
--- What the contracts cite: the order of two values.
-pub mod Order

@@ -1,2 +1,0 @@
--- What the contracts cite: words laid over lent ones.
-pub mod Over

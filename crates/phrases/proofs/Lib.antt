@@ -1,2 +1,0 @@
--- The ways through the functions.
-pub mod PhraseSteps

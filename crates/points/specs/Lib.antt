@@ -1,2 +1,0 @@
--- What the theorems speak of: the size of a point.
-pub mod Sizes

@@ -1,1 +1,0 @@
-// The theorems on the order of numbers. There is no code here.

@@ -1,2 +1,0 @@
--- What the contracts cite beside the machine: what is iterated over (`Ranges`).
-pub mod Ranges

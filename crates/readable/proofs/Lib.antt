@@ -1,2 +1,0 @@
--- That the readers show all of a value (`Showing`).
-pub mod Showing

@@ -1,2 +1,0 @@
--- What the readers show of a value (`Shown`).
-pub mod Shown

@@ -1,2 +1,0 @@
--- What the contracts cite: the numbers that errors and limits are known by.
-pub mod Numbers

@@ -1,0 +1,29 @@
+-- `plain::same_text` meets its contract. Assumes nothing.
+use Rattle.meaning.specs.Comparison.{textOrder}
+use borrow.Author.Needs.{needs}
+use Rattle.rooms_comparison.proofs.plain.same_text.Statement.{statement}
+use Rattle.rooms_comparison.proofs.plain.same_text.Tie as tie
+
+enum-told : tie.Need-enum-told
+enum-told c = search needs
+
+enum-told-2 : tie.Need-enum-told-2
+enum-told-2 c = search needs
+
+enum-told-3 : tie.Need-enum-told-3
+enum-told-3 c = search needs
+
+returns : tie.Need-returns
+unfolding textOrder
+returns c = search needs
+
+returns-2 : tie.Need-returns-2
+unfolding textOrder
+returns-2 c = search needs
+
+returns-3 : tie.Need-returns-3
+unfolding textOrder
+returns-3 c = search needs
+
+pub same-text-spec : {M : Type 1} → statement M
+same-text-spec = tie.close (tie.spec enum-told enum-told-2 enum-told-3 returns returns-2 returns-3)

@@ -1,0 +1,2 @@
+-- What the contracts cite: the rooms of a run, and what they hold afterwards (`Building`).
+pub mod Taking

@@ -1,2 +1,0 @@
--- Arithmetic on Doubles over whole numbers.
-pub mod Rounding

@@ -1,1 +1,0 @@
-// The theorems on division and rounding. There is no code here.

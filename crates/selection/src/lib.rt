@@ -1,4 +1,0 @@
-// Select and its test, index, and what both look up.
-pub mod indexing;
-mod lookups;
-pub mod select;

@@ -1,2 +1,0 @@
--- A value that is cut.
-pub mod Cut

@@ -1,4 +1,0 @@
--- What the contracts cite: the bindings that words stand for, and the words of bindings (`State`). What the theorem that the words come back
--- speaks of (`Settled`).
-pub mod State
-pub mod Settled

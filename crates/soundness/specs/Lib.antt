@@ -1,2 +1,0 @@
--- What the contracts cite: a whole room (`Sound`).
-pub mod Sound

@@ -1,2 +1,0 @@
--- Laws. Parts: where a part of a text begins and ends.
-pub mod Parts

@@ -1,2 +1,0 @@
--- What the proof of the function uses.
-pub mod Stows

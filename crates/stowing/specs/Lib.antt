@@ -1,2 +1,0 @@
--- What the contract cites: a binding room with its state, and bringing in.
-pub mod Stowing

@@ -1,2 +1,0 @@
--- What the contracts cite: two texts one after the other (`TextSums`).
-pub mod TextSums

@@ -1,2 +1,0 @@
--- What the contracts cite: what the code's steps stand for (`Passing`).
-pub mod Passing
