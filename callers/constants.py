@@ -142,7 +142,7 @@ def kinds() -> "list[Numbers]":
     specs = of(equations("crates/answer_values/specs/Kinds.antt", "kindOf"), "kindOf")
     where = "crates/answer_values/src/kinds.rt"
     # a name of the table's kinds, brought in under that name, or of the reader's own
-    brought = found(r"^use layout::kinds::(\w+);$", source(where), where)
+    brought = found(r"^use table_layout::kinds::(\w+);$", source(where), where)
     table = declared("crates/table_layout/src/kinds.rt")
     names = {**{name: table[name] for name in brought}, **declared(where)}
     return [specs, of(arms(where, "Value", names), "kind_of"), code]
@@ -183,7 +183,7 @@ def states() -> "list[Numbers]":
         "STATE_WORDS": "STATE_WORDS", "CELLS_AT": "STATE_CELLS", "BYTES_AT": "STATE_BYTES", "SLOTS_AT": "STATE_MARK", "SLOTS": "NAMES",
         "ABSENT": "NOTHING",
     }
-    return [{of: said[word] for word, of in meant.items()}, renamed(declared("crates/board_state/src/lib.rt"), called, "slots")]
+    return [{of: said[word] for word, of in meant.items()}, renamed(declared("crates/board_state/src/lib.rt"), called, "board_state")]
 
 
 def shapes() -> "list[Numbers]":
@@ -197,7 +197,7 @@ def shapes() -> "list[Numbers]":
     where = "crates/board_words/src/shapes.rt"
     words, = found(r"^    let words = \[(.*)\];$", source(where), where)
     spans, = found(r"=> \[(text_number.*)\],$", source(where), where)
-    found(r"^use packing::text_number;$", source(where), where)
+    found(r"^use rooms_cells::packing::text_number;$", source(where), where)
     span = dict(zip(("span[0]", "span[1]", "span[2]"), spans.split(", ")))
     whole = [span.get(word, word) for word in words.split(", ")]
     meant = {

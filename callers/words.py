@@ -52,11 +52,11 @@ def of_cells() -> "list[str]":
 
 
 def of_answers() -> "list[str]":
-    reports, sound = "crates/board_words/specs/Answers.antt", "crates/bindings_sound/specs/Sound.antt"
-    nothing = {int(number) for number in re.findall(r"= (\d+)[; ]", found(r"^nothingUsed = (record .*)$", source(reports), reports)[0])}
-    number, place = found(r"^done = report whichDone (\d+) (\d+) nothingUsed Value\.Absent$", source(reports), reports)[0]
+    answers, sound = "crates/board_words/specs/Answers.antt", "crates/bindings_sound/specs/Sound.antt"
+    nothing = {int(number) for number in re.findall(r"= (\d+)[; ]", found(r"^nothingUsed = (record .*)$", source(answers), answers)[0])}
+    number, place = found(r"^done = report whichDone (\d+) (\d+) nothingUsed Value\.Absent$", source(answers), answers)[0]
     if nothing != {int(number)} or number != place:
-        sys.exit(f"{reports}: what does not apply has several numbers")
+        sys.exit(f"{answers}: what does not apply has several numbers")
     cell = one(r"Sound \(Unsound (\d+)\)\)$", sound)
     return [f"What does not apply is {number}.", f"with the first bad cell, {cell} if none is bad by itself"]
 

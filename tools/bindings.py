@@ -1,5 +1,5 @@
 #!/usr/bin/env python3
-"""Makes the list of binding rooms of the program `binds`, and the answers that it must give.
+"""Makes the list of binding rooms of the program `test_bindings`, and the answers that it must give.
 
     tools/bindings.py                 writes crates/test_bindings/stdin and crates/test_bindings/stdout
     tools/bindings.py --against FILE  names the lines in which FILE, what a run wrote, differs from the answers

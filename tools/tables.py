@@ -1,5 +1,5 @@
 #!/usr/bin/env python3
-"""Makes the list of node tables of the program `tables`, and the answers that it must give.
+"""Makes the list of node tables of the program `test_tables`, and the answers that it must give.
 
     tools/tables.py                 writes crates/test_tables/stdin and crates/test_tables/stdout
     tools/tables.py --against FILE  names the lines in which FILE, what a run wrote, differs from the answers

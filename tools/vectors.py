@@ -1,5 +1,5 @@
 #!/usr/bin/env python3
-"""Makes the list of cases of the program `vectors`, and the answers that it must give.
+"""Makes the list of cases of the program `test_numbers`, and the answers that it must give.
 
     tools/vectors.py                 writes crates/test_numbers/stdin and crates/test_numbers/stdout
     tools/vectors.py --check         compares the answers with this machine's floats and its UTF-8 decoder

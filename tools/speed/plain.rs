@@ -1,4 +1,4 @@
-//! A plain Rust validator of the node table, written from docs/FORMAT.md: what `table::check` is timed against.
+//! A plain Rust validator of the node table, written from docs/FORMAT.md: what `table_check::check` is timed against.
 
 #[derive(Clone, Copy, PartialEq, Eq, Debug)]
 pub struct Refusal {

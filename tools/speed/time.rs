@@ -1,4 +1,4 @@
-//! Times `table::check` and the plain validator on the same tables, in one run. First both must agree on every case.
+//! Times `table_check::check` and the plain validator on the same tables, in one run. First both must agree on every case.
 //!
 //!     time TIMED CASES
 

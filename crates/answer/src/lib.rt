@@ -1,4 +1,5 @@
-// What comes back from an evaluation, and how a run ends: what was charged is cleared, unless there is a value.
+// The answer of an evaluation: a value, an error, exhaustion or a refusal.
+// Here: what comes back, and how a run ends: what was charged is cleared, unless there is a value. `reasons` has the numbers of errors and limits.
 pub mod reasons;
 
 ghost use mathlib.Core.Path.{_≡_};

@@ -1,4 +1,4 @@
--- What is proved of the definition's answers holds of what `evaluate` answers. Rests on Promises (crate answers). Assumes nothing.
+-- What is proved of the definition's answers holds of what `evaluate` answers. Rests on Promises (crate answer). Assumes nothing.
 use Prim.Native.Nat.{ℕ}
 use mathlib.Core.Path.{_≡_, sym, _∙_, subst}
 use mathlib.Core.List.{List}

@@ -1,5 +1,5 @@
--- Whatever is lent, a value that `evaluate` answers is well formed. In order: what stands in words is fine; the scope that a sound room holds;
--- a run under limits; the theorem. Rests on Verdicts (crate verdicts) and on what evaluation keeps (crate laws). Assumes nothing.
+-- Whatever is lent, a value that `evaluate` answers is well formed. In order: what stands in words is fine; the scope that a sound room holds; a
+-- run under limits; the theorem. Rests on Verdicts (crate bindings_laws) and on what evaluation keeps (crate meaning_laws). Assumes nothing.
 use Prim.Native.Nat.{ℕ, suc, _/_, _≤_}
 use mathlib.Core.Path.{_≡_, refl, sym, _∙_, subst}
 use mathlib.Core.List.{List, []}

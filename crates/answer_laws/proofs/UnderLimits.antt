@@ -1,5 +1,5 @@
--- What `evaluate` counts stays within the limits, and an answer that is not exhaustion stays when more is lent. Rests on Exhausted (crate laws).
--- Assumes nothing.
+-- What `evaluate` counts stays within the limits, and an answer that is not exhaustion stays when more is lent. Rests on Exhausted
+-- (crate meaning_laws). Assumes nothing.
 use Prim.Native.Nat.{ℕ}
 use mathlib.Core.Path.{_≡_, refl, sym, ap, _∙_, subst}
 use mathlib.Core.List.{List}

@@ -1,4 +1,4 @@
--- The laws that the functions' proofs cite.
+-- The law that the functions' proofs cite, on what stands below a count (`Indexed`); and the theorem that the readers show all of a value
+-- (`Showing`).
 pub mod Indexed
--- That the readers show all of a value (`Showing`).
 pub mod Showing

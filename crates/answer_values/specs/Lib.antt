@@ -1,12 +1,9 @@
--- What the contracts cite: what is read off a value (`Values`).
+-- What the contracts cite, of what is read off a value: its kind, and a Bool (`Kinds`); its number (`Numbers`); where its text lies, and how many
+-- parts it has (`SpansAndCounts`); elements, and what an Optional holds (`Elements`); keys and values of a Map (`Entries`). What the readers show
+-- of a value together (`Shown`).
 pub mod Kinds
--- What the contracts cite: the number of a value (`Numbers`).
 pub mod Numbers
--- What the contracts cite: where a text lies, how many parts there are (`Extents`).
 pub mod SpansAndCounts
--- What the contracts cite: elements and what an Optional holds (`Elements`).
 pub mod Elements
--- What the contracts cite: keys and values of a Map (`Entries`).
 pub mod Entries
--- What the readers show of a value (`Shown`).
 pub mod Shown

@@ -1,11 +1,12 @@
-// What a caller reads off a value: its kind, and a Bool.
-// What a caller reads off a value: its number.
-// What a caller reads off a value: where its text lies, and how many parts it has.
-// What a caller reads off a value: the elements of a List, and what an Optional holds.
-// What a caller reads off a value: the keys and values of a Map.
-// The theorem that the readers show all of a value. No code.
+// What a caller reads off a value. Every reader takes any value; that the readers show all of it is proved in proofs/Showing.
+
+// The elements of a List, and what an Optional holds.
 pub mod elements;
+// The keys and values of a Map.
 pub mod entries;
+// The kind of a value, and a Bool.
 pub mod kinds;
+// The number of a value.
 pub mod numeric;
+// Where a text lies, and how many parts there are.
 pub mod spans_and_counts;

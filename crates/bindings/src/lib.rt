@@ -1,4 +1,6 @@
-// Bindings are brought into a room from tables of literals, refused, and emptied. A refusal changes nothing that is lent.
+// Bindings: values that tables of literals spell, kept in a binding room under names.
+// Here: a binding is brought in, and a room is emptied. A refusal changes nothing that is lent. `admission` decides whether a binding may be
+// brought in, and `laying` lays its value down in the room.
 pub mod admission;
 pub mod laying;
 

@@ -1,11 +1,14 @@
--- From the leaves up: what laying literals down keeps, the values that were there, the values that are laid down, the theorem.
+-- The theorems on binding rooms, in each group from the leaves up.
+
+-- bringing in: what laying literals down keeps, the values that were there, the values that are laid down, the theorem, and what follows for the
+-- names
 pub mod LayingKeeps
 pub mod OlderValues
 pub mod LaidScalars
 pub mod LaidValues
 pub mod Brought
 pub mod AfterBringing
--- From the leaves up: values that stand and fit, what a sound room holds, the place of an unsound one.
+-- the verdict on a room: values that stand and fit, the first bad cell, the theorem
 pub mod Formed
 pub mod FirstBad
 pub mod Verdicts

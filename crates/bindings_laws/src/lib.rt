@@ -1,2 +1,2 @@
-// The theorem that a binding brought in is what the definition brings in. No code.
-// The theorems that a sound binding room holds well-formed values, and that an unsound one's place is its first bad cell. No code.
+// Theorems on binding rooms: a binding brought in is what the definition brings in; a sound room holds well-formed values, and an unsound one's
+// place is its first bad cell. There is no code here.

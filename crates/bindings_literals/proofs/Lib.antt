@@ -1,12 +1,14 @@
--- The laws on literals that functions' proofs cite, from the leaves up.
+-- The laws that functions' proofs cite, in each group from the leaves up.
+
+-- the literals of a table
 pub mod Heads
 pub mod Rows
 pub mod LiteralLaws
 pub mod PartLaws
--- The laws that the functions' proofs cite.
+-- the keys of a Map
 pub mod KeySteps
 pub mod KeyLaws
--- The laws that the functions' proofs cite, from the leaves up; and that what is found of keys is what the definition's spelling finds (SpelledLaws).
+-- what a table comes to; and that what is found of keys is what the definition's spelling finds (`SpelledLaws`)
 pub mod JudgeLaws
 pub mod JudgingSteps
 pub mod JudgeSteps

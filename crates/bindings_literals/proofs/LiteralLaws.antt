@@ -28,7 +28,7 @@ use Rattle.table_check.specs.Fits.{isSome}
 use Rattle.table_layout.specs.Layout.{longAt}
 use Rattle.table_check.specs.Records.{exprOf, callOf, Sound, kindByte}
 use Rattle.table_check.specs.Opened.{Opened}
-use Rattle.table_layout.proofs.LongLaws.{four-is, long-is}
+use Rattle.table_layout.proofs.NumberLiteralLaws.{four-is, long-is}
 use Rattle.table_check.proofs.FieldLaws.{span-inside}
 use Rattle.table_check.proofs.Opened.{opened}
 use Rattle.table_check.proofs.Parts.{sound-kind}

@@ -1,5 +1,5 @@
--- The literals of a table (`Literals`), and how they are laid down (`Laying`).
+-- What contracts and laws cite: the literals of a table (`Literals`), how they are laid down (`Laying`), and what a table comes to as a binding
+-- (`Judging`).
 pub mod Literals
 pub mod Laying
--- What the contracts cite: what a table comes to as a binding (`Judging`).
 pub mod Judging

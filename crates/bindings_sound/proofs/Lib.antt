@@ -1,10 +1,8 @@
--- The laws that the functions' proofs cite.
+-- The ways through the functions, which their proofs cite: keys (`KeySteps`), what a cell refers to (`ReferenceSteps`), a whole room
+-- (`SoundSteps`). And what follows for values and cells of a sound room (`FitLaws`), and what such a room holds (`HeldLaws`, `SoundScope`).
 pub mod KeySteps
--- The laws that the functions' proofs cite.
 pub mod ReferenceSteps
--- The laws that the functions' proofs cite.
 pub mod SoundSteps
--- What a sound room is (Goods), and what it holds (HeldLaws, SoundScope).
 pub mod FitLaws
 pub mod HeldLaws
 pub mod SoundScope

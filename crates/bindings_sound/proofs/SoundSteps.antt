@@ -1,4 +1,5 @@
--- The ways through a turn of the loops, over plain variables: what is left is what the definition says of the whole. Assumes nothing.
+-- The ways through a turn of the loops over the cells and the slots of a room, over plain variables: what is left is what the definition says of
+-- the whole. Assumes nothing.
 use Prim.Native.Nat.{ℕ, zero, suc, _+_, _-_, _≤_, _<_}
 use mathlib.Core.Path.{_≡_, sym, _∙_}
 use mathlib.Core.List.{List}

@@ -1,4 +1,5 @@
-// The evaluator for callers in C and Rust: numbers and slices only. Whatever is lent, there is an answer. include/ombravelik.h says how they are called.
+// The evaluator for callers in C and Rust: numbers and slices only. Whatever is lent, there is an answer. include/ombravelik.h says how the
+// functions are called.
 ghost use mathlib.Core.Path.{_≡_};
 ghost use mathlib.Core.List.{List};
 ghost use Prim.Native.Nat.{ℕ};

@@ -1,4 +1,4 @@
--- What each function does, from what those that it calls say. Assumes nothing.
+-- What each function of `intake` does, from what those that it calls say. Assumes nothing.
 use Prim.Native.Nat.{ℕ, _≤_, _<_}
 use mathlib.Core.Path.{_≡_, refl, sym, ap, _∙_}
 use mathlib.Core.List.{List}

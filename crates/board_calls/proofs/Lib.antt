@@ -1,4 +1,3 @@
--- What the proofs of the functions share.
+-- What each function does, from what those that it calls say, of the module `intake` (`IntakeSteps`) and of `readout` (`ReadOutSteps`).
 pub mod IntakeSteps
--- What the proofs of the functions share.
 pub mod ReadOutSteps

@@ -1,4 +1,4 @@
--- What each function does, from what those that it calls say. Assumes nothing.
+-- What each function of `readout` does, from what those that it calls say. Assumes nothing.
 use Prim.Native.Nat.{ℕ}
 use mathlib.Core.Path.{_≡_, ap, _∙_}
 use mathlib.Core.List.{List}

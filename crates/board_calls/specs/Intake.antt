@@ -1,4 +1,4 @@
--- What each function returns and leaves in lent memory, from what the crates below it say.
+-- What each function of `intake` returns and leaves in lent memory, from what the crates below it say.
 use Prim.Native.Nat.{ℕ}
 use mathlib.Core.List.{List}
 use mathlib.Core.Bool.{cond}

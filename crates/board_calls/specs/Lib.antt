@@ -1,4 +1,3 @@
--- What the contracts cite: what each function returns and leaves in lent memory.
+-- What the contracts cite: what each function returns and leaves in lent memory, of the module `intake` (`Intake`) and of `readout` (`ReadOut`).
 pub mod Intake
--- What the contracts cite: what each function returns and leaves in lent memory.
 pub mod ReadOut

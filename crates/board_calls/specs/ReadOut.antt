@@ -1,4 +1,4 @@
--- What each function returns and leaves in lent memory: a value or a part of one by its kind, with the words that say what it is.
+-- What each function of `readout` returns and leaves in lent memory: a value or a part of one by its kind, with the words that say what it is.
 use Prim.Native.Nat.{ℕ}
 use mathlib.Core.List.{List}
 use Rattle.rooms.specs.declared.value.Value.{Value}

@@ -1,5 +1,5 @@
--- Words 2n and 2n + 1 of a state are the value of name n: they read as what it has in the room that the state stands for. Rests on WordsAgain and on
--- SoundScope (crate held). Assumes nothing.
+-- Words 2n and 2n + 1 of a state are the value of name n: they read as what it has in the room that the state stands for. Rests on WordsAgain and
+-- on SoundScope (crate bindings_sound). Assumes nothing.
 use Prim.Native.Nat.{ℕ, _+_, _*_, _<_}
 use mathlib.Core.Path.{_≡_, refl, sym, ap, ap₂, _∙_}
 use mathlib.Core.Logic.{_⊎_, inl, inr, _↔_}

@@ -1,4 +1,4 @@
--- Bringing in over a state is what the definition brings in. Rests on Brought (crate brought), SettledAnswers and FitSlots. Assumes nothing.
+-- Bringing in over a state is what the definition brings in. Rests on Brought (crate bindings_laws), SettledAnswers and FitSlots. Assumes nothing.
 use Prim.Native.Nat.{ℕ, _*_, _/_, _≤_, _<_}
 use mathlib.Core.Path.{_≡_, refl, sym, ap, ap₂, _∙_, subst}
 use mathlib.Core.Bool.{Bool, true, false, cond}

@@ -1,4 +1,5 @@
--- Every state that calls make stands for the room that the definition makes by the same bindings. Rests on BroughtOver and RuledOver. Assumes nothing.
+-- Every state that calls make stands for the room that the definition makes by the same bindings. Rests on BroughtOver and RuledOver.
+-- Assumes nothing.
 use Prim.Native.Nat.{ℕ, _/_, _≤_}
 use mathlib.Core.Path.{_≡_, refl, sym, ap, _∙_, subst}
 use mathlib.Core.Bool.{Bool, true, false}

@@ -1,5 +1,5 @@
 -- A value's two words, as an answer or a part has them, are read as that value: what is handed out by one call is taken back by the next.
--- Rests on CellWords and on Showing (crate readable). Assumes nothing.
+-- Rests on CellWords and on Showing (crate answer_values). Assumes nothing.
 use Prim.Native.Nat.{ℕ, _+_, _*_, _^_, _<_}
 use mathlib.Core.Path.{_≡_, refl, sym, ap, ap₂, _∙_}
 use mathlib.Core.Bool.{Bool, true, false, cond}

@@ -1,6 +1,6 @@
--- A state that was emptied stands for the definition's empty room. What evaluating over a state returns, the words of its answer and the rooms
--- are what the definition answers; a value that comes back is well formed. Rests on Brought (crate brought), Carried, FittingAnswers and
--- FormedAnswers (crate carried) and FitSlots. Assumes nothing.
+-- A state that was emptied stands for the definition's empty room. What evaluating over a state returns, the words of its answer and the rooms are
+-- what the definition answers; a value that comes back is well formed. Rests on Brought (crate bindings_laws), Carried, FittingAnswers and
+-- FormedAnswers (crate answer_laws) and FitSlots. Assumes nothing.
 use Prim.Native.Nat.{ℕ, _≤_}
 use mathlib.Core.Path.{_≡_, refl, sym, ap, _∙_, subst}
 use mathlib.Core.List.{List}

@@ -1,4 +1,5 @@
--- The words that are in order as a state: as many as one has, with the number of slots, and for each name a value's words or those that say there is none.
+-- The words that are in order as a state: as many as one has, with the number of slots, and for each name a value's words or those that say there
+-- is none.
 use Prim.Native.Nat.{ℕ, _^_, _<_}
 use mathlib.Core.Path.{_≡_}
 use mathlib.Core.Logic.{_⊎_}

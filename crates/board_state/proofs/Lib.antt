@@ -1,7 +1,6 @@
--- What the proofs of the functions share (`Filling`). That a state gives back the bindings put into it (`RoundTrip`), and that no room is sound
--- with words that are no state (`NoState`).
+-- What the functions' proofs use: slots read and written (`SlotSteps`), and bringing in over a state (`BringingSteps`). The theorems: a state gives
+-- back the bindings put into it (`RoundTrip`), and no room is sound with words that are no state (`NoState`).
 pub mod SlotSteps
 pub mod RoundTrip
 pub mod NoState
--- What the proof of the function uses.
 pub mod BringingSteps

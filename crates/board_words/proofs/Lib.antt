@@ -1,6 +1,4 @@
--- What the proofs of the functions share.
+-- What the functions' proofs share: words laid over lent ones (`OverlaySteps`), a value's words (`ShapeLaws`), an answer's words (`AnswerSteps`).
 pub mod OverlaySteps
--- What the proofs of the functions share.
 pub mod ShapeLaws
--- What the proofs of the functions share.
 pub mod AnswerSteps

@@ -1,7 +1,6 @@
--- What the contracts cite: words laid over lent ones.
+-- What the contracts cite: words laid over lent ones (`Overlay`); the words that say what a value is by itself, and those of a part (`Shapes`); an
+-- answer as words (`Answers`), and what an evaluation over a state's words returns and leaves (`Evaluation`).
 pub mod Overlay
--- What the contracts cite: the words that say what a value is by itself, and those of a part.
 pub mod Shapes
--- What the contracts cite: an answer as words (`Report`), and what an evaluation over a state's words returns and leaves (`Evaluation`).
 pub mod Answers
 pub mod Evaluation

@@ -1,6 +1,8 @@
-// Words laid over the first of a lent slice, and values as two words.
-// A value as words that say what it is by itself, and its parts as words.
-// An answer as words; what an evaluation over a state's words is.
+// Answers and values as words, as callers in C and Rust read them.
+
+// An answer as eight words.
 pub mod answers;
+// Words laid over the first of a lent slice, and values as two words.
 pub mod overlay;
+// What a value is by itself, as six words, and the two words of a part.
 pub mod shapes;

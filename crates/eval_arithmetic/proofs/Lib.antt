@@ -1,4 +1,3 @@
--- Laws for the functions' proofs. Assume nothing.
+-- Laws for the functions' proofs: two texts one after the other (`JoinedTexts`), and arithmetic on what is no number (`NoNumber`). Assume nothing.
 pub mod JoinedTexts
--- Laws for the functions' proofs. Assume nothing.
 pub mod NoNumber

@@ -1,6 +1,5 @@
--- What the contracts cite: two texts one after the other (`TextSums`).
+-- What the contracts cite beside the machine: two texts one after the other (`TextSums`), `+` of what has parts (`ListSums`), and `+` of what is no
+-- number (`Sums`).
 pub mod TextSums
--- What the contracts cite: `+` of what has parts (`ListSums`).
 pub mod ListSums
--- What the contracts cite beside the machine: `+` of what is no number (`Sums`).
 pub mod Sums

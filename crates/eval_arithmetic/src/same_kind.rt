@@ -1,4 +1,4 @@
-// Arithmetic on two numbers of one kind, by the rules of the crates signed, unsigned and floats, and its answers as outcomes.
+// Arithmetic on two numbers of one kind, by the rules of the crate numbers, and its answers as outcomes.
 ghost use mathlib.Core.Path.{_≡_};
 ghost use Rattle.machine.specs.Numbers.{intOut, uintOut, doubleOut, doublesOut};
 ghost use Rattle.eval_outcomes.specs.Seen.{arithSeen};

@@ -1,4 +1,5 @@
-// `==`, `!=` and the orderings, by the rules of the crates equality and ordering.
+// `==`, `!=`, the orderings and `in`, by the rules of the crate rooms_comparison.
+// Here: all of these but `in`, which is in `membership`.
 pub mod membership;
 
 ghost use mathlib.Core.Path.{_≡_};

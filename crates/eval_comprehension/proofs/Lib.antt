@@ -1,6 +1,5 @@
--- Laws for the functions' proofs, and for those who call: a comprehension's decisions are the machine's (`Looped`). Assume nothing.
+-- Laws for those who call: a comprehension's decisions are the machine's (`StepLaws`), and so is what a turn gathers (`AppendTurnLaws`). For the
+-- functions' proofs: runs of cells copied one after the other (`AppendResultLaws`). Assume nothing.
 pub mod StepLaws
--- Laws for those who call: what is gathered is the machine's (`GatherLaws`). Assume nothing.
 pub mod AppendTurnLaws
--- Laws for the functions' proofs. Assume nothing.
 pub mod AppendResultLaws

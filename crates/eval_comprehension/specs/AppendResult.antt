@@ -1,4 +1,4 @@
--- What is collected, as the code has it.
+-- What is collected on the append path, as the code has it.
 use Prim.Native.Nat.{ℕ}
 use mathlib.Core.List.{List}
 use Rattle.machine.specs.Comprehension.{Gathered}

@@ -1,8 +1,6 @@
--- What the contracts cite beside the machine: what is iterated over (`Ranges`).
+-- What the contracts cite beside the machine: what is iterated over (`Ranges`); a comprehension's decisions (`Steps`); on the append path a turn's
+-- elements (`AppendTurn`), and what is collected (`AppendResult`).
 pub mod Ranges
--- What the contracts cite beside the machine: a comprehension's decisions.
 pub mod Steps
--- What the contracts cite beside the machine: a turn's elements (`Gathers`).
 pub mod AppendTurn
--- What the contracts cite beside the machine: what is collected (`Collects`).
 pub mod AppendResult

@@ -1,4 +1,5 @@
-// List and Map records: their cells, a key, and the whole. Both take their cells as they begin.
+// List and Map records in the making. Both take their cells as they begin.
+// Here: those cells, a key, and the whole. `elements` stores an element of a List, and `entries` tests and stores an entry of a Map.
 pub mod elements;
 pub mod entries;
 

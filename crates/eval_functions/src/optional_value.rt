@@ -1,4 +1,4 @@
-// The functions on Optionals: hasValue, value and orValue. optional.of is `present` of optionals.
+// The functions on Optionals: hasValue, value and orValue. optional.of is `optional_of::present`.
 ghost use mathlib.Core.Path.{_≡_};
 ghost use mathlib.Core.List.{List};
 ghost use Prim.Native.Nat.{ℕ};

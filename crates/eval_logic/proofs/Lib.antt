@@ -1,4 +1,4 @@
--- For callers: what a condition decides is what the machine does.
+-- For those who call: what a condition decides is what the machine does (`ConditionLaws`). For the functions' proofs: left errors that stay
+-- (`LeftErrors`). Assume nothing.
 pub mod ConditionLaws
--- Laws for the functions' proofs. Assume nothing.
 pub mod LeftErrors

@@ -1,4 +1,3 @@
--- What the contract cites: what a condition decides (`Decisions`).
+-- What the contracts cite: what a condition decides (`Conditions`), and what follows the left operand of `||` and `&&` (`Deciding`).
 pub mod Conditions
--- What the contracts cite: what follows the left operand (`Going`).
 pub mod Deciding

@@ -1,4 +1,6 @@
-// `||` and `&&`, from what both operands gave.
+// Logic on what operands gave: `||`, `&&`, `!`, not-strictly-false, conditions and guards.
+// Here: `||` and `&&`, after both operands. `deciding` says whether one operand decides by itself, `conditions` what a condition or a guard says,
+// and `negation` has `!` and not-strictly-false.
 pub mod conditions;
 pub mod deciding;
 pub mod negation;

@@ -1,4 +1,3 @@
--- Laws for the functions' proofs. Assume nothing.
+-- Laws for the functions' proofs: operators on two values (`TwoValueLaws`), and what both operands make (`BothOperandLaws`). Assume nothing.
 pub mod TwoValueLaws
--- Laws for the functions' proofs. Assume nothing.
 pub mod BothOperandLaws

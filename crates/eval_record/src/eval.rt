@@ -1,5 +1,5 @@
-// The record evaluator, which the lists, the maps and the comprehensions call and are called by. An operand that is a literal or a name, or near those,
-// is evaluated by the caller with its slots, since every call of these copies the scope.
+// The record evaluator, which the lists, the maps and the comprehensions call and are called by. An operand that is a literal or a name, or near
+// those, is evaluated by the caller with its slots, since every call of these copies the scope.
 ghost use Rattle.rooms.specs.Rooms.{rooms};
 ghost use Rattle.table_check.specs.Records.{Sound, exprOf};
 ghost use Rattle.machine.specs.Machine.{machine};

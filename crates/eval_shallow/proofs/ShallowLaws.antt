@@ -1,4 +1,5 @@
--- The slots of a record within reach, as the code finds them, and what they tell of a literal or a name and of a record that is near. Assumes nothing.
+-- The slots of a record within reach, as the code finds them, and what they tell of a literal or a name and of a record that is near.
+-- Assumes nothing.
 use Prim.Native.Nat.{ℕ}
 use mathlib.Core.Path.{_≡_, sym, _∙_}
 use mathlib.Core.Bool.{Bool, true, false}

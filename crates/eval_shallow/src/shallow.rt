@@ -1,5 +1,5 @@
-// A record within reach: a literal, a name, or one whose operands are at most one level above those. It is evaluated with its slots and no scope: a call
-// that takes a scope copies it.
+// A shallow record, one within reach: a literal, a name, or one whose operands are at most one level above those. It is evaluated with its slots
+// and no scope: a call that takes a scope copies it.
 ghost use mathlib.Core.Path.{_≡_};
 ghost use Rattle.rooms.specs.Rooms.{rooms};
 ghost use Rattle.table_check.specs.Records.{Sound, exprOf};

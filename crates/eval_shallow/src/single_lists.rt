@@ -1,4 +1,5 @@
-// A List record of one element without a mark, the element within reach, evaluated with its slots and no scope: what a turn of the append path begins.
+// A List record of one element without a mark, the element within reach, evaluated with its slots and no scope: what a turn of the append path
+// begins.
 ghost use mathlib.Core.Path.{_≡_};
 ghost use Rattle.rooms.specs.Rooms.{rooms};
 ghost use Rattle.table_check.specs.Records.{Sound, exprOf};

@@ -1,7 +1,6 @@
--- The ways through the functions.
+-- The ways through the functions: parts of a line (`PhraseSteps`), a value that is cut (`Cut`), a whole line (`Steps`). And the theorem that a line
+-- says what the answer says (`Said`).
 pub mod PhraseSteps
--- A value that is cut.
 pub mod Cut
--- The ways through the function (`Steps`); and the theorem that a line says what the answer says (`Said`).
 pub mod Steps
 pub mod Said

@@ -1,4 +1,4 @@
--- What the contracts cite: the line of an answer (`Written`), which is the format that a reader has to believe.
+-- What the contracts cite: the line of an answer (`Written`), which is the format that a reader has to believe; and the same where the answer's
+-- value lies (`Shown`).
 pub mod Written
--- What the contract cites: the line of an answer where its value lies (`Shown`).
 pub mod Shown

@@ -1,4 +1,5 @@
-// The line of an answer.
+// The line of an answer, put into lent memory.
+// Here: the whole line. `phrases` puts its counts, places and limits, and `shortening` cuts a value that is too long.
 pub mod phrases;
 pub mod shortening;
 

@@ -1,7 +1,6 @@
--- The laws that functions' proofs cite (`Putting`); what the memory holds then (`Split`).
+-- The laws that functions' proofs cite: text put into memory (`Putting`), numbers (`Numerals`), quoted text (`QuotedText`). And what the memory
+-- holds then (`Split`).
 pub mod Putting
 pub mod Split
--- The laws that the functions' proofs cite, of `decimals` too.
 pub mod Numerals
--- The laws that the functions' proofs cite.
 pub mod QuotedText

@@ -1,4 +1,4 @@
-// Digits, put into lent memory one behind the other.
+// Hexadecimal digits, put into lent memory one behind the other.
 ghost use mathlib.Core.Path.{_≡_};
 ghost use Prim.Native.Nat.{_<_};
 ghost use Rattle.line_pieces.specs.Page.{Page};

@@ -1,4 +1,5 @@
 // Pieces of text, put into lent memory one behind the other. A byte that finds no room is left out, so a line that grows too long just ends.
+// Here: bytes and words. `decimals` and `hexadecimal` put numbers, and `quoting` puts quoted text.
 pub mod decimals;
 pub mod hexadecimal;
 pub mod quoting;

@@ -1,4 +1,5 @@
-// A value as text, put into lent memory. Parts that stand in it many times are put each time, up to where the memory ends.
+// Values as text, put into lent memory. Parts that stand in a value many times are put each time, up to where the memory ends.
+// Here: any value. `nested` puts a value with its parts, `plain` one without parts, and `scalars` a Bool, a number or a text.
 pub mod nested;
 pub mod plain;
 pub mod scalars;

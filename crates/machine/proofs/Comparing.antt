@@ -1,4 +1,5 @@
--- `==`, `!=`, the order and operators of two operands refine their rules. Rests on Steps, Operands, and the crate rooms. Assumes nothing.
+-- `==`, `!=`, the order and operators of two operands refine their rules. Rests on Steps, Operands, and the crates rooms and rooms_comparison.
+-- Assumes nothing.
 use Prim.Native.Nat.{ℕ}
 use mathlib.Core.Path.{_≡_, refl, sym, ap, ap₂, _∙_, subst}
 use mathlib.Core.List.{List}

@@ -1,4 +1,4 @@
--- The append path of a comprehension refines its rule. Rests on Runs, Turns, Building. Assumes nothing.
+-- The append path of a comprehension refines its rule. Rests on Runs and Building. Assumes nothing.
 use Prim.Native.Nat.{ℕ, suc, _+_, _*_, _≤_, _<_, max}
 use mathlib.Core.Path.{_≡_, refl, sym, ap, _∙_, subst}
 use mathlib.Core.List.{List, [], _∷_, _++_}

@@ -1,4 +1,5 @@
--- Arithmetic, unary `-`, and `+` on texts and lists refine their rules. Rests on Building; ranges are the crate laws'. Assumes nothing.
+-- What Arithmetic rests on: numbers are held; two operands of one kind; what the machine does with the left operand, by the view of the right one.
+-- Rests on Words. Assumes nothing.
 use Prim.Native.Nat.{ℕ, suc, _^_, _<_}
 use mathlib.Core.Path.{_≡_, refl, ap, _∙_}
 use mathlib.Core.List.{List}

@@ -1,4 +1,5 @@
--- Pairs of values are charged a step each, by equality and by the look-up of a key. Rests on Charges and on the crate rooms. Assumes nothing.
+-- Pairs of values are charged a step each, by equality and by the look-up of a key. Rests on Charges and on the crate rooms_comparison.
+-- Assumes nothing.
 use Prim.Native.Nat.{ℕ, zero, suc, _+_}
 use mathlib.Core.Path.{_≡_, refl, sym, ap, _∙_, subst}
 use mathlib.Core.List.{List, [], _∷_, _++_, append-nil}

@@ -1,5 +1,5 @@
 -- Comprehensions keep what evaluation keeps, whichever path they take, if their parts do: the slots of every scope that they make are fine.
--- Rests on Kept and KeptContainers. Assumes nothing.
+-- Rests on Kept. Assumes nothing.
 use Prim.Native.Nat.{ℕ}
 use mathlib.Core.List.{List, [], _∷_}
 use mathlib.Core.Option.{Option, none, some, Option·map}

@@ -1,5 +1,5 @@
 -- When keys match: matching has no side, so an entry that matches none before it may be added to a map.
--- Rests on the laws of order of the crates numbers and text. Assumes nothing.
+-- Rests on the laws of order of the crates numbers_laws and text. Assumes nothing.
 use Prim.Native.Nat.{ℕ}
 use mathlib.Core.Path.{_≡_, refl, sym, ap₂, _∙_}
 use mathlib.Core.Bool.{Bool, true, false, _&&_, cond}

@@ -1,5 +1,5 @@
 -- Arithmetic stays within 64 bits: what each operator on Int, Uint and Double answers is a number of its kind.
--- Rests on the laws of the crates numbers and rounding. Assumes nothing.
+-- Rests on the laws of the crates numbers and numbers_laws. Assumes nothing.
 use Prim.Native.Nat.{ℕ, _^_, _<_}
 use mathlib.Core.Path.{_≡_}
 use mathlib.Core.Bool.{true}

@@ -1,5 +1,5 @@
 -- The steps of a comprehension: those of init, range and, at the items, of each part where it is begun; in the loop and on the append path.
--- Rests on CoveredSteps, BegunItems and LookWritten. Assumes nothing.
+-- Rests on CoveredSteps and BegunItems. Assumes nothing.
 use Prim.Native.Nat.{ℕ}
 use mathlib.Core.Path.{_≡_, refl, sym, _∙_, ap, subst}
 use mathlib.Core.List.{List, [], _∷_, _++_, append-assoc}

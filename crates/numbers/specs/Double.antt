@@ -1,6 +1,6 @@
 -- A Double is its 64 bits: the sign, 11 bits of exponent and 52 digits of IEEE 754 binary64.
 -- In order: what the bits stand for, in whole numbers; arithmetic on bits; the code's `Double`, a spelling of the bits.
--- lib.Ieee is the kit's definition of the machine's floats. That it rounds once and to nearest is proved in the crate rounding.
+-- lib.Ieee is the kit's definition of the machine's floats. That it rounds once and to nearest is proved in the crate numbers_laws.
 use mathlib.Core.Path.{_≡_}
 use mathlib.Core.Bool.{Bool, true, false, cond}
 use Prim.Native.Nat.{ℕ, zero, suc, _+_, _*_, _/_, _%_, _^_}

@@ -1,10 +1,13 @@
--- Laws for callers: OrderLaws, WholeLaws. The others are steps to those, to comparison and to rounding.
+-- Theorems on numbers. For callers: their order (OrderLaws, WholeLaws), and what arithmetic is (RoundingLaws, DivisionLaws). The others are steps
+-- to those and to the comparison of numbers.
+
+-- the order of numbers
 pub mod BitsOne
 pub mod OrderLaws
 pub mod PointLaws
 pub mod SignedOrder
 pub mod WholeLaws
--- What arithmetic is: RoundingLaws, DivisionLaws. The others are steps to those.
+-- arithmetic
 pub mod DivisionLaws
 pub mod Nearest
 pub mod NearestOne

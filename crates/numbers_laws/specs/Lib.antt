@@ -1,4 +1,3 @@
--- What the theorems speak of: the size of a point.
+-- What the theorems speak of: the size of a point (`Sizes`), and arithmetic on Doubles over whole numbers (`Rounding`).
 pub mod Sizes
--- Arithmetic on Doubles over whole numbers.
 pub mod Rounding

@@ -1,2 +1,1 @@
-// Theorems on the order of numbers. No code.
-// Theorems on arithmetic: what division leaves, and that Doubles are rounded once and to nearest. No code.
+// Theorems on numbers: their order, what division leaves, and that Doubles are rounded once and to nearest. There is no code here.

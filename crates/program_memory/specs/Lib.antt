@@ -1,4 +1,3 @@
--- What the contracts cite: what lent memory holds at first (`Lent`).
+-- What the contracts cite: what lent memory holds at first (`BeforeRun`), and what must have become of it after an evaluation (`AfterRun`).
 pub mod BeforeRun
--- What the contracts cite: what must have become of lent memory after an evaluation (`Kept`).
 pub mod AfterRun

@@ -1,4 +1,4 @@
-// What a line does: `eval` here, the other commands as `bench` has them.
+// What a line does: `eval` here, the other commands as `replay_lines` has them.
 use crate::said::bad;
 use crate::said::say;
 use crate::said::tell;

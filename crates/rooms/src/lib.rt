@@ -1,4 +1,4 @@
-// Values in lent memory: what a value is, how it lies in a cell, and what is done with it there.
+// Values in lent memory: what a value is, where its parts may lie, and what the names stand for. Cells are read and written in rooms_cells.
 pub mod places;
 pub mod scope;
 pub mod value;

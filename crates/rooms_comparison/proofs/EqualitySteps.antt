@@ -1,4 +1,4 @@
--- The ways through a turn of the loops, over plain variables: what is left is what the definition says of the whole. Assumes nothing.
+-- The ways through a turn of the loops of `equality`, over plain variables: what is left is what the definition says of the whole. Assumes nothing.
 use Prim.Native.Nat.{ℕ, suc, _+_, _-_, _≤_, _<_}
 use mathlib.Core.Path.{_≡_, sym, ap, _∙_}
 use native.Mathlib.Numerals.{add-one}

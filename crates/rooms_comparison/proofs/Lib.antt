@@ -1,19 +1,20 @@
--- Laws. SeenMeaning: what the code sees of values that stand is what the definition sees. KeyMatches: when a key is found. The others are
--- steps to those and to the contracts.
+-- Laws on values that stand for values of the definition. SeenMeaning: what the code sees of them is what the definition sees. KeyMatches: when a
+-- key is found. EqualMeaning, OrderMeaning: equality and order are the definition's. The others are steps to those and to the contracts.
+
+-- values without parts, and the look-up of a key
 pub mod AskedFirst
 pub mod Classes
 pub mod KeyMatches
 pub mod LookUpSteps
 pub mod ScalarLaws
 pub mod SeenMeaning
--- Laws. EqualMeaning: what the code decides of values that stand is what the definition says. Charges: what a count comes to under a limit.
+-- equality: what a count comes to under a limit, and what equality means
 pub mod Charges
 pub mod EqualMeaning
--- The ways through the functions.
+-- the ways through the functions: equality, then `in` a list
 pub mod EqualitySteps
 pub mod PairSteps
--- The ways through the functions (`AmongSteps`), and those for a value without parts (`PlainSteps`).
 pub mod AmongSteps
 pub mod PlainSteps
--- Laws. OrderMeaning: the order of values that stand is the definition's.
+-- order
 pub mod OrderMeaning

@@ -1,4 +1,4 @@
--- The ways through one pair of `equality`, over plain variables. Assumes nothing.
+-- The ways through `equality::pair`, over plain variables. Assumes nothing.
 use Prim.Native.Nat.{ℕ, suc, _+_, _-_, _≤_, _<_}
 use mathlib.Core.Path.{_≡_, refl, sym, ap, _∙_}
 use mathlib.Core.Bool.{Bool}

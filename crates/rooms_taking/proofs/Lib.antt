@@ -1,9 +1,8 @@
--- The laws that functions' proofs cite: the steps of the code (BuildingSteps).
+-- The steps of the code, which functions' proofs cite (`TakingSteps`; `OneSlice` for the copies). The theorems: what is built stands, and touches
+-- no other value (`Built`, `Copied`, `Pasted`), and clearing clears what was used and nothing else (`Zeroed`).
 pub mod TakingSteps
--- What is built stands, and touches no other value (Built, Copied, Pasted); clearing (Zeroed).
 pub mod Built
 pub mod Copied
 pub mod Pasted
 pub mod Zeroed
--- What the proofs of the copies share: bytes copied from one slice (`OneSlice`).
 pub mod OneSlice

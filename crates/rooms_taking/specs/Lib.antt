@@ -1,2 +1,2 @@
--- What the contracts cite: the rooms of a run, and what they hold afterwards (`Building`).
+-- What the contracts cite: the rooms of a run, and what they hold afterwards (`Taking`).
 pub mod Taking

@@ -1,4 +1,6 @@
-// Room for the cells and the text of a run: how much is lent, what is taken of it, and that all that was taken is cleared after an error or exhaustion.
+// Room for the cells and the text of a run.
+// Here: how much is lent, room taken of it, and all that was taken cleared after an error or exhaustion. `copying` copies the parts of a value to
+// where room was taken for them.
 pub mod copying;
 
 ghost use mathlib.Core.Path.{_≡_};

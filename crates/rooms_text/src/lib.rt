@@ -1,4 +1,5 @@
-// Text where it lies: a part of a space, and two parts compared.
+// Text where it lies, and the sizes of values.
+// Here: a part of a space, two parts compared, and the code points of one. `sizes` has the size of a value, and where an index falls in a list.
 pub mod sizes;
 
 ghost use mathlib.Core.Path.{_≡_};

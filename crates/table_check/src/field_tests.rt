@@ -1,4 +1,4 @@
-// The fields of a record: numbers, flags, names and spans of the literal text.
+// Whether the fields of a record are right: numbers, flags, names and spans of the literal text.
 ghost use mathlib.Core.Path.{_≡_};
 ghost use mathlib.Core.Bool.{_&&_};
 ghost use Prim.Native.Nat.{_+_, _<_, _≤_};

@@ -1,4 +1,7 @@
-// The node table: whether bytes spell an expression, and why and where they do not.
+// The check of a node table: whether bytes spell an expression, and why and where they do not. What an accepted table spells is said in
+// specs/Records.
+// Here: the whole table. `records` reads records one inside another, `heads` reads their heads, `field_tests` tests their fields, `faults` finds
+// the first fault of one, and `refusals` has the numbers of the reasons.
 pub mod faults;
 pub mod field_tests;
 pub mod heads;

@@ -1,5 +1,4 @@
--- What the functions' proofs and the crates above rest on: kinds (`KindLaws`) and words (`WordLaws`).
+-- What the functions' proofs and the crates above rest on: kinds (`KindLaws`), words (`WordLaws`), and numbers of 8 bytes (`NumberLiteralLaws`).
 pub mod KindLaws
 pub mod WordLaws
--- What the functions' proofs rest on: numbers of 8 bytes (`LongLaws`).
-pub mod LongLaws
+pub mod NumberLiteralLaws

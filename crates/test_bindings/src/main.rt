@@ -1,4 +1,4 @@
-// Runs a list of binding rooms from standard input, a room and what is done to it on each line, by `soundness` and `bindings`.
+// Runs a list of binding rooms from standard input, a room and what is done to it on each line, by `bindings_sound` and `bindings`.
 // Of each call the answer is written, the used counts, and a digest each of the lent cells, the lent text and the slots.
 ghost use mathlib.Core.Path.{_≡_};
 ghost use Prim.Native.Nat.{_≤_};

@@ -1,7 +1,6 @@
--- What the contracts cite: the order of texts (`Bytes`), and UTF-8 (`Utf8`), which the crates above test and count.
+-- What the contracts cite: the order of texts (`Bytes`); UTF-8 (`Utf8`), one sequence of its table (`Sequence`), and what the code's steps through
+-- a text stand for (`Passing`).
 pub mod Bytes
 pub mod Utf8
--- What the contracts cite: one sequence of the table (`Sequence`).
 pub mod Sequence
--- What the contracts cite: what the code's steps stand for (`Passing`).
 pub mod Passing

@@ -1,4 +1,4 @@
--- `cell_from` meets its contract. Assumes nothing.
+-- `elements::cell_from` meets its contract. Assumes nothing.
 use Rattle.answer_values.proofs.Indexed.{inside, outside}
 use borrow.Author.Needs.{needs}
 use Rattle.answer_values.proofs.elements.cell_from.Statement.{statement}

@@ -1,4 +1,4 @@
--- `element_of` meets its contract. Assumes nothing.
+-- `elements::element_of` meets its contract. Assumes nothing.
 use borrow.Author.Needs.{needs}
 use Rattle.answer_values.proofs.elements.element_of.Statement.{statement}
 use Rattle.answer_values.proofs.elements.element_of.Tie as tie

@@ -1,4 +1,4 @@
--- `present_in` meets its contract. Assumes nothing.
+-- `elements::present_in` meets its contract. Assumes nothing.
 use borrow.Author.Needs.{needs}
 use Rattle.answer_values.proofs.elements.present_in.Statement.{statement}
 use Rattle.answer_values.proofs.elements.present_in.Tie as tie

@@ -1,4 +1,4 @@
--- `entry_from` meets its contract. Assumes nothing.
+-- `entries::entry_from` meets its contract. Assumes nothing.
 use Rattle.answer_values.proofs.Indexed.{inside, outside}
 use borrow.Author.Needs.{needs}
 use Rattle.answer_values.proofs.entries.entry_from.Statement.{statement}

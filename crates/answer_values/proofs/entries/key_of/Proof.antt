@@ -1,4 +1,4 @@
--- `key_of` meets its contract. Assumes nothing.
+-- `entries::key_of` meets its contract. Assumes nothing.
 use borrow.Author.Needs.{needs}
 use Rattle.answer_values.proofs.entries.key_of.Statement.{statement}
 use Rattle.answer_values.proofs.entries.key_of.Tie as tie

@@ -1,4 +1,4 @@
--- `value_of` meets its contract. Assumes nothing.
+-- `entries::value_of` meets its contract. Assumes nothing.
 use borrow.Author.Needs.{needs}
 use Rattle.answer_values.proofs.entries.value_of.Statement.{statement}
 use Rattle.answer_values.proofs.entries.value_of.Tie as tie

@@ -1,4 +1,4 @@
--- `truth_of` meets its contract. Assumes nothing.
+-- `kinds::truth_of` meets its contract. Assumes nothing.
 use borrow.Author.Needs.{needs}
 use Rattle.answer_values.proofs.kinds.truth_of.Statement.{statement}
 use Rattle.answer_values.proofs.kinds.truth_of.Tie as tie

@@ -1,4 +1,4 @@
--- `number_of` meets its contract. Assumes nothing.
+-- `numeric::number_of` meets its contract. Assumes nothing.
 use borrow.Author.Needs.{needs}
 use Rattle.answer_values.proofs.numeric.number_of.Statement.{statement}
 use Rattle.answer_values.proofs.numeric.number_of.Tie as tie

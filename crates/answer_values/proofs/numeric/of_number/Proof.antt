@@ -1,4 +1,4 @@
--- `of_number` meets its contract. Assumes nothing.
+-- `numeric::of_number` meets its contract. Assumes nothing.
 use mir.Syntax.{w64}
 use mir.ValLaws.{toZ-ofZ}
 use borrow.Author.Needs.{needs, sfits-of}

@@ -1,4 +1,4 @@
--- `count_of` meets its contract. Assumes nothing.
+-- `spans_and_counts::count_of` meets its contract. Assumes nothing.
 use borrow.Author.Needs.{needs}
 use Rattle.answer_values.proofs.spans_and_counts.count_of.Statement.{statement}
 use Rattle.answer_values.proofs.spans_and_counts.count_of.Tie as tie

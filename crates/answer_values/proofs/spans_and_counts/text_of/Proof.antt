@@ -1,4 +1,4 @@
--- `text_of` meets its contract. Assumes nothing.
+-- `spans_and_counts::text_of` meets its contract. Assumes nothing.
 use borrow.Author.Needs.{needs}
 use Rattle.answer_values.proofs.spans_and_counts.text_of.Statement.{statement}
 use Rattle.answer_values.proofs.spans_and_counts.text_of.Tie as tie

@@ -1,4 +1,4 @@
--- `from_among` meets its contract. Assumes nothing.
+-- `membership::from_among` meets its contract. Assumes nothing.
 use borrow.Author.Needs.{needs}
 use Rattle.eval_comparison.proofs.membership.from_among.Statement.{statement}
 use Rattle.eval_comparison.proofs.membership.from_among.Tie as tie

@@ -1,4 +1,4 @@
--- `from_found` meets its contract. Assumes nothing.
+-- `membership::from_found` meets its contract. Assumes nothing.
 use borrow.Author.Needs.{needs}
 use Rattle.eval_comparison.proofs.membership.from_found.Statement.{statement}
 use Rattle.eval_comparison.proofs.membership.from_found.Tie as tie

@@ -1,4 +1,4 @@
--- `is_in` meets its contract. Assumes nothing.
+-- `membership::is_in` meets its contract. Assumes nothing.
 use borrow.Author.Needs.{needs}
 use Rattle.eval_comparison.proofs.membership.is_in.Statement.{statement}
 use Rattle.eval_comparison.proofs.membership.is_in.Tie as tie

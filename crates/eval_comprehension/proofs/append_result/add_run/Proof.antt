@@ -1,4 +1,4 @@
--- `add_run` meets its contract. Assumes nothing.
+-- `append_result::add_run` meets its contract. Assumes nothing.
 use borrow.Author.Needs.{needs}
 use borrow.Author.Tests.{ne-eqb}
 use Rattle.eval_comprehension.proofs.append_result.add_run.Statement.{statement}

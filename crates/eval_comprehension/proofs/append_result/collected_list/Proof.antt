@@ -1,4 +1,4 @@
--- `collected_list` meets its contract. Assumes nothing.
+-- `append_result::collected_list` meets its contract. Assumes nothing.
 use borrow.Author.Needs.{needs}
 use mathlib.Core.Path.{sym, _∙_}
 use native.Mathlib.Omega.{arith}

@@ -1,4 +1,4 @@
--- `copy_runs` meets its contract. Assumes nothing.
+-- `append_result::copy_runs` meets its contract. Assumes nothing.
 use Prim.Native.Nat.{_+_, _-_, _*_, _≤_, _<_}
 use mathlib.Core.Path.{_≡_, refl, ap, _∙_}
 use native.Mathlib.Omega.{arith}

@@ -1,4 +1,4 @@
--- `run_at` meets its contract. Assumes nothing.
+-- `append_result::run_at` meets its contract. Assumes nothing.
 use mathlib.Core.Path.{sym}
 use borrow.Author.Needs.{needs}
 use Rattle.rooms_taking.proofs.TakingSteps.{beyond}

@@ -1,4 +1,4 @@
--- `store_run` meets its contract. Assumes nothing.
+-- `append_result::store_run` meets its contract. Assumes nothing.
 use mathlib.Core.Path.{sym}
 use borrow.Author.Needs.{needs}
 use lib.Seq.{set-out}

@@ -1,4 +1,4 @@
--- `gather_elements` meets its contract. Assumes nothing.
+-- `append_turn::gather_elements` meets its contract. Assumes nothing.
 use borrow.Author.Needs.{needs}
 use mathlib.Core.Path.{sym, _∙_}
 use native.Mathlib.Omega.{arith}

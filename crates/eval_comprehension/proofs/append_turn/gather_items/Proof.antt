@@ -1,4 +1,4 @@
--- `gather_items` meets its contract. Assumes nothing.
+-- `append_turn::gather_items` meets its contract. Assumes nothing.
 use borrow.Author.Needs.{needs}
 use Rattle.eval_comprehension.proofs.append_turn.gather_items.Statement.{statement}
 use Rattle.eval_comprehension.proofs.append_turn.gather_items.Tie as tie

@@ -1,4 +1,4 @@
--- `gather_value` meets its contract. Assumes nothing.
+-- `append_turn::gather_value` meets its contract. Assumes nothing.
 use borrow.Author.Needs.{needs}
 use Rattle.eval_comprehension.proofs.append_turn.gather_value.Statement.{statement}
 use Rattle.eval_comprehension.proofs.append_turn.gather_value.Tie as tie

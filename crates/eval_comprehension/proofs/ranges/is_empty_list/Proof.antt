@@ -1,4 +1,4 @@
--- `is_empty_list` meets its contract. Assumes nothing.
+-- `ranges::is_empty_list` meets its contract. Assumes nothing.
 use borrow.Author.Needs.{needs}
 use Rattle.eval_comprehension.proofs.ranges.is_empty_list.Statement.{statement}
 use Rattle.eval_comprehension.proofs.ranges.is_empty_list.Tie as tie

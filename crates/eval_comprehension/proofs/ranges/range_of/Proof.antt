@@ -1,4 +1,4 @@
--- `range_of` meets its contract. Assumes nothing.
+-- `ranges::range_of` meets its contract. Assumes nothing.
 use borrow.Author.Needs.{needs}
 use Rattle.eval_comprehension.proofs.ranges.range_of.Statement.{statement}
 use Rattle.eval_comprehension.proofs.ranges.range_of.Tie as tie

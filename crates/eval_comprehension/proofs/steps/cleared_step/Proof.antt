@@ -1,4 +1,4 @@
--- `cleared_step` meets its contract. Assumes nothing.
+-- `steps::cleared_step` meets its contract. Assumes nothing.
 use Rattle.eval_comprehension.proofs.steps.cleared_step.Statement.{statement}
 use Rattle.eval_comprehension.proofs.steps.cleared_step.Tie as tie
 

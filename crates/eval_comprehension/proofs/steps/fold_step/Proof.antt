@@ -1,4 +1,4 @@
--- `fold_step` meets its contract. Assumes nothing.
+-- `steps::fold_step` meets its contract. Assumes nothing.
 use borrow.Author.Needs.{needs}
 use Rattle.eval_comprehension.proofs.steps.fold_step.Statement.{statement}
 use Rattle.eval_comprehension.proofs.steps.fold_step.Tie as tie

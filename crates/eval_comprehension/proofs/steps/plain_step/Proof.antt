@@ -1,4 +1,4 @@
--- `plain_step` meets its contract. Assumes nothing.
+-- `steps::plain_step` meets its contract. Assumes nothing.
 use borrow.Author.Needs.{needs}
 use Rattle.eval_comprehension.proofs.steps.plain_step.Statement.{statement}
 use Rattle.eval_comprehension.proofs.steps.plain_step.Tie as tie

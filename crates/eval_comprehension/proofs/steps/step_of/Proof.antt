@@ -1,4 +1,4 @@
--- `step_of` meets its contract. Assumes nothing.
+-- `steps::step_of` meets its contract. Assumes nothing.
 use borrow.Author.Needs.{needs}
 use Rattle.eval_comprehension.proofs.steps.step_of.Statement.{statement}
 use Rattle.eval_comprehension.proofs.steps.step_of.Tie as tie

@@ -1,4 +1,4 @@
--- `value_step` meets its contract. Assumes nothing.
+-- `steps::value_step` meets its contract. Assumes nothing.
 use borrow.Author.Needs.{needs}
 use Rattle.eval_comprehension.proofs.steps.value_step.Statement.{statement}
 use Rattle.eval_comprehension.proofs.steps.value_step.Tie as tie

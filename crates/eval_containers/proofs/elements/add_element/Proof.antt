@@ -1,4 +1,4 @@
--- `add_element` meets its contract. Assumes nothing.
+-- `elements::add_element` meets its contract. Assumes nothing.
 use borrow.Author.Needs.{needs}
 use Rattle.eval_containers.proofs.elements.add_element.Statement.{statement}
 use Rattle.eval_containers.proofs.elements.add_element.Tie as tie

@@ -1,4 +1,4 @@
--- `part_of` meets its contract. Assumes nothing.
+-- `elements::part_of` meets its contract. Assumes nothing.
 use borrow.Author.Needs.{needs}
 use Rattle.eval_containers.proofs.elements.part_of.Statement.{statement}
 use Rattle.eval_containers.proofs.elements.part_of.Tie as tie

@@ -1,4 +1,4 @@
--- `unmarked_value` meets its contract. Assumes nothing.
+-- `elements::unmarked_value` meets its contract. Assumes nothing.
 use borrow.Author.Needs.{needs}
 use Rattle.rooms.specs.Rooms.{cellAt}
 use Rattle.eval_containers.proofs.elements.unmarked_value.Statement.{statement}

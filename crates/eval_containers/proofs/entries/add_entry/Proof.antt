@@ -1,4 +1,4 @@
--- `add_entry` meets its contract. Assumes nothing.
+-- `entries::add_entry` meets its contract. Assumes nothing.
 use borrow.Author.Needs.{needs}
 use Rattle.eval_containers.proofs.entries.add_entry.Statement.{statement}
 use Rattle.eval_containers.proofs.entries.add_entry.Tie as tie

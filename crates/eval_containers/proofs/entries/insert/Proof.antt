@@ -1,4 +1,4 @@
--- `insert` meets its contract. Assumes nothing.
+-- `entries::insert` meets its contract. Assumes nothing.
 use borrow.Author.Needs.{needs}
 use Rattle.eval_containers.proofs.entries.insert.Statement.{statement}
 use Rattle.eval_containers.proofs.entries.insert.Tie as tie

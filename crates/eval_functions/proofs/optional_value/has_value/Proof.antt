@@ -1,4 +1,4 @@
--- `has_value` meets its contract. Assumes nothing.
+-- `optional_value::has_value` meets its contract. Assumes nothing.
 use borrow.Author.Needs.{needs}
 use Rattle.eval_functions.proofs.optional_value.has_value.Statement.{statement}
 use Rattle.eval_functions.proofs.optional_value.has_value.Tie as tie

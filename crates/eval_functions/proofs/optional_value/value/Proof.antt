@@ -1,4 +1,4 @@
--- `value` meets its contract. Assumes nothing.
+-- `optional_value::value` meets its contract. Assumes nothing.
 use borrow.Author.Needs.{needs}
 use Rattle.rooms.specs.Rooms.{cellAt}
 use Rattle.eval_functions.proofs.optional_value.value.Statement.{statement}

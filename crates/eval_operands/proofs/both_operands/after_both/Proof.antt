@@ -1,4 +1,4 @@
--- `both::after_both` meets its contract. Assumes nothing.
+-- `both_operands::after_both` meets its contract. Assumes nothing.
 use borrow.Author.Needs.{needs}
 use Rattle.rooms.specs.Rooms.{rooms}
 use Rattle.eval_operands.proofs.BothOperandLaws.{error-joined, exhausted-joined}

@@ -1,4 +1,4 @@
--- `both::after_target` meets its contract. Assumes nothing.
+-- `both_operands::after_target` meets its contract. Assumes nothing.
 use borrow.Author.Needs.{needs}
 use Rattle.eval_operands.proofs.both_operands.after_target.Statement.{statement}
 use Rattle.eval_operands.proofs.both_operands.after_target.Tie as tie

@@ -1,4 +1,4 @@
--- `both::join_value` meets its contract. Assumes nothing.
+-- `both_operands::join_value` meets its contract. Assumes nothing.
 use borrow.Author.Needs.{needs}
 use Rattle.eval_operands.proofs.both_operands.join_value.Statement.{statement}
 use Rattle.eval_operands.proofs.both_operands.join_value.Tie as tie

@@ -1,4 +1,4 @@
--- `applied::call` meets its contract. Assumes nothing.
+-- `select_and_calls::call` meets its contract. Assumes nothing.
 use borrow.Author.Needs.{needs}
 use Rattle.eval_operands.proofs.select_and_calls.call.Statement.{statement}
 use Rattle.eval_operands.proofs.select_and_calls.call.Tie as tie

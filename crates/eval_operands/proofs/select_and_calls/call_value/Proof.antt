@@ -1,4 +1,4 @@
--- `applied::call_value` meets its contract. Assumes nothing.
+-- `select_and_calls::call_value` meets its contract. Assumes nothing.
 use borrow.Author.Needs.{needs}
 use Rattle.eval_operands.proofs.select_and_calls.call_value.Statement.{statement}
 use Rattle.eval_operands.proofs.select_and_calls.call_value.Tie as tie

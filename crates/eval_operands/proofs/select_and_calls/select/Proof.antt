@@ -1,4 +1,4 @@
--- `applied::select` meets its contract. Assumes nothing.
+-- `select_and_calls::select` meets its contract. Assumes nothing.
 use borrow.Author.Needs.{needs}
 use Rattle.eval_operands.proofs.select_and_calls.select.Statement.{statement}
 use Rattle.eval_operands.proofs.select_and_calls.select.Tie as tie

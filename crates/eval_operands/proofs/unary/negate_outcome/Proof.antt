@@ -1,4 +1,4 @@
--- `unaries::negate_outcome` meets its contract. Assumes nothing.
+-- `unary::negate_outcome` meets its contract. Assumes nothing.
 use borrow.Author.Needs.{needs}
 use Rattle.eval_operands.proofs.unary.negate_outcome.Statement.{statement}
 use Rattle.eval_operands.proofs.unary.negate_outcome.Tie as tie

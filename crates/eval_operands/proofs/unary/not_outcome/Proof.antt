@@ -1,4 +1,4 @@
--- `unaries::not_outcome` meets its contract. Assumes nothing.
+-- `unary::not_outcome` meets its contract. Assumes nothing.
 use borrow.Author.Needs.{needs}
 use Rattle.eval_operands.proofs.unary.not_outcome.Statement.{statement}
 use Rattle.eval_operands.proofs.unary.not_outcome.Tie as tie

@@ -1,4 +1,4 @@
--- `unaries::unary` meets its contract. Assumes nothing.
+-- `unary::unary` meets its contract. Assumes nothing.
 use borrow.Author.Needs.{needs}
 use Rattle.eval_operands.proofs.unary.unary.Statement.{statement}
 use Rattle.eval_operands.proofs.unary.unary.Tie as tie

@@ -1,4 +1,4 @@
--- `no_overload` meets its contract. Assumes nothing.
+-- `outcomes::no_overload` meets its contract. Assumes nothing.
 use borrow.Author.Needs.{needs}
 use Rattle.eval_outcomes.proofs.outcomes.no_overload.Statement.{statement}
 use Rattle.eval_outcomes.proofs.outcomes.no_overload.Tie as tie

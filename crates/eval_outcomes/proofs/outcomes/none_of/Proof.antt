@@ -1,4 +1,4 @@
--- `none_of` meets its contract. Assumes nothing.
+-- `outcomes::none_of` meets its contract. Assumes nothing.
 use borrow.Author.Needs.{needs}
 use Rattle.eval_outcomes.proofs.outcomes.none_of.Statement.{statement}
 use Rattle.eval_outcomes.proofs.outcomes.none_of.Tie as tie

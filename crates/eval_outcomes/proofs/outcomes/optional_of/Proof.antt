@@ -1,4 +1,4 @@
--- `optional_of` meets its contract. Assumes nothing.
+-- `outcomes::optional_of` meets its contract. Assumes nothing.
 use borrow.Author.Needs.{needs}
 use Rattle.eval_outcomes.proofs.outcomes.optional_of.Statement.{statement}
 use Rattle.eval_outcomes.proofs.outcomes.optional_of.Tie as tie

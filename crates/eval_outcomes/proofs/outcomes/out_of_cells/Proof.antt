@@ -1,4 +1,4 @@
--- `out_of_cells` meets its contract. Assumes nothing.
+-- `outcomes::out_of_cells` meets its contract. Assumes nothing.
 use borrow.Author.Needs.{needs}
 use Rattle.eval_outcomes.proofs.outcomes.out_of_cells.Statement.{statement}
 use Rattle.eval_outcomes.proofs.outcomes.out_of_cells.Tie as tie

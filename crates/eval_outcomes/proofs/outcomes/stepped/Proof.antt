@@ -1,4 +1,4 @@
--- `stepped` meets its contract. Assumes nothing.
+-- `outcomes::stepped` meets its contract. Assumes nothing.
 use borrow.Author.Needs.{needs}
 use Rattle.eval_outcomes.proofs.outcomes.stepped.Statement.{statement}
 use Rattle.eval_outcomes.proofs.outcomes.stepped.Tie as tie

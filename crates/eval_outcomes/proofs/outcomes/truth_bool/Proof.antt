@@ -1,4 +1,4 @@
--- `truth_bool` meets its contract. Assumes nothing.
+-- `outcomes::truth_bool` meets its contract. Assumes nothing.
 use Rattle.eval_outcomes.proofs.outcomes.truth_bool.Statement.{statement}
 use Rattle.eval_outcomes.proofs.outcomes.truth_bool.Tie as tie
 

@@ -1,4 +1,4 @@
--- `truth_of` meets its contract. Assumes nothing.
+-- `outcomes::truth_of` meets its contract. Assumes nothing.
 use borrow.Author.Needs.{needs}
 use Rattle.eval_outcomes.proofs.outcomes.truth_of.Statement.{statement}
 use Rattle.eval_outcomes.proofs.outcomes.truth_of.Tie as tie

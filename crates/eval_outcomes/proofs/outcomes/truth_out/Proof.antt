@@ -1,4 +1,4 @@
--- `truth_out` meets its contract. Assumes nothing.
+-- `outcomes::truth_out` meets its contract. Assumes nothing.
 use borrow.Author.Needs.{needs}
 use Rattle.eval_outcomes.proofs.outcomes.truth_out.Statement.{statement}
 use Rattle.eval_outcomes.proofs.outcomes.truth_out.Tie as tie

@@ -1,4 +1,4 @@
--- `with_bytes` meets its contract. Assumes nothing.
+-- `outcomes::with_bytes` meets its contract. Assumes nothing.
 use borrow.Author.Needs.{needs}
 use Rattle.eval_outcomes.proofs.outcomes.with_bytes.Statement.{statement}
 use Rattle.eval_outcomes.proofs.outcomes.with_bytes.Tie as tie

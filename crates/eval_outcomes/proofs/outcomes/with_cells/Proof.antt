@@ -1,4 +1,4 @@
--- `with_cells` meets its contract. Assumes nothing.
+-- `outcomes::with_cells` meets its contract. Assumes nothing.
 use borrow.Author.Needs.{needs}
 use Rattle.eval_outcomes.proofs.outcomes.with_cells.Statement.{statement}
 use Rattle.eval_outcomes.proofs.outcomes.with_cells.Tie as tie

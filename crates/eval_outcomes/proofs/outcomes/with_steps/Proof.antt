@@ -1,4 +1,4 @@
--- `with_steps` meets its contract. Assumes nothing.
+-- `outcomes::with_steps` meets its contract. Assumes nothing.
 use borrow.Author.Needs.{needs}
 use Rattle.eval_outcomes.proofs.outcomes.with_steps.Statement.{statement}
 use Rattle.eval_outcomes.proofs.outcomes.with_steps.Tie as tie

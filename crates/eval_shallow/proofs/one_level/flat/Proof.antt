@@ -1,4 +1,4 @@
--- `flats::flat` meets its contract. Assumes nothing.
+-- `one_level::flat` meets its contract. Assumes nothing.
 use mathlib.Core.Path.{sym, _∙_}
 use native.Mathlib.Omega.{arith}
 use Rattle.rooms.specs.Rooms.{rooms}

@@ -1,4 +1,4 @@
--- `flats::small` meets its contract. Assumes nothing.
+-- `one_level::small` meets its contract. Assumes nothing.
 use Rattle.rooms.specs.Rooms.{rooms}
 use Rattle.table_check.specs.Records.{exprOf}
 use Rattle.eval_shapes.proofs.KindLaws.{sound-stands}

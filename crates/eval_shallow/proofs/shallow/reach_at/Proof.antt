@@ -1,4 +1,4 @@
--- `reach::reach_at` meets its contract. Assumes nothing.
+-- `shallow::reach_at` meets its contract. Assumes nothing.
 use native.Mathlib.Omega.{arith}
 use Rattle.table_check.specs.Records.{exprOf}
 use Rattle.eval_shapes.proofs.KindLaws.{sound-stands}

@@ -1,4 +1,4 @@
--- `singles::single` meets its contract. Assumes nothing.
+-- `single_lists::single` meets its contract. Assumes nothing.
 use mathlib.Core.Path.{_∙_}
 use mathlib.Core.Bool.{false}
 use native.Mathlib.Omega.{arith}

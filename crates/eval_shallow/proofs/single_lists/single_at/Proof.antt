@@ -1,4 +1,4 @@
--- `singles::single_at` meets its contract. Assumes nothing.
+-- `single_lists::single_at` meets its contract. Assumes nothing.
 use mathlib.Core.Path.{sym, _∙_}
 use Rattle.eval_shapes.proofs.KindLaws.{sound-stands}
 use Rattle.eval_shapes.proofs.Rows.{list-at}

@@ -1,4 +1,4 @@
--- `near::near` meets its contract. Assumes nothing.
+-- `two_levels::near` meets its contract. Assumes nothing.
 use mathlib.Core.Path.{sym, _∙_}
 use native.Mathlib.Omega.{arith}
 use Rattle.rooms.specs.Rooms.{rooms}

@@ -1,4 +1,4 @@
--- `put_counts` meets its contract. Assumes nothing.
+-- `phrases::put_counts` meets its contract. Assumes nothing.
 use borrow.Author.Needs.{needs}
 use Rattle.line_answers.proofs.PhraseSteps.{counts-put}
 use Rattle.line_answers.proofs.phrases.put_counts.Statement.{statement}

@@ -1,4 +1,4 @@
--- `put_limit` meets its contract. Assumes nothing.
+-- `phrases::put_limit` meets its contract. Assumes nothing.
 use borrow.Author.Needs.{needs}
 use Rattle.line_answers.proofs.PhraseSteps.{limit-steps, limit-cells, limit-text, limit-nesting}
 use Rattle.line_answers.proofs.phrases.put_limit.Statement.{statement}

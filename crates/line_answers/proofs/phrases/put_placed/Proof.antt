@@ -1,4 +1,4 @@
--- `put_placed` meets its contract. Assumes nothing.
+-- `phrases::put_placed` meets its contract. Assumes nothing.
 use borrow.Author.Needs.{needs}
 use Rattle.line_answers.proofs.PhraseSteps.{placed-put}
 use Rattle.line_answers.proofs.phrases.put_placed.Statement.{statement}

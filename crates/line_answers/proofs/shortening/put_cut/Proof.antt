@@ -1,4 +1,4 @@
--- `put_cut` meets its contract. Assumes nothing.
+-- `shortening::put_cut` meets its contract. Assumes nothing.
 use borrow.Author.Needs.{needs}
 use Prim.Native.Nat.{_+_}
 use native.Mathlib.Omega.{arith}

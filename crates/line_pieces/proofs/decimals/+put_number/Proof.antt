@@ -1,4 +1,4 @@
--- `put_number` meets its contract: the number falls. Assumes nothing.
+-- `decimals::put_number` meets its contract: the number falls. Assumes nothing.
 use borrow.Author.Needs.{needs}
 use Rattle.line_pieces.proofs.Numerals.{number-one, number-more}
 use Prim.Native.Nat.{ℕ, _<_}

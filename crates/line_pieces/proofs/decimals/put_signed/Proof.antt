@@ -1,4 +1,4 @@
--- `put_signed` meets its contract. Assumes nothing.
+-- `decimals::put_signed` meets its contract. Assumes nothing.
 use mathlib.Core.Path.{_≡_}
 use mathlib.Core.Bool.{true, false}
 use lib.IntN.{pos, natAbs}

@@ -1,4 +1,4 @@
--- `size_of` meets its contract. Assumes nothing.
+-- `decimals::size_of` meets its contract. Assumes nothing.
 use mathlib.Core.Path.{_≡_, sym, ap, _∙_}
 use mathlib.Core.Bool.{true}
 use native.Mathlib.Omega.{arith}

@@ -1,4 +1,4 @@
--- `put_digits` meets its contract: the count falls. Assumes nothing.
+-- `hexadecimal::put_digits` meets its contract: the count falls. Assumes nothing.
 use borrow.Author.Needs.{needs}
 use Rattle.line_pieces.proofs.Numerals.{digits-none, digits-more}
 use Prim.Native.Nat.{ℕ, _<_}

@@ -1,4 +1,4 @@
--- `digit` meets its contract. Assumes nothing.
+-- `hexadecimal::digit` meets its contract. Assumes nothing.
 use Rattle.line_pieces.proofs.Numerals.{digit-low, digit-high}
 use borrow.Author.Needs.{needs}
 use Rattle.line_pieces.proofs.hexadecimal.digit.Statement.{statement}

@@ -1,4 +1,4 @@
--- `is_plain` meets its contract. Assumes nothing.
+-- `quoting::is_plain` meets its contract. Assumes nothing.
 use borrow.Author.Needs.{needs}
 use Rattle.line_pieces.proofs.QuotedText.{plain-low, plain-high, plain-quote, plain-other}
 use Rattle.line_pieces.proofs.quoting.is_plain.Statement.{statement}

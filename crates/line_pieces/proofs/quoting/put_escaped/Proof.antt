@@ -1,4 +1,4 @@
--- `put_escaped` meets its contract. Assumes nothing.
+-- `quoting::put_escaped` meets its contract. Assumes nothing.
 use Rattle.line_pieces.proofs.QuotedText.{escaped-plain, escaped-other}
 use borrow.Author.Needs.{needs}
 use Rattle.line_pieces.proofs.quoting.put_escaped.Statement.{statement}

@@ -1,4 +1,4 @@
--- `put_quoted` meets its contract. Assumes nothing.
+-- `quoting::put_quoted` meets its contract. Assumes nothing.
 use borrow.Author.Needs.{needs}
 use Prim.Native.Nat.{_-_, _≤_}
 use mathlib.Core.Path.{_≡_, refl, _∙_}

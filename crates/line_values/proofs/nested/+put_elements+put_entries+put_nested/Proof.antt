@@ -1,4 +1,4 @@
--- `put_elements`, `put_entries` and `put_nested`, which call one another, meet their contracts: the levels fall. Assumes nothing.
+-- `nested::put_elements`, `put_entries` and `put_nested`, which call one another, meet their contracts: the levels fall. Assumes nothing.
 use borrow.Author.Needs.{needs}
 use Prim.Native.Nat.{_+_, _*_, _≤_}
 use mathlib.Core.Path.{_≡_, refl, _∙_}

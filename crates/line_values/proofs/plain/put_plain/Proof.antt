@@ -1,4 +1,4 @@
--- `put_plain` meets its contract. Assumes nothing.
+-- `plain::put_plain` meets its contract. Assumes nothing.
 use Rattle.line_values.proofs.Steps.{plain-null, plain-bool, plain-number, plain-string, plain-bytes, plain-none, plain-other}
 use borrow.Author.Needs.{needs}
 use Rattle.line_values.proofs.plain.put_plain.Statement.{statement}

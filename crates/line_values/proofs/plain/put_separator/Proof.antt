@@ -1,4 +1,4 @@
--- `put_separator` meets its contract. Assumes nothing.
+-- `plain::put_separator` meets its contract. Assumes nothing.
 use Rattle.line_values.proofs.Steps.{separator-none, separator-some}
 use borrow.Author.Needs.{needs}
 use Rattle.line_values.proofs.plain.put_separator.Statement.{statement}

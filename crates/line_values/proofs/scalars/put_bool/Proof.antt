@@ -1,4 +1,4 @@
--- `put_bool` meets its contract. Assumes nothing.
+-- `scalars::put_bool` meets its contract. Assumes nothing.
 use Rattle.line_values.proofs.Steps.{bool-true, bool-false}
 use borrow.Author.Needs.{needs}
 use Rattle.line_values.proofs.scalars.put_bool.Statement.{statement}

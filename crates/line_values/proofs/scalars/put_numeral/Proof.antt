@@ -1,4 +1,4 @@
--- `put_numeral` meets its contract. Assumes nothing.
+-- `scalars::put_numeral` meets its contract. Assumes nothing.
 use Rattle.line_values.proofs.Steps.{number-int, number-uint, number-double}
 use borrow.Author.Needs.{needs}
 use Rattle.line_values.proofs.scalars.put_numeral.Statement.{statement}

@@ -1,4 +1,4 @@
--- `put_text` meets its contract. Assumes nothing.
+-- `scalars::put_text` meets its contract. Assumes nothing.
 use Rattle.line_values.proofs.Steps.{text-literal, text-binding, text-evaluation}
 use borrow.Author.Needs.{needs}
 use Rattle.line_values.proofs.scalars.put_text.Statement.{statement}

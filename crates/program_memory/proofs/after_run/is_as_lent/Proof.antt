@@ -1,4 +1,4 @@
--- `is_as_lent` meets its contract. Assumes nothing.
+-- `after_run::is_as_lent` meets its contract. Assumes nothing.
 use borrow.Author.Needs.{needs}
 use mathlib.Core.Path.{ap, _∙_}
 use Rattle.program_memory.specs.BeforeRun.{lentWord, lentByte, allAre}

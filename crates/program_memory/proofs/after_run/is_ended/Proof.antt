@@ -1,4 +1,4 @@
--- `is_ended` meets its contract. Assumes nothing.
+-- `after_run::is_ended` meets its contract. Assumes nothing.
 use borrow.Author.Needs.{needs}
 use Rattle.program_memory.proofs.Testing.{both, not-first}
 use Rattle.program_memory.proofs.after_run.is_ended.Statement.{statement}

@@ -1,4 +1,4 @@
--- `is_kept` meets its contract. Assumes nothing.
+-- `after_run::is_kept` meets its contract. Assumes nothing.
 use borrow.Author.Needs.{needs}
 use Rattle.program_memory.proofs.Testing.{kept-refused, kept-value, kept-error, kept-exhausted}
 use Rattle.program_memory.proofs.after_run.is_kept.Statement.{statement}

@@ -1,4 +1,4 @@
--- `words_are` meets its contract: what is left from the loop's place on decides. Assumes nothing.
+-- `after_run::words_are` meets its contract: what is left from the loop's place on decides. Assumes nothing.
 use borrow.Author.Needs.{needs}
 use Prim.Native.Nat.{_-_}
 use native.Mathlib.Omega.{arith}

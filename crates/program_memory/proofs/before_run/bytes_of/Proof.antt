@@ -1,4 +1,4 @@
--- `bytes_of` meets its contract. Assumes nothing.
+-- `before_run::bytes_of` meets its contract. Assumes nothing.
 use native.Mathlib.Omega.{arith}
 use lib.ListN.{length-take}
 use Rattle.program_memory.proofs.before_run.bytes_of.Statement.{statement}

@@ -1,4 +1,4 @@
--- `fill_words` meets its contract. Assumes nothing.
+-- `before_run::fill_words` meets its contract. Assumes nothing.
 use borrow.Author.Needs.{needs}
 use Prim.Native.Nat.{_-_}
 use native.Mathlib.Omega.{arith}

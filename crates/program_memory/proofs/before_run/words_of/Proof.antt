@@ -1,4 +1,4 @@
--- `words_of` meets its contract. Assumes nothing.
+-- `before_run::words_of` meets its contract. Assumes nothing.
 use borrow.Author.Needs.{needs}
 use native.Mathlib.Omega.{arith}
 use lib.ListN.{length-take}

@@ -2,7 +2,7 @@
 use native.Mathlib.Omega.{arith}
 use Prim.Native.Nat.{_+_}
 use Rattle.table_layout.specs.Layout.{fieldsAt}
-use Rattle.table_layout.proofs.LongLaws.{long-is}
+use Rattle.table_layout.proofs.NumberLiteralLaws.{long-is}
 use borrow.Author.Needs.{needs}
 use Rattle.table_layout.proofs.number_literals.bits_at.Statement.{statement}
 use Rattle.table_layout.proofs.number_literals.bits_at.Tie as tie

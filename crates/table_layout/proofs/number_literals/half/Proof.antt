@@ -1,6 +1,6 @@
 -- `number_literals::half` meets its contract: the lowest byte first. Assumes nothing.
 use native.Mathlib.Omega.{arith}
-use Rattle.table_layout.proofs.LongLaws.{four-is}
+use Rattle.table_layout.proofs.NumberLiteralLaws.{four-is}
 use borrow.Author.Needs.{needs}
 use Rattle.table_layout.proofs.number_literals.half.Statement.{statement}
 use Rattle.table_layout.proofs.number_literals.half.Tie as tie

@@ -1,5 +1,5 @@
 -- `number_literals::int_at` meets its contract. Assumes nothing.
-use Rattle.table_layout.proofs.LongLaws.{given-back}
+use Rattle.table_layout.proofs.NumberLiteralLaws.{given-back}
 use borrow.Author.Needs.{needs}
 use Rattle.table_layout.proofs.number_literals.int_at.Statement.{statement}
 use Rattle.table_layout.proofs.number_literals.int_at.Tie as tie

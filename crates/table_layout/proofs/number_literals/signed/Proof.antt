@@ -4,7 +4,7 @@ use mathlib.Core.Path.{_≡_, _∙_, ap}
 use Prim.Native.Nat.{_-_, _<_, _^_, suc}
 use mir.Syntax.{w64}
 use mir.Val.{toZ}
-use Rattle.table_layout.proofs.LongLaws.{minus-fits, less-fits, signed-is}
+use Rattle.table_layout.proofs.NumberLiteralLaws.{minus-fits, less-fits, signed-is}
 use borrow.Author.Needs.{needs}
 use Rattle.table_layout.proofs.number_literals.signed.Statement.{statement}
 use Rattle.table_layout.proofs.number_literals.signed.Tie as tie

@@ -1,4 +1,4 @@
--- `eval_arithmetic::bits_of` is safe: each cast is of a number from 0 to 2 ^ 63 - 1. Assumes nothing.
+-- `arithmetic::bits_of` is safe: each cast is of a number from 0 to 2 ^ 63 - 1. Assumes nothing.
 use mathlib.Core.Path.{_≡_}
 use mathlib.Core.Bool.{true, false, true≢false}
 use Prim.Native.Nat.{ℕ, suc, _-_, _^_, _<_}
