@@ -6,7 +6,7 @@
 - README.md's map has a row for each crate of crates.txt, and no other, and the modules and files that a row names are there; crates.txt gives a reason beside each crate of fewer than 60 lines of code.
 - docs/PROOFS.md names each edit under crates/*/must-fail in a row of its crate, and no edit that is not there.
 - A path into a crate (`crate/src/file.rt`, crate/specs/File) is a file; a path of code (`crate::module::function`) leads to a function, a type or a
-  module; a name in backticks of docs/PROOFS.md, as a theorem's or a definition's, occurs in the sources.
+  module, also in the way of a rule in docs/NEWCOMERS.md; a name in backticks of docs/PROOFS.md, as a theorem's or a definition's, occurs in the sources.
 Says what is wrong, a line each, and ends with 1; ends with 0 otherwise.
 """
 
@@ -73,9 +73,9 @@ def check_map(crates: "dict[str, str]") -> None:
 
 def check_row(crate: str, code: str, definition: str, promises: str) -> None:
     """What a row of the map names: modules with functions in brackets, and files of specs/ and proofs/, of another crate where it says so."""
-    for module, function in re.findall(r"`(\w+)`(?: \((`.*?`)\))?", re.sub(r"of `\w+`", "", code)):
+    for module, functions in re.findall(r"`(\w+)`(?: \(([^)]*)\))?", code):
         path = CRATES / crate / "src" / f"{module}.rt"
-        for name in re.findall(r"\w+", function):
+        for name in re.findall(r"`(\w+)`", functions):
             if path.exists() and not re.search(rf"\bfn {name}\b", path.read_text()):
                 wrong.append(f"README.md: {crate}/src/{module}.rt has no function {name}")
         if not path.exists():
@@ -105,6 +105,27 @@ def check_edits(crates: "dict[str, str]") -> None:
             wrong.append(f"docs/PROOFS.md: {crate}/{edit} is named, and is no edit")
 
 
+def is_code(crate: str, parts: "list[str]") -> bool:
+    """Whether a path from a crate leads to a module, or to an item of a module or of the crate's root."""
+    module = CRATES / crate / "src" / f"{parts[0]}.rt"
+    if len(parts) == 1 and module.exists():
+        return True
+    roots = [module] if module.exists() else [CRATES / crate / "src" / name for name in ("lib.rt", "main.rt")]
+    return any(re.search(rf"\b(fn|struct|enum|const|mod) {parts[-1]}\b", root.read_text()) for root in roots if root.exists())
+
+
+def check_way() -> None:
+    """The calls of the newcomers' rule: a crate, two spaces, and its functions; what stands behind more spaces is a remark."""
+    for line in (ROOT / "docs" / "NEWCOMERS.md").read_text().split("## The way of one rule")[1].split("## Where to add")[0].split("\n"):
+        if not line.startswith("    "):
+            continue
+        crate = None
+        for call in re.split(r" → (?:\.\. )?|, ", re.split(r" {3,}", line.strip())[0]):
+            crate, path = call.split("  ") if "  " in call else (crate, call)
+            if crate is None or not is_code(crate, path.split("::")):
+                wrong.append(f"NEWCOMERS.md: {crate} has no {path}")
+
+
 def check_paths(crates: "dict[str, str]") -> None:
     names = "|".join(sorted(crates, key=len, reverse=True))
     for page in PAGES:
@@ -116,13 +137,7 @@ def check_paths(crates: "dict[str, str]") -> None:
             if not (at.exists() or at.with_suffix(".antt").exists()):
                 wrong.append(f"{page.name}: {crate}/{path} is not there")
         for crate, path in re.findall(rf"`({names})((?:::\w+)+)`", text):
-            parts = path.split("::")[1:]
-            files = [CRATES / crate / "src" / f"{parts[0]}.rt", CRATES / crate / "src" / "lib.rt", CRATES / crate / "src" / "main.rt"]
-            inside = next((file for file in files if file.exists()), None)
-            last = parts[-1]
-            if files[0].exists() and len(parts) == 1:
-                continue
-            if inside is None or not re.search(rf"\b(fn|struct|enum|const|mod) {last}\b", inside.read_text()):
+            if not is_code(crate, path.split("::")[1:]):
                 wrong.append(f"{page.name}: {crate}{path} is not there")
 
 
@@ -145,6 +160,7 @@ def main() -> int:
     check_map(crates)
     check_edits(crates)
     check_paths(crates)
+    check_way()
     check_names()
     for line in wrong:
         print(line)

@@ -1,6 +1,6 @@
 // Logic on what operands gave: `||`, `&&`, `!`, not-strictly-false, conditions and guards.
-// Here: `||` and `&&`, after both operands. `deciding` says whether one operand decides by itself, `conditions` what a condition or a guard says,
-// and `negation` has `!` and not-strictly-false.
+// Here: `||` and `&&` from what the left operand came to and a right value; a right error goes out before (`after_both` of `eval_operands`).
+// `deciding` says whether one operand decides by itself, `conditions` what a condition or a guard says, and `negation` has `!` and not-strictly-false.
 pub mod conditions;
 pub mod deciding;
 pub mod negation;

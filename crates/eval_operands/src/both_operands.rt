@@ -29,6 +29,7 @@ fn after_target(
     }
 }
 
+// The operand that is begun last is a value.
 fn join_value(
     literal: &[u8],
     binding_cells: &[u64],
@@ -66,6 +67,7 @@ fn join_value(
     }
 }
 
+// An error or exhaustion of the operand that is begun last is the answer, whatever the first one gave: of `x || y` with two errors the right one.
 pub fn after_both(
     literal: &[u8],
     binding_cells: &[u64],

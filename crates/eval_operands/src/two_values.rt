@@ -1,4 +1,4 @@
-// A binary operator on what its operands came to. Logic decides from two outcomes, any other operator from two values.
+// A binary operator whose right operand is a value. Logic decides from what the left operand came to, any other operator from two values.
 ghost use Rattle.rooms.specs.Rooms.{rooms};
 ghost use Rattle.machine.specs.Machine.{both, valuesOut, rightOf};
 ghost use Rattle.eval_outcomes.specs.Gives.{Gives};

@@ -2,5 +2,5 @@
 mod appending;
 mod comprehension;
 pub mod eval;
-mod listing;
-mod mapping;
+mod list_records;
+mod map_records;

@@ -76,7 +76,7 @@ both (Outcome.Value v z) r k = k v
 both (Outcome.Error e p z) r k = (Outcome.Error e p z, r)
 both (Outcome.Exhausted x z) r k = (Outcome.Exhausted x z, r)
 
--- of two values; logic decides from outcomes, in `rightOf`, so its arm is never taken
+-- of two values; logic decides in `rightOf`, from what the left operand came to and the right value, so its arm is never taken
 abbrev pub valuesOut : (limit : ℕ) → ℕ → Binary → Value → Value → Used → Rooms → Res
 valuesOut limit p (logic fold) v w u r = (Outcome.Value w u, r)
 valuesOut limit p equals v w u r = (equalOut limit true v w u r, r)
