@@ -6,8 +6,9 @@
 - README.md's map has a row for each crate of crates.txt, and no other; the modules, functions and files that a row names are there, and so are
   the crates of the table of floors. crates.txt gives a reason beside each crate of fewer than 60 lines of code.
 - docs/PROOFS.md names each edit under crates/*/must-fail in a row of its crate, and no edit that is not there; the functions that such a row names
-  are there; and a contract that callers outside use has two edits or more.
-- Everywhere but in docs/CHANGES.md, which names what is gone: a path of a file and a link lead to something; a path of code in backticks
+  are there; a contract that callers outside use has two edits or more, and each public function of the crates that are theirs has a row there.
+- Everywhere but in docs/CHANGES.md, which names what is gone: a path of a file that begins at the root or in a crate, and a link, lead to something;
+  a path of code in backticks
   (`crate::module::function`) leads to an item, also in the way of a rule in docs/NEWCOMERS.md. A name in backticks of docs/PROOFS.md occurs in the
   sources, and in the file that stands in brackets behind it.
 Says what is wrong, a line each, and ends with 1; ends with 0 otherwise.
@@ -26,6 +27,9 @@ README, PROOFS, NEWCOMERS = ROOT / "README.md", ROOT / "docs" / "PROOFS.md", ROO
 PAGES = [page for page in (README, *sorted((ROOT / "docs").glob("*.md"))) if page.name != "CHANGES.md"]
 SMALL = 60  # lines of code
 ITEM = r"\b(?:fn|struct|enum|const|mod)"
+# what callers outside use, whole crates or modules, but for functions that only crates here call
+OUTSIDE = ["numbers", "numbers_order", "text", "answer_values", "answer/reasons"]
+INSIDE = {"text": {"bytes::shorter", "sequences::continues", "sequences::sequence"}}
 
 wrong: "list[str]" = []
 
@@ -116,6 +120,7 @@ def check_row(crate: str, code: str, definition: str, promises: str) -> None:
 
 def check_edits() -> None:
     named: "dict[str, set[str]]" = {crate: set() for crate in crates()}
+    outside: "set[tuple[str, str]]" = set()
     for heading in ("What callers outside use", "Wrong definitions", "Functions inside"):
         for row in rows(PROOFS, f"### {heading}"):
             crate, edits = row[0].strip("`"), set(re.findall(r"`(\w+)`", row[-1]))
@@ -125,18 +130,33 @@ def check_edits() -> None:
                 wrong.append(f"PROOFS.md: edits of {row[0]}, which is no crate")
                 continue
             named[crate] |= edits
-            if heading == "What callers outside use" and len(edits) < 2:
-                wrong.append(f"PROOFS.md: {crate}, {row[1]} has fewer than two edits")
+            if heading == "What callers outside use":
+                outside |= {(crate, path) for path in re.findall(r"`([\w:]+)`", row[1])}
+                if len(edits) < 2:
+                    wrong.append(f"PROOFS.md: {crate}, {row[1]} has fewer than two edits")
             if heading != "Wrong definitions":
                 for path in re.findall(r"`([\w:]+)`", row[1]):
                     if not path.startswith("ombravelik_") and not is_item(crate, path.split("::")):
                         wrong.append(f"PROOFS.md: {crate} has no {path}")
+    for crate, path in public_functions():
+        if (crate, path) not in outside:
+            wrong.append(f"PROOFS.md: {crate}, {path} has no row among what callers outside use")
     for crate in crates():
         there = {path.stem for path in (CRATES / crate / "must-fail").glob("*.edit")}
         for edit in sorted(there - named[crate]):
             wrong.append(f"PROOFS.md: {crate}/{edit} is not named")
         for edit in sorted(named[crate] - there):
             wrong.append(f"PROOFS.md: {crate}/{edit} is named, and is no edit")
+
+
+def public_functions() -> "list[tuple[str, str]]":
+    """The functions of what callers outside use, each with its module."""
+    found = []
+    for crate, _, module in (name.partition("/") for name in OUTSIDE):
+        for path in sorted((CRATES / crate / "src").glob(f"{module or '*'}.rt")):
+            inside = "" if path.stem == "lib" else f"{path.stem}::"
+            found += [(crate, inside + name) for name in re.findall(r"(?m)^pub fn (\w+)", read(path)) if inside + name not in INSIDE.get(crate, ())]
+    return found
 
 
 def is_item(crate: str, parts: "list[str]") -> bool:
@@ -152,7 +172,8 @@ def is_item(crate: str, parts: "list[str]") -> bool:
 def check_paths() -> None:
     for page in PAGES:
         text = read(page)
-        for path in re.findall(r"(?<![\w:/.-])((?:[\w.-]+/)+(?:src|specs|proofs|must-fail)(?:/[\w.+-]*\w)?)", text):
+        paths = re.findall(r"(?<![\w:/.-])((?:[\w.-]+/)+(?:src|specs|proofs|must-fail)(?:/[\w.+-]*\w)?)", text)
+        for path in paths + re.findall(r"(?<![\w:/.-])((?:crates|tools|callers|compare|include|docs)/[\w/.+-]*\w)", text):
             if "NAME" not in path and not any(at.exists() or at.with_name(at.name + ".antt").exists() for at in (ROOT / path, CRATES / path)):
                 wrong.append(f"{page.name}: {path} is not there")
         for target in re.findall(r"\]\(([^)#:]+)\)", text):
