@@ -5,7 +5,6 @@ use Rattle.meaning.specs.Value as Meaning
 use Rattle.meaning.specs.Value.{Scalar, null, bool, int, uint, double, string, bytes, scalar, list, map, optional_none, optional_of, Values, nil, cons, Entries, empty, entry, key_of, count, count_entries}
 use Rattle.rooms.specs.declared.value.Value.{Value}
 use Rattle.rooms.specs.declared.value.TextSpace.{TextSpace}
-use Rattle.rooms.specs.Kinds as Kind
 use Rattle.rooms.specs.Rooms as Rooms
 use Rattle.rooms.specs.Rooms.{Rooms}
 use Rattle.rooms.specs.Value.{plain_of, parts_of}
@@ -28,20 +27,20 @@ pub record Spells (r : Rooms) (m : Value) (s : List ℕ) : Type 0 where
   pub spelled : Rooms.span_in r space first length ≡ s
 
 abbrev pub ShowsScalar : Rooms → Value → Scalar → Type 0
-ShowsScalar r m null = kind_of m ≡ Kind.null
-ShowsScalar r m (bool b) = (kind_of m ≡ Kind.bool) × (truth_in (plain_of m) ≡ Truth.Is b)
-ShowsScalar r m (int z) = (kind_of m ≡ Kind.int) × (number_in (plain_of m) ≡ Numeric.Int z)
-ShowsScalar r m (uint n) = (kind_of m ≡ Kind.uint) × (number_in (plain_of m) ≡ Numeric.Uint n)
-ShowsScalar r m (double d) = (kind_of m ≡ Kind.double) × (number_in (plain_of m) ≡ Numeric.Bits d)
-ShowsScalar r m (string s) = (kind_of m ≡ Kind.string) × Spells r m s
-ShowsScalar r m (bytes s) = (kind_of m ≡ Kind.bytes) × Spells r m s
+ShowsScalar r m null = kind_of m ≡ 0
+ShowsScalar r m (bool b) = (kind_of m ≡ 1) × (truth_in (plain_of m) ≡ Truth.Is b)
+ShowsScalar r m (int z) = (kind_of m ≡ 2) × (number_in (plain_of m) ≡ Numeric.Int z)
+ShowsScalar r m (uint n) = (kind_of m ≡ 3) × (number_in (plain_of m) ≡ Numeric.Uint n)
+ShowsScalar r m (double d) = (kind_of m ≡ 4) × (number_in (plain_of m) ≡ Numeric.Bits d)
+ShowsScalar r m (string s) = (kind_of m ≡ 5) × Spells r m s
+ShowsScalar r m (bytes s) = (kind_of m ≡ 6) × Spells r m s
 
 module _ (n : ℕ) (r : Rooms) where
   -- a part reads as a value, to the depth n
   abbrev pub PartReads : Value → Meaning.Value → Type 0
   PartReads part v = read_to n r part ≡ some v
 
-  -- the same for the elements from index i on
+  -- from index i on, so are the elements
   abbrev pub ShowsElements : Value → ℕ → Values → Type 0
   ShowsElements m i nil = Unit {0}
   ShowsElements m i (cons v vs) = PartReads (element_in r.binding_cells r.cells (parts_of m) i) v × ShowsElements m (i + 1) vs
@@ -55,7 +54,7 @@ module _ (n : ℕ) (r : Rooms) where
 
   abbrev pub Shows : Value → Meaning.Value → Type 0
   Shows m (scalar x) = ShowsScalar r m x
-  Shows m (list vs) = (kind_of m ≡ Kind.list) × (count_in (parts_of m) ≡ count vs) × ShowsElements m 0 vs
-  Shows m (map es) = (kind_of m ≡ Kind.map) × (count_in (parts_of m) ≡ count_entries es) × ShowsEntries m 0 es
-  Shows m optional_none = kind_of m ≡ Kind.optional_none
-  Shows m (optional_of v) = (kind_of m ≡ Kind.optional_of) × PartReads (present_in r.binding_cells r.cells (parts_of m)) v
+  Shows m (list vs) = (kind_of m ≡ 12) × (count_in (parts_of m) ≡ count vs) × ShowsElements m 0 vs
+  Shows m (map es) = (kind_of m ≡ 13) × (count_in (parts_of m) ≡ count_entries es) × ShowsEntries m 0 es
+  Shows m optional_none = kind_of m ≡ 14
+  Shows m (optional_of v) = (kind_of m ≡ 15) × PartReads (present_in r.binding_cells r.cells (parts_of m)) v

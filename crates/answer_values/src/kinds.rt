@@ -3,8 +3,15 @@ ghost use Rattle.std.specs.Prelude.{◌≡◌};
 ghost use Rattle.rooms.specs.Value.{plain_of};
 ghost use Rattle.answer_values.specs.Kinds.{kind_of, truth_in};
 
-use rooms::kinds;
 use rooms::value::{Plain, Value, plain_of};
+use table_layout::kinds::{BOOL, BYTES, DOUBLE, INT, LIST, MAP, NULL, STRING, UINT};
+
+// The kinds that no table spells: none, a present Optional, and no value. The others have their numbers in a table.
+const OPTIONAL_NONE: u8 = 14;
+
+const OPTIONAL_OF: u8 = 15;
+
+const ABSENT: u8 = 16;
 
 #[derive(Drop)]
 pub enum Truth {
@@ -17,19 +24,19 @@ pub fn kind_of(value: Value) -> u8
     ensures { result ≡ kind_of value }
 {
     match value {
-        Value::Null => kinds::NULL as u8,
-        Value::Bool(_) => kinds::BOOL as u8,
-        Value::Int(_) => kinds::INT as u8,
-        Value::Uint(_) => kinds::UINT as u8,
-        Value::Double(_) => kinds::DOUBLE as u8,
-        Value::Nan(_) => kinds::DOUBLE as u8,
-        Value::String(_, _, _) => kinds::STRING as u8,
-        Value::Bytes(_, _, _) => kinds::BYTES as u8,
-        Value::List(_, _, _, _) => kinds::LIST as u8,
-        Value::Map(_, _, _, _) => kinds::MAP as u8,
-        Value::OptionalNone => kinds::OPTIONAL_NONE as u8,
-        Value::OptionalOf(_, _, _) => kinds::OPTIONAL_OF as u8,
-        Value::Absent => kinds::ABSENT as u8,
+        Value::Null => NULL,
+        Value::Bool(_) => BOOL,
+        Value::Int(_) => INT,
+        Value::Uint(_) => UINT,
+        Value::Double(_) => DOUBLE,
+        Value::Nan(_) => DOUBLE,
+        Value::String(_, _, _) => STRING,
+        Value::Bytes(_, _, _) => BYTES,
+        Value::List(_, _, _, _) => LIST,
+        Value::Map(_, _, _, _) => MAP,
+        Value::OptionalNone => OPTIONAL_NONE,
+        Value::OptionalOf(_, _, _) => OPTIONAL_OF,
+        Value::Absent => ABSENT,
     }
 }
 

@@ -1,119 +1,167 @@
--- The ways through `judge_all` and `bring_in`, over plain variables. Assumes nothing.
-use Prim.Native.Nat.{ℕ, ◌+◌, ◌≤◌, ◌<◌}
-use mathlib.Core.Path.{◌≡◌, refl, ap, ◌∙◌}
+-- The ways through `judge_table`, `judge_all` and `bring_in`, over plain variables. Assumes nothing.
+use Prim.Native.Nat.{ℕ, ◌+◌, ◌-◌, ◌≤◌, ◌<◌}
+use mathlib.Core.Path.{◌≡◌, refl, sym, ap, ◌∙◌}
 use mathlib.Core.List.{List}
-use mathlib.Core.Bool.{true, false}
+use mathlib.Core.Bool.{Bool, true, false, ◌&&◌}
 use native.Mathlib.Omega.{arith}
-use lib.ListN.{length}
-use borrow.Author.Tests.{lt-ltb, le-ltb}
-use Rattle.meaning.specs.Errors.{refusal_number}
+use lib.Dec.{leb}
+use lib.ListN.{get_or}
+use borrow.Author.Tests.{le-leb, lt-leb, leb-true, leb-false}
+use Rattle.meaning.specs.Errors.{Refusal, UnsoundBinding, BindingRoomFull}
+use Rattle.meaning.specs.Value.{Value}
 use Rattle.meaning.specs.Expr.{Expr}
-use Rattle.meaning.specs.Kinds.{name_of}
-use Rattle.meaning.specs.Heads.{Got, got, refused, ◌>>=◌, ◌>>◌, demand, or_refuse}
-use Rattle.meaning.specs.Table.{read_table}
-use Rattle.meaning.specs.Spelling.{Literal, literal_nesting}
-use Rattle.meaning_laws.specs.Each.{Reads}
+use Rattle.meaning.specs.Heads.{Got, got, refused, ◌>>=◌, ◌>>◌, demand, start}
+use Rattle.meaning.specs.Bindings.{cells_of, bytes_of}
+use Rattle.meaning.specs.Spelling.{Literal, literal_of, place_of, literal_nesting, spelled, spelled_root}
 use Rattle.meaning_laws.proofs.Reading.{was_read}
-use Rattle.table_check.specs.declared.Checked.TheVariants as Checked
-use Rattle.table_check.specs.Check.{verdict, check_of}
-use Rattle.table_check.specs.Records.{expr_of, part_of, SoundPart}
-use Rattle.rooms.specs.declared.value.Value.{Value}
-use Rattle.rooms_taking.specs.Taking.{cell_room, text_room}
-use Rattle.rooms.specs.Scope.{slot_of, stored}
-use Rattle.bindings_sound.specs.declared.Bindings.{Bindings}
-use Rattle.bindings_sound.specs.declared.Soundness.{Soundness}
-use Rattle.bindings_sound.specs.declared.Soundness.TheVariants as Soundness
-use Rattle.bindings_sound.specs.Fits.{is_absent}
-use Rattle.bindings_sound.specs.Sound.{sound_of}
-use Rattle.bindings_bringing.specs.declared.Answer.{Answer}
-use Rattle.bindings_bringing.specs.declared.Answer.TheVariants.{Done, Refused}
-use Rattle.bindings_literals.specs.Literals.{part_literal}
-use Rattle.bindings_literals.specs.Judging.{cells_for, bytes_for}
-use Rattle.bindings_literals.specs.Laying.{Room, room, laid}
-use Rattle.bindings_bringing.specs.Bringing.{literal_for, accepted, said, Outcome, bound, after, outcome_of}
+use Rattle.meaning_laws.proofs.SpelledReasons.{literal-reason, root-reason, root-refused}
+use Rattle.table_check.specs.Records.{expr_of, part_of, Sound}
+use Rattle.bindings_literals.specs.declared.judgement.Fault.TheVariants.{At, Nowhere}
+use Rattle.bindings_literals.specs.declared.judgement.Judged.{Judged}
+use Rattle.bindings.specs.declared.admission.Answer.{Answer}
+use Rattle.bindings.specs.declared.admission.Answer.TheVariants.{Done, Refused}
+use Rattle.bindings_literals.specs.Literals.{literal_in}
+use Rattle.bindings_literals.specs.Judging.{fault_in, cells_for, bytes_for, judged_of, judged_part}
+use Rattle.bindings.specs.Bringing.{literal_for, said}
+use Rattle.bindings_literals.proofs.LiteralLaws.{View, a_scalar, a_list, a_map, another, view}
 use Rattle.bindings_literals.proofs.PartLaws.{bare-part}
-use Rattle.bindings_bringing.proofs.AcceptedLaws.{Fits, checked-read, accepted-fits}
+use Rattle.bindings_literals.proofs.SpelledLaws.{literal-in, spelled-fault, spelled-spells, spells-cells, spells-bytes}
 
--- ---- whether a binding may be brought in
+pub room-left : (room used need : ℕ) → used ≤ room → leb need (room - used) ≡ leb (used + need) room
+room-left room used need h = by-test (leb need (room - used)) refl
+  where
+    by-test : (b : Bool) → leb need (room - used) ≡ b → leb need (room - used) ≡ leb (used + need) room
+    by-test true e = e ∙ sym (le-leb (used + need) room (omega (arith, leb-true need (room - used) e)))
+    by-test false e = e ∙ sym (lt-leb (used + need) room (omega (arith, leb-false need (room - used) e)))
 
-module _ (w t : List ℕ) (b : Bindings) (name : ℕ) (table text : List ℕ) where
+-- ---- what was refused, and what was not
+
+fault-refused : {A : Type 0} (g : Got A) (p : ℕ) → fault_in g ≡ At p → (why : Refusal) × (g ≡ refused why p)
+fault-refused (got a) p e = let z : ◌≡◌ {A = ℕ} 0 1 = cc in absurd (omega arith)
+fault-refused (refused r q) p e = let f : q ≡ p = cc in (r, ap (λ n. refused r n) f)
+
+fault-none : {A : Type 0} (g : Got A) → fault_in g ≡ Nowhere → (a : A) × (g ≡ got a)
+fault-none (got a) e = (a, refl)
+fault-none (refused r p) e = let z : ◌≡◌ {A = ℕ} 0 1 = cc in absurd (omega arith)
+
+-- ---- an accepted table
+
+-- what the definition says of one whose literals are l, and whose root spells v
+module _ (rc rb c b : ℕ) (e : Expr) where
   abbrev Says : Answer → Type 0
-  Says a = a ≡ said (accepted w t b name table text)
+  Says a = a ≡ said (literal_for rc rb c b e)
 
-  pub all-unsound : (p : ℕ) → sound_of w t b ≡ Soundness.Unsound p → Says (Refused 8 p)
-  unfolding accepted
-  all-unsound p e = rw e
+  not-literal : (p : ℕ) → fault_in (literal_of e) ≡ At p → Says (Refused 9 p)
+  unfolding literal_for ◌>>=◌
+  not-literal p f = let r = fault-refused (literal_of e) p f in let g = literal-reason e r.0 p r.1 in rw (r.1, g)
 
-  module _ (s : sound_of w t b ≡ Soundness.Sound) where
-    pub all-unnamed : 128 ≤ name → Says (Refused 5 0)
-    unfolding accepted name_of or_refuse ◌>>=◌
-    all-unnamed h = rw (s, le-ltb name 128 h)
+  module _ (l : Literal) (made : literal_of e ≡ got l) where
+    no-root : (why : Refusal) (p : ℕ) → spelled_root l ≡ refused why p → Says (Refused 8 p)
+    unfolding literal_for ◌>>=◌
+    no-root why p f = let g = root-reason l why p f in rw (made, f, g)
 
-    module _ (h : name < 128) (v : Value) (e : v ≡ slot_of b.scope name) where
-      pub all-bound : is_absent v ≡ false → Says (Refused 11 0)
-      unfolding accepted name_of or_refuse ◌>>=◌ ◌>>◌ demand
-      all-bound f = rw (s, lt-ltb name 128 h, ← e, f)
+    module _ (v : Value) (root : spelled_root l ≡ got v) where
+      weighed : (a d : Bool) → leb (c + cells_of v) rc ≡ a → leb (b + bytes_of v) rb ≡ d → Says (said (◌>>◌ (demand (a && d) BindingRoomFull start) (got l)))
+      unfolding literal_for ◌>>=◌
+      weighed a d f g = rw (made, root, f, g)
 
-      module _ (f : is_absent v ≡ true) where
-        go_on : Says (said (◌>>=◌ (read_table table text) (λ x. literal_for (cell_room w) (text_room t) b.cells b.bytes x)))
-        unfolding accepted name_of or_refuse ◌>>=◌ ◌>>◌ demand
-        go_on = rw (s, lt-ltb name 128 h, ← e, f)
+      full : (a d : Bool) → (a && d) ≡ false → leb (c + cells_of v) rc ≡ a → leb (b + bytes_of v) rb ≡ d → Says (Refused 10 0)
+      unfolding ◌>>◌ ◌>>=◌ demand
+      full a d h f g = (rw h at (weighed a d f g))
 
-        refused-on : (g : Got Expr) (k : Expr → Got Literal) (n p : ℕ) → verdict g ≡ Checked.Refused n p → Refused n p ≡ said (◌>>=◌ g k)
-        unfolding ◌>>=◌
-        refused-on (got x) k n p i = let z : ◌≡◌ {A = ℕ} 0 1 = cc in absurd (omega arith)
-        refused-on (refused r q) k n p i = let a : refusal_number r ≡ n = cc in let c : q ≡ p = cc in rw (← a, ← c)
+      fitting : leb (c + cells_of v) rc ≡ true → leb (b + bytes_of v) rb ≡ true → Says Done
+      unfolding ◌>>◌ ◌>>=◌ demand
+      fitting f g = weighed true true f g
 
-        pub all-unread : (n p : ℕ) → check_of table text ≡ Checked.Refused n p → Says (Refused n p)
-        unfolding check_of
-        all-unread n p i = refused-on (read_table table text) _ n p i ∙ go_on
+      fitted : leb (c + cells_of v) rc ≡ true → leb (b + bytes_of v) rb ≡ true → literal_for rc rb c b e ≡ got l
+      unfolding literal_for ◌>>=◌ ◌>>◌ demand
+      fitted f g = rw (made, root, f, g)
 
-        pub all_read : check_of table text ≡ Checked.Accepted → (rc rb : ℕ) → rc ≡ cell_room w → rb ≡ text_room t → {a : Answer} →
-            a ≡ said (literal_for rc rb b.cells b.bytes (expr_of table text 0)) → Says a
-        unfolding ◌>>=◌
-        all_read i rc rb m n k =
-            let q = checked-read table text i in
-            k ∙ ((rw (m, n)) ∙ (rw q.is at go_on))
+deep-root : (l : Literal) → 32 < literal_nesting l → spelled_root l ≡ refused UnsoundBinding (place_of l)
+unfolding spelled_root ◌>>◌ ◌>>=◌ demand
+deep-root l h = rw (lt-leb (literal_nesting l) 32 h)
 
--- ---- the outcome
+shallow-root : (l : Literal) (v : Value) → literal_nesting l ≤ 32 → spelled l ≡ got v → spelled_root l ≡ got v
+unfolding spelled_root ◌>>◌ ◌>>=◌ demand
+shallow-root l v h e = rw (le-leb (literal_nesting l) 32 h, e)
 
-answered : (w t : List ℕ) (b : Bindings) (name : ℕ) (g : Got Literal) (n p : ℕ) → Refused n p ≡ said g →
-    ◌≡◌ {A = Outcome} (record { brought = record { answer = Refused n p; bindings = b }; words = w; text = t }) (after w t b name g)
-answered w t b name (got l) n p e = let z : ◌≡◌ {A = ℕ} 0 1 = cc in absurd (omega arith)
-answered w t b name (refused r q) n p e = let i : n ≡ refusal_number r = cc in let j : p ≡ q = cc in rw (i, j)
+root-place : (t x : List ℕ) (p : ℕ) → View t x p → place_of (literal_in (expr_of t x p)) ≡ p
+unfolding place_of literal_in
+root-place t x p (a_scalar s e h) = rw e
+root-place t x p (a_list b e ls f) = rw f
+root-place t x p (a_map b e ls f) = rw f
+root-place t x p (another e f g) = rw f
 
-pub brought-refused : (w t : List ℕ) (b : Bindings) (name : ℕ) (table text : List ℕ) (n p : ℕ) → Refused n p ≡ said (accepted w t b name table text) →
-    ◌≡◌ {A = Outcome} (record { brought = record { answer = Refused n p; bindings = b }; words = w; text = t }) (outcome_of w t b name table text)
-unfolding outcome_of
-brought-refused w t b name table text n p e = answered w t b name (accepted w t b name table text) n p e
+module _ (t x : List ℕ) (small : (i : ℕ) → get_or t i 0 < 256) (s : Sound t x 0) (rc rb c b : ℕ) (j : Judged) (is : j ≡ judged_part (part_of t x 0)) where
+  abbrev e : Expr
+  e = expr_of t x 0
 
-done-got : {A : Type 0} (g : Got A) → Done ≡ said g → (a : A) × (g ≡ got a)
-done-got (got a) e = (a, refl)
-done-got (refused r p) e = let z : ◌≡◌ {A = ℕ} 0 1 = cc in absurd (omega arith)
+  abbrev Answers : Answer → Type 0
+  Answers a = a ≡ said (literal_for rc rb c b e)
 
-module _ (w t : List ℕ) (b : Bindings) (name : ℕ) (table text : List ℕ) (d : Done ≡ said (accepted w t b name table text)) where
-  found : (l : Literal) × (accepted w t b name table text ≡ got l)
-  found = done-got (accepted w t b name table text) d
+  judged : j ≡ judged_of e
+  unfolding judged_part
+  judged = is ∙ ap judged_part (bare-part t x 0 s).1
 
-  fit : Fits w t b name table text found.0
-  fit = was_read accepted-fits' found.1
-    where
-      accepted-fits' : Reads (λ l. Fits w t b name table text l) (accepted w t b name table text)
-      accepted-fits' = accepted-fits w t b name table text
+  other-is : j.other ≡ fault_in (literal_of e)
+  unfolding judged_of
+  other-is = ap (λ (k : Judged). k.other) judged
 
-  root_is : part_literal (part_of table text 0) ≡ found.0
-  unfolding part_literal
-  root_is = ap part_literal (bare-part table text 0 fit.read.root).1 ∙ fit.is
+  nesting-is : j.nesting ≡ literal_nesting (literal_in e)
+  unfolding judged_of
+  nesting-is = ap (λ (k : Judged). k.nesting) judged
 
-  pub brought-asks : SoundPart table text 0 × (length table ≤ 16384) × (literal_nesting (part_literal (part_of table text 0)) ≤ 32) ×
-      (b.cells + cells_for (part_literal (part_of table text 0)) ≤ 4096) × (b.bytes + bytes_for (part_literal (part_of table text 0)) ≤ 16384)
-  brought-asks =
-      rw root_is
-      ((bare-part table text 0 fit.read.root).0, fit.read.long, fit.nests, omega (arith, fit.cells), omega (arith, fit.bytes))
+  key-is : j.key ≡ fault_in (spelled (literal_in e))
+  unfolding judged_of
+  key-is = ap (λ (k : Judged). k.key) judged ∙ sym (spelled-fault (literal_in e))
 
-  pub brought-done : (v : Value) (w' t' : List ℕ) (c y : ℕ) → ◌≡◌ {A = Value × Room} (v, room w' t' c y) (laid (part_literal (part_of table text 0)) (room w t b.cells b.bytes)) →
-      ◌≡◌ {A = Outcome} (record { brought = record { answer = Done; bindings = record { scope = stored b.scope name v; cells = c; bytes = y } }; words = w'; text = t' }) (outcome_of w t b name table text)
-  unfolding outcome_of
-  brought-done v w' t' c y e =
-      let f : ◌≡◌ {A = Value × Room} (v, room w' t' c y) (laid found.0 (room w t b.cells b.bytes)) = rw root_is at e in
-      rw found.1 (ap {B = Outcome} (λ (a : Value × Room). record { brought = record { answer = Done; bindings = bound b name a }; words = a.1.words; text = a.1.text }) f)
+  cells_are : j.cells ≡ cells_for (literal_in e)
+  unfolding judged_of
+  cells_are = ap (λ (k : Judged). k.cells) judged
+
+  bytes-are : j.bytes ≡ bytes_for (literal_in e)
+  unfolding judged_of
+  bytes-are = ap (λ (k : Judged). k.bytes) judged
+
+  pub table-other : (p : ℕ) → j.other ≡ At p → Answers (Refused 9 p)
+  table-other p f = not-literal rc rb c b e p (sym other-is ∙ f)
+
+  module _ (f : j.other ≡ Nowhere) where
+    made : literal_of e ≡ got (literal_in e)
+    made = let a = fault-none (literal_of e) (sym other-is ∙ f) in let g = was_read (literal-in e) a.1 in a.1 ∙ ap (λ (l : Literal). got l) (sym g)
+
+    pub table-deep : 32 < j.nesting → Answers (Refused 8 0)
+    table-deep h =
+        let d = deep-root (literal_in e) (omega (arith, nesting-is)) in
+        no-root rc rb c b e (literal_in e) made UnsoundBinding 0 (d ∙ ap (λ n. refused UnsoundBinding n) (root-place t x 0 (view t x 0 small s)))
+
+    module _ (h : j.nesting ≤ 32) where
+      flat : literal_nesting (literal_in e) ≤ 32
+      flat = omega (arith, nesting-is)
+
+      pub table-key : (p : ℕ) → j.key ≡ At p → Answers (Refused 8 p)
+      table-key p k =
+          let r = fault-refused (spelled (literal_in e)) p (sym key-is ∙ k) in
+          no-root rc rb c b e (literal_in e) made r.0 p (root-refused (literal_in e) flat r.0 p r.1)
+
+      module _ (k : j.key ≡ Nowhere) where
+        spelt : (v : Value) × (spelled (literal_in e) ≡ got v)
+        spelt = fault-none (spelled (literal_in e)) (sym key-is ∙ k)
+
+        root : spelled_root (literal_in e) ≡ got spelt.0
+        root = shallow-root (literal_in e) spelt.0 flat spelt.1
+
+        cells-of : cells_of spelt.0 ≡ j.cells
+        cells-of = spells-cells (was_read (spelled-spells (literal_in e)) spelt.1) ∙ sym cells_are
+
+        bytes-of : bytes_of spelt.0 ≡ j.bytes
+        bytes-of = spells-bytes (was_read (spelled-spells (literal_in e)) spelt.1) ∙ sym bytes-are
+
+        pub table-cells : leb (c + j.cells) rc ≡ false → Answers (Refused 10 0)
+        table-cells m = full rc rb c b e (literal_in e) made spelt.0 root false (leb (b + bytes_of spelt.0) rb) refl (rw cells-of m) refl
+
+        pub table-bytes : leb (c + j.cells) rc ≡ true → leb (b + j.bytes) rb ≡ false → Answers (Refused 10 0)
+        table-bytes m n = full rc rb c b e (literal_in e) made spelt.0 root true false refl (rw cells-of m) (rw bytes-of n)
+
+        pub table_done : leb (c + j.cells) rc ≡ true → leb (b + j.bytes) rb ≡ true → Answers Done
+        table_done m n = fitting rc rb c b e (literal_in e) made spelt.0 root (rw cells-of m) (rw bytes-of n)

@@ -12,8 +12,9 @@ use Rattle.meaning.specs.Value.{null}
 use Rattle.meaning.specs.Bindings.{text_bytes}
 use Rattle.meaning.specs.Table.{bare}
 use Rattle.meaning.specs.Spelling.{Literal, scalar_at, list_at, map_at, Literals, literals, LiteralPairs, literal_nesting, literals_nesting}
-use Rattle.table_layout.specs.Layout.{head_bytes, word_at, after, fields_at, count_head}
-use Rattle.table_check.specs.Records.{expr_of, part_of, pairs_of, SoundPart, mark_byte}
+use Rattle.table_layout.specs.Layout.{head_bytes, word_at}
+use Rattle.table_layout.specs.Layout.{after}
+use Rattle.table_check.specs.Records.{expr_of, part_of, pairs_of, SoundPart}
 use Rattle.table_check.proofs.Parts.{part-marked, part-bare}
 use Rattle.rooms.specs.declared.value.Value.{Value}
 use Rattle.rooms.specs.declared.value.Value.TheVariants as Value
@@ -22,21 +23,21 @@ use Rattle.rooms.specs.Value.{nesting_of}
 use Rattle.rooms.specs.Cells.{written_in}
 use Rattle.rooms_taking.specs.Taking.{pasted}
 use Rattle.rooms.proofs.CellLaws.{written-length}
-use Rattle.bindings_literals.specs.Literals.{literal_in, literal_pairs_in, part_literal, literal_or_absent, text_length, row_bytes, entry_bytes, row_literals, Operands, Entries}
+use Rattle.bindings_literals.specs.Literals.{literal_in, literal_pairs_in, part_literal, literal_value, text_length, row_bytes, entry_bytes, row_literals, Operands, Entries}
 use Rattle.bindings_literals.specs.Judging.{cells_for, cells_among, bytes_for, bytes_among}
 use Rattle.bindings_literals.specs.Laying.{Room, room, put, laid_scalar, laid, laid_row, flat}
 use Rattle.bindings_literals.proofs.Heads.{list-head, map-head}
 use Rattle.bindings_literals.proofs.Rows.{first_part, first-bytes}
 use Rattle.bindings_literals.proofs.LiteralLaws.{Moved, View, a_scalar, a_list, a_map, another, view, no-literal}
 use Rattle.bindings_literals.proofs.PartLaws.{bare-part, ListAt, MapAt, list_at_lem, map_at_lem}
-use Rattle.bindings_bringing.proofs.LayLaws.{laid_cells, laid-bytes, laid-nesting, pairs-row, flat-nesting, flat-cells, flat-bytes, elements-row, row_count, count-cells, pairs-count, entries-row}
+use Rattle.bindings.proofs.LayLaws.{laid_cells, laid-bytes, laid-nesting, pairs-row, flat-nesting, flat-cells, flat-bytes, elements-row, row_count, count-cells, pairs-count, entries-row}
 
 back : (n : ℕ) → suc n - 1 ≡ n
 back n = omega arith
 
 -- ---- a record without parts
 
-module _ (t x : List ℕ) (p : ℕ) (small : (i : ℕ) → get_or t i 0 < 256) (s : SoundPart t x p) (v : Value) (e : v ≡ literal_or_absent t p) (k : ℕ) (f : k ≡ get_or t p 0) where
+module _ (t x : List ℕ) (p : ℕ) (small : (i : ℕ) → get_or t i 0 < 256) (s : SoundPart t x p) (v : Value) (e : v ≡ literal_value t p) (k : ℕ) (f : k ≡ get_or t p 0) where
   abbrev here : Literal
   here = part_literal (part_of t x p)
 
@@ -54,20 +55,20 @@ module _ (t x : List ℕ) (p : ℕ) (small : (i : ℕ) → get_or t i 0 < 256) (
   by-view (a_map c g ls h) i a b = absurd (b (f ∙ c))
   by-view (another g h j) i a b = absent-laid (literal_in (expr_of t x p)) (ap part_literal i) h (e ∙ g)
 
-  leaf-by : (m : Bool) → eqb (get_or t p 0) mark_byte ≡ m → (k ≡ 12 → ⊥) → (k ≡ 13 → ⊥) → (text_length v ≡ bytes_for here) × ((r : Room) → laid here r ≡ Moved x v r)
+  leaf-by : (m : Bool) → eqb (get_or t p 0) 14 ≡ m → (k ≡ 12 → ⊥) → (k ≡ 13 → ⊥) → (text_length v ≡ bytes_for here) × ((r : Room) → laid here r ≡ Moved x v r)
   unfolding part_literal
   leaf-by true m a b =
-      let c = eqb-true (get_or t p 0) mark_byte m in
-      let n : Value.Absent ≡ literal_or_absent t p = no-literal t p mark_byte (sym c) (λ z. omega (arith, z)) (λ z. omega (arith, z)) (λ z. omega (arith, z)) (λ z. omega (arith, z)) (λ z. omega (arith, z)) (λ z. omega (arith, z)) (λ z. omega (arith, z)) in
+      let c = eqb-true (get_or t p 0) 14 m in
+      let n : Value.Absent ≡ literal_value t p = no-literal t p 14 (sym c) (λ z. omega (arith, z)) (λ z. omega (arith, z)) (λ z. omega (arith, z)) (λ z. omega (arith, z)) (λ z. omega (arith, z)) (λ z. omega (arith, z)) (λ z. omega (arith, z)) in
       absent-laid (scalar_at p null) (ap part_literal (part-marked t x p s c).is) refl (e ∙ sym n)
-  leaf-by false m a b = let g = part-bare t x p s (eqb-false (get_or t p 0) mark_byte m) in by-view (view t x p small g.0) g.1 a b
+  leaf-by false m a b = let g = part-bare t x p s (eqb-false (get_or t p 0) 14 m) in by-view (view t x p small g.0) g.1 a b
 
   module _ (a : k ≡ 12 → ⊥) (b : k ≡ 13 → ⊥) where
     pub leaf-bytes : text_length v ≡ bytes_for here
-    leaf-bytes = (leaf-by (eqb (get_or t p 0) mark_byte) refl a b).0
+    leaf-bytes = (leaf-by (eqb (get_or t p 0) 14) refl a b).0
 
     pub leaf-laid : (r : Room) → Moved x v r ≡ laid here r
-    leaf-laid r = sym ((leaf-by (eqb (get_or t p 0) mark_byte) refl a b).1 r)
+    leaf-laid r = sym ((leaf-by (eqb (get_or t p 0) 14) refl a b).1 r)
 
 -- ---- a List and a Map
 
@@ -82,7 +83,7 @@ entries-operands t x (suc n) q es =
 
 module _ (t x : List ℕ) (p : ℕ) (s : SoundPart t x p) (long : length t ≤ 16384) (used bytes : ℕ) (nests : literal_nesting (part_literal (part_of t x p)) ≤ 32)
     (cells : used + cells_for (part_literal (part_of t x p)) ≤ 4096) (texts : bytes + bytes_for (part_literal (part_of t x p)) ≤ 16384)
-    (k : ℕ) (e : k ≡ get_or t p 0) (first count : ℕ) (f : first ≡ p + head_bytes (get_or t p 0)) (c : count ≡ word_at t (p + fields_at)) where
+    (k : ℕ) (e : k ≡ get_or t p 0) (first count : ℕ) (f : first ≡ p + head_bytes (get_or t p 0)) (c : count ≡ word_at t (p + 3)) where
   -- what is asked of the row of parts
   abbrev pub RowFits : ℕ → Type 0
   RowFits n =
@@ -93,12 +94,12 @@ module _ (t x : List ℕ) (p : ℕ) (s : SoundPart t x p) (long : length t ≤ 1
     o : ListAt t x p
     o = list_at_lem t x p s (sym e ∙ twelve)
 
-    first-is : first ≡ p + count_head
+    first-is : first ≡ p + 5
     first-is = f ∙ (rw (← e, twelve, list-head))
 
     list-literal : part_literal (part_of t x p) ≡ list_at p (row_literals t x count first)
     unfolding part_literal literal_in
-    list-literal = ap part_literal o.is ∙ (rw (first-is, c) (ap (λ (ls : Literals). list_at p ls) (elements-row t x (word_at t (p + fields_at)) (p + count_head))))
+    list-literal = ap part_literal o.is ∙ (rw (first-is, c) (ap (λ (ls : Literals). list_at p ls) (elements-row t x (word_at t (p + 3)) (p + 5))))
 
     pub list-fits : RowFits count
     unfolding literal_nesting cells_for bytes_for
@@ -122,7 +123,7 @@ module _ (t x : List ℕ) (p : ℕ) (s : SoundPart t x p) (long : length t ≤ 1
     m : MapAt t x p
     m = map_at_lem t x p s (sym e ∙ thirteen)
 
-    first-entry-is : first ≡ p + count_head
+    first-entry-is : first ≡ p + 5
     first-entry-is = f ∙ (rw (← e, thirteen, map-head))
 
     abbrev pairs : LiteralPairs
@@ -145,13 +146,13 @@ module _ (t x : List ℕ) (p : ℕ) (s : SoundPart t x p) (long : length t ≤ 1
         let a : used + cells_among (row_literals t x (2 * count) first) ≤ 4096 = rw (map-literal, flat-cells pairs, row_is) at cells in
         let b : bytes + bytes_among (row_literals t x (2 * count) first) ≤ 16384 = rw (map-literal, flat-bytes pairs, row_is) at texts in
         let i = entries-operands t x count first entries in
-        let z : entry_bytes t (word_at t (p + fields_at)) (p + count_head) ≡ entry_bytes t count first = (rw (first-entry-is, c)) in
+        let z : entry_bytes t (word_at t (p + 3)) (p + 5) ≡ entry_bytes t count first = (rw (first-entry-is, c)) in
         (i.0, omega (arith, i.1, z, m.ends, m.room, first-entry-is), long, omega (arith, n), a, b)
 
     pub map-falls : 2 * row_bytes t (2 * count) first + 1 < 2 * word_at t (p + 1)
     map-falls =
         let i = entries-operands t x count first entries in
-        let z : entry_bytes t (word_at t (p + fields_at)) (p + count_head) ≡ entry_bytes t count first = (rw (first-entry-is, c)) in
+        let z : entry_bytes t (word_at t (p + 3)) (p + 5) ≡ entry_bytes t count first = (rw (first-entry-is, c)) in
         omega (arith, i.1, z, m.ends)
 
     pub map-laid : (w u w' u' : List ℕ) (d a b : ℕ) → d ≡ literals_nesting (row_literals t x (2 * count) first) →

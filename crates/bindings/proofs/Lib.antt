@@ -1,5 +1,6 @@
--- The ways through the functions, which their proofs cite: through laying (`LaySteps`), through the judgement of a table (`TableSteps`), and through
--- admission and bringing in (`BringSteps`).
+-- The laws that the functions' proofs cite: what is laid down (`LayLaws`), and the ways through laying (`LaySteps`); the ways through admission and
+-- bringing in (`BringSteps`), and what is known of a binding that is accepted (`AcceptedLaws`).
+pub mod LayLaws
 pub mod LaySteps
-pub mod TableSteps
 pub mod BringSteps
+pub mod AcceptedLaws

@@ -1,9 +1,8 @@
 // Whether a binding may be brought in, and if not, the first reason and the place at fault.
 ghost use Rattle.std.specs.Prelude.{◌≡◌, ◌+◌, ◌≤◌, leb, length};
 ghost use Rattle.table_check.specs.Records.{Sound, expr_of};
-ghost use Rattle.bindings_bringing.specs.Bringing.{literal_for, accepted, said};
+ghost use Rattle.bindings.specs.Bringing.{literal_for, accepted, said};
 
-use bindings_bringing::Answer;
 use bindings_literals::judgement::Fault;
 use bindings_sound::values::is_absent;
 use bindings_sound::{Bindings, Soundness};
@@ -15,7 +14,21 @@ use table_check::refusals::{
     BINDING_ROOM_FULL, NAME_BOUND, NOT_A_LITERAL, UNSOUND_BINDING, WRONG_FIELD,
 };
 
-// Whether a room of which `used` is used has room for `need` more.
+#[derive(Drop)]
+pub enum Answer {
+    Done,
+    // A refusal's number, and the place at fault.
+    Refused(u8, usize),
+}
+
+// The answer, with the bindings afterwards: of a refusal, those that were.
+#[derive(Drop)]
+pub struct Brought {
+    pub answer: Answer,
+    pub bindings: Bindings,
+}
+
+// Whether so much more fits, of a room of which some is used.
 fn has_room(room: usize, used: usize, need: usize) -> bool
     ensures { result ≡ leb (used + need) room }
 {
@@ -58,7 +71,7 @@ fn judge_table(
     Answer::Done
 }
 
-// Whether a binding may be brought in, in the order of the refusals: the room, the name, the table, what it spells, the space that it needs.
+// Whether a binding may be brought in, in the order of the refusals: the room, the name, the table, what it spells, how much of it.
 pub fn judge_all(
     cells: &[u64],
     text: &[u8],

@@ -9,7 +9,7 @@ ghost use Rattle.bindings_literals.specs.Literals.{part_literal, Operands, row_b
 ghost use Rattle.bindings_literals.specs.Judging.{cells_for, cells_among, bytes_for, bytes_among};
 ghost use Rattle.bindings_literals.specs.Laying.{room, laid, laid_row};
 
-use bindings_literals::literals::{literal_or_absent, moved_to, text_first, text_length};
+use bindings_literals::literals::{literal_at, moved_to, text_first, text_length};
 use rooms::value::{CellSpace, TextSpace, Value, deeper, nesting_of};
 use rooms_cells::write_cell;
 use rooms_taking::copying::copy_text;
@@ -36,8 +36,7 @@ struct Row {
 // A literal's text goes behind the text that is used.
 fn lay_literal(literal: &[u8], text: &mut [u8], v: Value, cells: usize, bytes: usize) -> Laid
     requires { bytes + text_length v ≤ 16384 }
-    ensures { (result ≡ record { value = moved_to bytes v; cells = cells; bytes = bytes + text_length v })
-        × (text.new ≡ pasted literal.now [] Text.Literal text.old (text_first v) bytes (text_length v)) }
+    ensures { (result ≡ record { value = moved_to bytes v; cells = cells; bytes = bytes + text_length v }) × (text.new ≡ pasted literal.now [] Text.Literal text.old (text_first v) bytes (text_length v)) }
 {
     let length = text_length(v);
     copy_text(
@@ -67,12 +66,8 @@ pub fn lay(
     used: usize,
     bytes: usize,
 ) -> Laid
-    requires { SoundPart table.now literal.now at × (length table.now ≤ 16384)
-        × (literal_nesting (part_literal (part_of table.now literal.now at)) ≤ 32)
-        × (used + cells_for (part_literal (part_of table.now literal.now at)) ≤ 4096)
-        × (bytes + bytes_for (part_literal (part_of table.now literal.now at)) ≤ 16384) }
-    ensures { (result.value, room cells.new text.new result.cells result.bytes) ≡ laid
-        (part_literal (part_of table.now literal.now at)) (room cells.old text.old used bytes) }
+    requires { SoundPart table.now literal.now at × (length table.now ≤ 16384) × (literal_nesting (part_literal (part_of table.now literal.now at)) ≤ 32) × (used + cells_for (part_literal (part_of table.now literal.now at)) ≤ 4096) × (bytes + bytes_for (part_literal (part_of table.now literal.now at)) ≤ 16384) }
+    ensures { (result.value, room cells.new text.new result.cells result.bytes) ≡ laid (part_literal (part_of table.now literal.now at)) (room cells.old text.old used bytes) }
 {
     let kind = kind_at(table, at);
     if kind == LIST {
@@ -105,10 +100,10 @@ pub fn lay(
             bytes: row.bytes,
         };
     }
-    lay_literal(literal, text, literal_or_absent(table, at), used, bytes)
+    lay_literal(literal, text, literal_at(table, at), used, bytes)
 }
 
-// `count` parts from the place `first` on: their own cells come next, and the cells of their parts lie behind.
+// So many parts from a place on: their cells are the next ones, and what is in them lies behind.
 #[cycle(lay_lay_row)]
 fn lay_row(
     table: &[u8],
@@ -120,14 +115,8 @@ fn lay_row(
     used: usize,
     bytes: usize,
 ) -> Row
-    requires { Operands table.now literal.now count first × (first + row_bytes table.now count first ≤ length table.now)
-        × (length table.now ≤ 16384) × (literals_nesting (row_literals table.now literal.now count first) < 32)
-        × (used + cells_among (row_literals table.now literal.now count first) ≤ 4096)
-        × (bytes + bytes_among (row_literals table.now literal.now count first) ≤ 16384) }
-    ensures { (result.nesting ≡ literals_nesting (row_literals table.now literal.now count first))
-        × (room cells.new text.new result.cells result.bytes ≡ laid_row
-        (row_literals table.now literal.now count first) used
-        (room cells.old text.old (used + count) bytes)) }
+    requires { Operands table.now literal.now count first × (first + row_bytes table.now count first ≤ length table.now) × (length table.now ≤ 16384) × (literals_nesting (row_literals table.now literal.now count first) < 32) × (used + cells_among (row_literals table.now literal.now count first) ≤ 4096) × (bytes + bytes_among (row_literals table.now literal.now count first) ≤ 16384) }
+    ensures { (result.nesting ≡ literals_nesting (row_literals table.now literal.now count first)) × (room cells.new text.new result.cells result.bytes ≡ laid_row (row_literals table.now literal.now count first) used (room cells.old text.old (used + count) bytes)) }
 {
     let mut at = first;
     let mut left = count;

@@ -2,14 +2,12 @@
 // Here: a binding is brought in, and a room is emptied. A refusal changes nothing that is lent. `admission` decides whether a binding may be
 // brought in, and `laying` lays its value down in the room.
 pub mod admission;
-mod laying;
+pub mod laying;
 
 ghost use Rattle.std.specs.Prelude.{◌≡◌};
-ghost use Rattle.bindings_bringing.specs.Bringing.{outcome, emptied};
-ghost use Rattle.bindings_bringing.specs.Meant.{Brings};
+ghost use Rattle.bindings.specs.Bringing.{Outcome, outcome_of, emptied};
 
-use crate::admission::judge_all;
-use bindings_bringing::{Answer, Brought};
+use crate::admission::{Answer, Brought, judge_all};
 use bindings_sound::Bindings;
 use rooms::scope::Scope;
 
@@ -22,8 +20,7 @@ pub fn bring_in(
     table: &[u8],
     literal: &[u8],
 ) -> Brought
-    ensures { Brings cells.old text.old bindings name table.now literal.now
-        (outcome result cells.new text.new) }
+    ensures { ◌≡◌ {A = Outcome} (record { brought = result; words = cells.new; text = text.new }) (outcome_of cells.old text.old bindings name table.now literal.now) }
 {
     let answer = judge_all(cells, text, bindings, name, table, literal);
     if let Answer::Refused(number, place) = answer {

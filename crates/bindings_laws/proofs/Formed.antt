@@ -5,7 +5,12 @@ use mathlib.Core.Path.{◌≡◌, refl, sym, ap, ap₂, ◌∙◌, subst}
 use mathlib.Core.List.{List, [], ◌∷◌}
 use mathlib.Core.Option.{none}
 use mathlib.Core.Bool.{Bool, true, false, not, ◌||◌, true≢false}
+use lib.Ieee.{binary64}
+use lib.Ieee.Bits.{to_bits-lt}
 use lib.ListN.{length, get_or}
+use Rattle.numbers.specs.declared.double.Double.{Double}
+use Rattle.numbers.specs.declared.double.Double.TheVariants as Double
+use Rattle.numbers.specs.Double.{bits_of}
 use Rattle.numbers.proofs.IntLaws.{in-range}
 use Rattle.text.specs.Utf8.{well_formed}
 use Rattle.meaning.specs.Value as Meaning
@@ -16,11 +21,10 @@ use Rattle.rooms.specs.declared.value.Value.{Value}
 use Rattle.rooms.specs.declared.value.TextSpace.{TextSpace}
 use Rattle.rooms.specs.declared.value.CellSpace.{CellSpace}
 use Rattle.rooms.specs.declared.value.CellSpace.TheVariants as Cells
-use Rattle.rooms.specs.Value.{is_key}
+use Rattle.rooms.specs.Value.{double_value, is_key}
 use Rattle.rooms.specs.Cells.{Fits, cell_in}
 use Rattle.rooms.specs.Rooms.{Rooms, cell_at, part}
 use Rattle.rooms.specs.Stands.{Alive, TextAt, StandsScalar, Stands, StandsCells, StandsEntries}
-use Rattle.rooms.proofs.Words.{bits_small}
 use Rattle.rooms_comparison.specs.Seen.{same_seen, seen_in}
 use Rattle.rooms_comparison.proofs.SeenMeaning.{scalar-seen}
 use Rattle.bindings_sound.specs.Keys as Keys
@@ -49,6 +53,10 @@ part_bytes (b ∷ t) h zero zero = tt
 part_bytes (b ∷ t) h zero (suc n) = (h.0, part_bytes t h.1 zero n)
 part_bytes (b ∷ t) h (suc a) n = part_bytes t h.1 a n
 
+double-in : (x : Double) → Fits (double_value x) → bits_of x < 2 ^ 64
+double-in (Double.Plain x) f = to_bits-lt binary64 x f
+double-in (Double.Nan b) f = f
+
 module _ (w t : List ℕ) (used bytes : ℕ) (words : (i : ℕ) → get_or w i 0 < 2 ^ 64) (text : AllBytes t) where
   abbrev R : Rooms
   R = binding_rooms w t
@@ -73,7 +81,7 @@ module _ (w t : List ℕ) (used bytes : ℕ) (words : (i : ℕ) → get_or w i 0
   scalar-formed (bool b) m least h e f = tt
   scalar-formed (int z) m least h e f = in-range z (subst Fits h f)
   scalar-formed (uint n) m least h e f = subst Fits h f
-  scalar-formed (double d) m least h e f = subst (λ b. b < 2 ^ 64) h.2 (bits_small h.0 (subst Fits h.1 f))
+  scalar-formed (double d) m least h e f = subst (λ b. b < 2 ^ 64) h.2 (double-in h.0 (subst Fits h.1 f))
   scalar-formed (string s) m least h e f =
       let g = string-good t bytes h.0 h.1 (length s) (subst (Good least) h.2 e) in
       let k = text-is s h.0 h.1 g.0 h.3 in

@@ -1,4 +1,4 @@
--- The joined judgement of several records is what the definition says of the record that holds them. Assumes nothing.
+-- What records come to together is what the definition says of the record that holds them. Assumes nothing.
 use Prim.Native.Nat.{ℕ, suc, ◌+◌, ◌<◌, max}
 use mathlib.Core.Path.{◌≡◌, refl, sym, ◌∙◌}
 use mathlib.Core.List.{List, [], ◌∷◌, ◌++◌}
@@ -14,15 +14,15 @@ use Rattle.meaning.specs.Expr.{Expr, list_of, map_of, Elements, Pairs}
 use Rattle.meaning.specs.Heads.{Got, got, refused, ◌>>=◌, ◌>>◌}
 use Rattle.meaning.specs.Table.{Part, bare, marked, add_element, add_pair}
 use Rattle.meaning.specs.Spelling.{Literal, list_at, map_at, literals, LiteralPairs, literal_pairs, literal_of, literals_of, literal_pairs_of, literal_nesting, literals_nesting, literal_pairs_nesting}
-use Rattle.table_layout.specs.Layout.{word_at, fields_at, count_head}
-use Rattle.table_check.specs.Records.{expr_of, part_of, SoundPart, elements_of, pairs_of, mark_byte}
+use Rattle.table_layout.specs.Layout.{word_at}
+use Rattle.table_check.specs.Records.{expr_of, part_of, SoundPart, elements_of, pairs_of}
 use Rattle.table_check.proofs.Parts.{part-marked, part-bare}
 use Rattle.rooms.specs.declared.value.Value.{Value}
 use Rattle.rooms.specs.declared.value.Value.TheVariants as Value
 use Rattle.bindings_literals.specs.declared.judgement.Fault.{Fault}
 use Rattle.bindings_literals.specs.declared.judgement.Fault.TheVariants.{At, Nowhere}
 use Rattle.bindings_literals.specs.declared.judgement.Judged.{Judged}
-use Rattle.bindings_literals.specs.Literals.{literal_in, literals_in, literal_pairs_in, literal_or_absent}
+use Rattle.bindings_literals.specs.Literals.{literal_in, literals_in, literal_pairs_in, literal_value}
 use Rattle.bindings_literals.specs.Judging.{first_of, fault_in, key_fault, keys_in, keys_among, keys_over, cells_for, cells_among, cells_over, bytes_for, bytes_among, bytes_over, nothing_judged, joined_of, with_key, deepened_of, without_parts, judged_of, judged_part, judged_elements, judged_pairs}
 use Rattle.bindings_literals.proofs.LiteralLaws.{View, a_scalar, a_list, a_map, another, view, no-literal}
 use Rattle.bindings_literals.proofs.PartLaws.{ListAt, MapAt}
@@ -143,19 +143,19 @@ unfolding judged_of judged_pairs literal_of literal_in keys_in literal_nesting c
 deeper-map p ps = same (fault-map (literal_pairs_of ps) (λ ls. map_at p ls)) refl (sym (add-one _)) refl refl
 
 module _ (t x : List ℕ) (p : ℕ) where
-  pub list-judged : ListAt t x p → deepened_of (judged_elements (elements_of t x (word_at t (p + fields_at)) (p + count_head))) ≡ judged_part (part_of t x p)
+  pub list-judged : ListAt t x p → deepened_of (judged_elements (elements_of t x (word_at t (p + 3)) (p + 5))) ≡ judged_part (part_of t x p)
   unfolding judged_part
   list-judged o = rw o.is (sym (deeper-list p _))
 
-  pub map-judged : MapAt t x p → deepened_of (judged_pairs [] (pairs_of t x (word_at t (p + fields_at)) (p + count_head))) ≡ judged_part (part_of t x p)
+  pub map-judged : MapAt t x p → deepened_of (judged_pairs [] (pairs_of t x (word_at t (p + 3)) (p + 5))) ≡ judged_part (part_of t x p)
   unfolding judged_part
   map-judged o = rw o.is (sym (deeper-map p _))
 
-  module _ (small : (i : ℕ) → get_or t i 0 < 256) (s : SoundPart t x p) (v : Value) (e : v ≡ literal_or_absent t p) where
-    marked-judged : get_or t p 0 ≡ mark_byte → without_parts v p ≡ judged_part (part_of t x p)
+  module _ (small : (i : ℕ) → get_or t i 0 < 256) (s : SoundPart t x p) (v : Value) (e : v ≡ literal_value t p) where
+    marked-judged : get_or t p 0 ≡ 14 → without_parts v p ≡ judged_part (part_of t x p)
     unfolding judged_part
     marked-judged b =
-        let f : v ≡ Value.Absent = e ∙ sym (no-literal t p mark_byte (sym b) (λ z. omega (arith, z)) (λ z. omega (arith, z)) (λ z. omega (arith, z)) (λ z. omega (arith, z)) (λ z. omega (arith, z)) (λ z. omega (arith, z)) (λ z. omega (arith, z))) in
+        let f : v ≡ Value.Absent = e ∙ sym (no-literal t p 14 (sym b) (λ z. omega (arith, z)) (λ z. omega (arith, z)) (λ z. omega (arith, z)) (λ z. omega (arith, z)) (λ z. omega (arith, z)) (λ z. omega (arith, z)) (λ z. omega (arith, z))) in
         rw (f, (part-marked t x p s b).is)
 
     bare-judged : View t x p → (get_or t p 0 ≡ 12 → ⊥) → (get_or t p 0 ≡ 13 → ⊥) → without_parts v p ≡ judged_of (expr_of t x p)
@@ -165,8 +165,8 @@ module _ (t x : List ℕ) (p : ℕ) where
     bare-judged (a_map c f ls g) a b = absurd (b c)
     bare-judged (another f g h) a b = rw (e, f, g, h)
 
-    pub leaf-judged : (get_or t p 0 ≡ 12 → ⊥) → (get_or t p 0 ≡ 13 → ⊥) → (m : Bool) → eqb (get_or t p 0) mark_byte ≡ m → without_parts v p ≡ judged_part (part_of t x p)
+    pub leaf-judged : (get_or t p 0 ≡ 12 → ⊥) → (get_or t p 0 ≡ 13 → ⊥) → (m : Bool) → eqb (get_or t p 0) 14 ≡ m → without_parts v p ≡ judged_part (part_of t x p)
     unfolding judged_part
-    leaf-judged a b true m = marked-judged (eqb-true (get_or t p 0) mark_byte m)
+    leaf-judged a b true m = marked-judged (eqb-true (get_or t p 0) 14 m)
     leaf-judged a b false m =
-        let f = part-bare t x p s (eqb-false (get_or t p 0) mark_byte m) in rw f.1 (bare-judged (view t x p small f.0) a b)
+        let f = part-bare t x p s (eqb-false (get_or t p 0) 14 m) in rw f.1 (bare-judged (view t x p small f.0) a b)

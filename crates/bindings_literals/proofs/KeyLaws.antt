@@ -16,7 +16,7 @@ use Rattle.rooms.specs.Value.{plain_of, is_key}
 use Rattle.rooms_comparison.specs.Seen.{seen_of, seen_scalar, same_seen}
 use Rattle.bindings_literals.specs.declared.judgement.Fault.{Fault}
 use Rattle.bindings_literals.specs.declared.judgement.Fault.TheVariants.{At, Nowhere}
-use Rattle.bindings_literals.specs.Literals.{literal_in, literal_or_absent, keys_from, Entries}
+use Rattle.bindings_literals.specs.Literals.{literal_in, literal_value, keys_from, Entries}
 use Rattle.bindings_literals.specs.Judging.{matches, is_among, key_fault, repeated_in}
 use Rattle.bindings_literals.proofs.LiteralLaws.{View, a_scalar, a_list, a_map, another, view}
 
@@ -36,7 +36,7 @@ not_null (bytes s) h = never h refl
 
 module _ (t x : List ℕ) (small : (i : ℕ) → get_or t i 0 < 256) where
   module _ (s : Scalar) (v : Value) (shows : seen_of x [] [] (plain_of v) ≡ seen_scalar s) (key : is_some (key_in s) ≡ true) where
-    one : (q : ℕ) → View t x q → same_seen (seen_of x [] [] (plain_of v)) (seen_of x [] [] (plain_of (literal_or_absent t q))) ≡ matches s (literal_in (expr_of t x q))
+    one : (q : ℕ) → View t x q → same_seen (seen_of x [] [] (plain_of v)) (seen_of x [] [] (plain_of (literal_value t q))) ≡ matches s (literal_in (expr_of t x q))
     unfolding matches literal_in
     one q (a_scalar y e h) = rw (shows, h.seen, e)
     one q (a_list b e ls f) = rw (shows, e, f)
@@ -48,7 +48,7 @@ module _ (t x : List ℕ) (small : (i : ℕ) → get_or t i 0 < 256) where
     among-is zero q es = refl
     among-is (suc n) q es = rw (one q (view t x q small es.0), among-is n (after t (after t q)) es.2)
 
-  module _ (n first p : ℕ) (es : Entries t x n first) (v : Value) (is : v ≡ literal_or_absent t p) where
+  module _ (n first p : ℕ) (es : Entries t x n first) (v : Value) (is : v ≡ literal_value t p) where
     abbrev Says : Fault → Type 0
     Says f = f ≡ key_fault (keys_from t x n first) (literal_in (expr_of t x p))
 
@@ -59,7 +59,7 @@ module _ (t x : List ℕ) (small : (i : ℕ) → get_or t i 0 < 256) where
     no-key-by (a_map b e ls f) k = rw f
     no-key-by (another e f g) k = rw f
 
-    absent-key : literal_or_absent t p ≡ Value.Absent → is_key v ≡ false
+    absent-key : literal_value t p ≡ Value.Absent → is_key v ≡ false
     absent-key e = rw (is, e)
 
     key-by : View t x p → is_key v ≡ true → (b : Bool) → repeated_in t x v n first ≡ b → Says (cond b (At p) Nowhere)

@@ -8,7 +8,7 @@ use Rattle.rooms.specs.declared.value.Value.{Value}
 use Rattle.rooms.specs.Value.{plain_of}
 use Rattle.rooms_comparison.specs.Seen.{seen_of, same_seen}
 use Rattle.table_layout.specs.Layout.{after}
-use Rattle.bindings_literals.specs.Literals.{literal_or_absent}
+use Rattle.bindings_literals.specs.Literals.{literal_value}
 use Rattle.bindings_literals.specs.Judging.{repeated_in}
 
 pub back : (n : ℕ) → suc n - 1 ≡ n
@@ -25,12 +25,12 @@ module _ (t x : List ℕ) (v : Value) where
   unfolding repeated_in
   repeated-none n q h = rw (no_more n h)
 
-  repeated-turn : (n q : ℕ) → 0 < n → repeated_in t x v n q ≡ (match_at (literal_or_absent t q) || repeated_in t x v (n - 1) (after t (after t q)))
+  repeated-turn : (n q : ℕ) → 0 < n → repeated_in t x v n q ≡ (match_at (literal_value t q) || repeated_in t x v (n - 1) (after t (after t q)))
   unfolding repeated_in
   repeated-turn zero q h = absurd (omega arith)
   repeated-turn (suc n) q h = rw (back n)
 
-  module _ (u : Value) (n q : ℕ) (h : 0 < n) (e : u ≡ literal_or_absent t q) where
+  module _ (u : Value) (n q : ℕ) (h : 0 < n) (e : u ≡ literal_value t q) where
     pub repeated-found : match_at u ≡ true → true ≡ repeated_in t x v n q
     repeated-found m = sym (repeated-turn n q h ∙ (rw (← e, m)))
 

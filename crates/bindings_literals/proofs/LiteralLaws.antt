@@ -9,10 +9,11 @@ use lib.Dec.{eqb}
 use lib.ListN.{length, take, drop, get_or, set, length-take, length-drop}
 use lib.Seq.{drop-cons}
 use borrow.Author.Tests.{ne_eqb}
+use mir.Syntax.{w64}
+use mir.Val.{to_z}
 use Rattle.numbers.specs.declared.double.Double.{Double}
 use Rattle.numbers.specs.declared.double.Double.TheVariants as Double
 use Rattle.numbers.specs.Double.{bits_of, double_of}
-use Rattle.numbers.specs.Int.{signed_of}
 use Rattle.numbers.proofs.DoubleLaws.{bits_back}
 use Rattle.meaning.specs.Errors.{NotALiteral}
 use Rattle.meaning.specs.Value.{Scalar, null, bool, int, uint, double, string, bytes, key_in}
@@ -22,8 +23,9 @@ use Rattle.meaning.specs.Heads.{refused}
 use Rattle.meaning.specs.Table.{utf8}
 use Rattle.meaning.specs.Bindings.{text_bytes}
 use Rattle.meaning.specs.Spelling.{scalar_at, list_at, map_at, Literals, LiteralPairs, literal_of}
-use Rattle.table_layout.specs.Layout.{word_at, long_at, fields_at, span_size_at}
+use Rattle.table_layout.specs.Layout.{word_at}
 use Rattle.table_check.specs.Fits.{is_some}
+use Rattle.table_layout.specs.Layout.{long_at}
 use Rattle.table_check.specs.Records.{expr_of, call_of, Sound, kind_byte}
 use Rattle.table_check.specs.Opened.{Opened}
 use Rattle.table_layout.proofs.NumberLiteralLaws.{four_is, long-is}
@@ -37,12 +39,12 @@ use Rattle.rooms.specs.Value.{plain_of, double_value, is_key}
 use Rattle.rooms_comparison.specs.Seen.{seen_of, seen_scalar}
 use Rattle.bindings_sound.specs.Fits.{is_absent}
 use Rattle.rooms_taking.specs.Taking.{pasted}
-use Rattle.bindings_literals.specs.Literals.{literal_in, literal_or_absent, text_length, text_first, moved_to}
+use Rattle.bindings_literals.specs.Literals.{literal_in, literal_value, text_length, text_first, moved_to}
 use Rattle.bindings_literals.specs.Laying.{Room, room, typed, laid_scalar}
 
 pub no-literal : (t : List ℕ) (p n : ℕ) → n ≡ get_or t p 0 → (n ≡ 0 → ⊥) → (n ≡ 1 → ⊥) → (n ≡ 2 → ⊥) → (n ≡ 3 → ⊥) → (n ≡ 4 → ⊥) → (n ≡ 5 → ⊥) →
-    (n ≡ 6 → ⊥) → Value.Absent ≡ literal_or_absent t p
-unfolding literal_or_absent
+    (n ≡ 6 → ⊥) → Value.Absent ≡ literal_value t p
+unfolding literal_value
 no-literal t p n e a b c d f g h =
     rw (← e, ne_eqb n 0 a, ne_eqb n 1 b, ne_eqb n 2 c, ne_eqb n 3 d, ne_eqb n 4 f, ne_eqb n 5 g, ne_eqb n 6 h)
 
@@ -128,10 +130,10 @@ some-span (some s) e = refl
 
 -- a literal; a List, a Map; anything else
 pub data View (t x : List ℕ) (p : ℕ) : Type 0 where
-  a_scalar : (s : Scalar) → expr_of t x p ≡ literal p s → Shows x s (literal_or_absent t p) → View t x p
-  a_list : get_or t p 0 ≡ 12 → literal_or_absent t p ≡ Value.Absent → (ls : Literals) → literal_in (expr_of t x p) ≡ list_at p ls → View t x p
-  a_map : get_or t p 0 ≡ 13 → literal_or_absent t p ≡ Value.Absent → (ls : LiteralPairs) → literal_in (expr_of t x p) ≡ map_at p ls → View t x p
-  another : literal_or_absent t p ≡ Value.Absent → literal_in (expr_of t x p) ≡ scalar_at p null → literal_of (expr_of t x p) ≡ refused NotALiteral p → View t x p
+  a_scalar : (s : Scalar) → expr_of t x p ≡ literal p s → Shows x s (literal_value t p) → View t x p
+  a_list : get_or t p 0 ≡ 12 → literal_value t p ≡ Value.Absent → (ls : Literals) → literal_in (expr_of t x p) ≡ list_at p ls → View t x p
+  a_map : get_or t p 0 ≡ 13 → literal_value t p ≡ Value.Absent → (ls : LiteralPairs) → literal_in (expr_of t x p) ≡ map_at p ls → View t x p
+  another : literal_value t p ≡ Value.Absent → literal_in (expr_of t x p) ≡ scalar_at p null → literal_of (expr_of t x p) ≡ refused NotALiteral p → View t x p
 
 module _ (t x : List ℕ) (p : ℕ) (small : (i : ℕ) → get_or t i 0 < 256) (s : Sound t x p) where
   long-small : (i : ℕ) → long_at t i < 2 ^ 64
@@ -156,7 +158,7 @@ module _ (t x : List ℕ) (p : ℕ) (small : (i : ℕ) → get_or t i 0 < 256) (
     o : Opened t x p k
     o = opened t x p k b s
 
-    shown : (v : Value) (y : Scalar) → literal_or_absent t p ≡ v → expr_of t x p ≡ literal p y → Shows x y v → View t x p
+    shown : (v : Value) (y : Scalar) → literal_value t p ≡ v → expr_of t x p ≡ literal p y → Shows x y v → View t x p
     shown v y e f h = a_scalar y f (rw e h)
 
   called : (c : Option Called) → (literal_in (call_of t x p c) ≡ scalar_at p null) × (literal_of (call_of t x p c) ≡ refused NotALiteral p)
@@ -167,27 +169,27 @@ module _ (t x : List ℕ) (p : ℕ) (small : (i : ℕ) → get_or t i 0 < 256) (
   called (some to_two) = (refl, refl)
 
   by_kind : (k : ExprKind) → get_or t p 0 ≡ kind_byte k → View t x p
-  unfolding literal_or_absent literal_in literal_of key_in text_bytes laid_scalar
+  unfolding literal_value literal_in literal_of key_in text_bytes laid_scalar
   by_kind null_kind b = shown null_kind b Value.Null null (rw b) (o null_kind b).is (record { seen = refl; key = refl; present = refl; long = refl; laid = λ r. no-more-bytes x Value.Null Value.Null r refl refl })
   by_kind bool_kind b =
-      shown bool_kind b (Value.Bool (eqb (get_or t (p + fields_at) 0) 1)) (bool (eqb (get_or t (p + fields_at) 0) 1)) (rw b) (o bool_kind b).is
-      (record { seen = refl; key = refl; present = refl; long = refl; laid = λ r. no-more-bytes x (Value.Bool (eqb (get_or t (p + fields_at) 0) 1)) (Value.Bool (eqb (get_or t (p + fields_at) 0) 1)) r refl refl })
+      shown bool_kind b (Value.Bool (eqb (get_or t (p + 3) 0) 1)) (bool (eqb (get_or t (p + 3) 0) 1)) (rw b) (o bool_kind b).is
+      (record { seen = refl; key = refl; present = refl; long = refl; laid = λ r. no-more-bytes x (Value.Bool (eqb (get_or t (p + 3) 0) 1)) (Value.Bool (eqb (get_or t (p + 3) 0) 1)) r refl refl })
   by_kind int_kind b =
-      shown int_kind b (Value.Int (signed_of (long_at t (p + fields_at)))) (int (signed_of (long_at t (p + fields_at)))) (rw b) (o int_kind b).is
-      (record { seen = refl; key = refl; present = refl; long = refl; laid = λ r. no-more-bytes x (Value.Int (signed_of (long_at t (p + fields_at)))) (Value.Int (signed_of (long_at t (p + fields_at)))) r refl refl })
+      shown int_kind b (Value.Int (to_z w64 (long_at t (p + 3)))) (int (to_z w64 (long_at t (p + 3)))) (rw b) (o int_kind b).is
+      (record { seen = refl; key = refl; present = refl; long = refl; laid = λ r. no-more-bytes x (Value.Int (to_z w64 (long_at t (p + 3)))) (Value.Int (to_z w64 (long_at t (p + 3)))) r refl refl })
   by_kind uint_kind b =
-      shown uint_kind b (Value.Uint (long_at t (p + fields_at))) (uint (long_at t (p + fields_at))) (rw b) (o uint_kind b).is
-      (record { seen = refl; key = refl; present = refl; long = refl; laid = λ r. no-more-bytes x (Value.Uint (long_at t (p + fields_at))) (Value.Uint (long_at t (p + fields_at))) r refl refl })
+      shown uint_kind b (Value.Uint (long_at t (p + 3))) (uint (long_at t (p + 3))) (rw b) (o uint_kind b).is
+      (record { seen = refl; key = refl; present = refl; long = refl; laid = λ r. no-more-bytes x (Value.Uint (long_at t (p + 3))) (Value.Uint (long_at t (p + 3))) r refl refl })
   by_kind double_kind b =
-      shown double_kind b (double_value (double_of (long_at t (p + fields_at)))) (double (long_at t (p + fields_at))) (rw b) (o double_kind b).is
-      (shows-double x (long_at t (p + fields_at)) (long-small (p + fields_at)))
+      shown double_kind b (double_value (double_of (long_at t (p + 3)))) (double (long_at t (p + 3))) (rw b) (o double_kind b).is
+      (shows-double x (long_at t (p + 3)) (long-small (p + 3)))
   by_kind string_kind b =
-      shown string_kind b (Value.String Text.Literal (word_at t (p + fields_at)) (word_at t (p + span_size_at))) (string (take (word_at t (p + span_size_at)) (drop (word_at t (p + fields_at)) x)))
+      shown string_kind b (Value.String Text.Literal (word_at t (p + 3)) (word_at t (p + 5))) (string (take (word_at t (p + 5)) (drop (word_at t (p + 3)) x)))
       (rw b) (o string_kind b).is
-      (shows-string x (word_at t (p + fields_at)) (word_at t (p + span_size_at)) (span-inside x (word_at t (p + fields_at)) (word_at t (p + span_size_at)) (some-span _ (o string_kind b).fits)))
+      (shows-string x (word_at t (p + 3)) (word_at t (p + 5)) (span-inside x (word_at t (p + 3)) (word_at t (p + 5)) (some-span _ (o string_kind b).fits)))
   by_kind bytes_kind b =
-      shown bytes_kind b (Value.Bytes Text.Literal (word_at t (p + fields_at)) (word_at t (p + span_size_at))) (bytes (take (word_at t (p + span_size_at)) (drop (word_at t (p + fields_at)) x))) (rw b)
-      (o bytes_kind b).is (shows-bytes x (word_at t (p + fields_at)) (word_at t (p + span_size_at)) (span-inside x (word_at t (p + fields_at)) (word_at t (p + span_size_at)) (o bytes_kind b).fits))
+      shown bytes_kind b (Value.Bytes Text.Literal (word_at t (p + 3)) (word_at t (p + 5))) (bytes (take (word_at t (p + 5)) (drop (word_at t (p + 3)) x))) (rw b)
+      (o bytes_kind b).is (shows-bytes x (word_at t (p + 3)) (word_at t (p + 5)) (span-inside x (word_at t (p + 3)) (word_at t (p + 5)) (o bytes_kind b).fits))
   by_kind name_kind b = another (rw b) (rw (o name_kind b).is) (rw (o name_kind b).is)
   by_kind unary_kind b = another (rw b) (rw (o unary_kind b).is) (rw (o unary_kind b).is)
   by_kind binary_kind b = another (rw b) (rw (o binary_kind b).is) (rw (o binary_kind b).is)
@@ -197,7 +199,7 @@ module _ (t x : List ℕ) (p : ℕ) (small : (i : ℕ) → get_or t i 0 < 256) (
   by_kind map_kind b = a_map b (rw b) _ (ap literal_in (o map_kind b).is)
   by_kind comprehension_kind b = another (rw b) (rw (o comprehension_kind b).is) (rw (o comprehension_kind b).is)
   by_kind function_kind b =
-      let c = called (numbered functions (get_or t (p + fields_at) 0)) in another (rw b) (rw (o function_kind b).is c.0) (rw (o function_kind b).is c.1)
+      let c = called (numbered functions (get_or t (p + 3) 0)) in another (rw b) (rw (o function_kind b).is c.0) (rw (o function_kind b).is c.1)
 
   pub view : View t x p
   view = let k = sound-kind t x p s in by_kind k.0 k.1

@@ -9,7 +9,8 @@ use Rattle.meaning.specs.Expr.{Expr, list_of, map_of}
 use Rattle.meaning.specs.Kinds.{list_kind, map_kind}
 use Rattle.meaning.specs.Heads.{Got, got, ◌>>=◌}
 use Rattle.meaning.specs.Table.{Part, bare, body_at, as_expr, as_part, expr_at, part_at, word_bytes}
-use Rattle.table_layout.specs.Layout.{word_at, after, fields_at, count_head}
+use Rattle.table_layout.specs.Layout.{word_at}
+use Rattle.table_layout.specs.Layout.{after}
 use Rattle.table_check.specs.Records.{part_in, expr_of, part_of, Sound, SoundPart, elements_of, pairs_of, numbers_in}
 use Rattle.table_check.proofs.AcceptedRecordLaws.{sound-here}
 use Rattle.table_check.proofs.Opened.{opened, head_in, head-of-kind, record-read, part-read}
@@ -37,29 +38,29 @@ module _ (t x : List ℕ) (p : ℕ) where
   -- ---- a List and a Map
 
   pub record ListAt : Type 0 where
-    pub is : part_of t x p ≡ bare (list_of p (elements_of t x (word_at t (p + fields_at)) (p + count_head)))
-    pub body : p + count_head ≤ length t
+    pub is : part_of t x p ≡ bare (list_of p (elements_of t x (word_at t (p + 3)) (p + 5)))
+    pub body : p + 5 ≤ length t
     pub room : p + word_at t (p + 1) ≤ length t
-    pub rest : Operands t x (word_at t (p + fields_at)) (p + count_head)
-    pub ends : count_head + row_bytes t (word_at t (p + fields_at)) (p + count_head) ≡ word_at t (p + 1)
+    pub rest : Operands t x (word_at t (p + 3)) (p + 5)
+    pub ends : 5 + row_bytes t (word_at t (p + 3)) (p + 5) ≡ word_at t (p + 1)
 
   pub record MapAt : Type 0 where
-    pub is : part_of t x p ≡ bare (map_of p (pairs_of t x (word_at t (p + fields_at)) (p + count_head)))
-    pub body : p + count_head ≤ length t
+    pub is : part_of t x p ≡ bare (map_of p (pairs_of t x (word_at t (p + 3)) (p + 5)))
+    pub body : p + 5 ≤ length t
     pub room : p + word_at t (p + 1) ≤ length t
-    pub rest : Entries t x (word_at t (p + fields_at)) (p + count_head)
-    pub ends : count_head + entry_bytes t (word_at t (p + fields_at)) (p + count_head) ≡ word_at t (p + 1)
+    pub rest : Entries t x (word_at t (p + 3)) (p + 5)
+    pub ends : 5 + entry_bytes t (word_at t (p + 3)) (p + 5) ≡ word_at t (p + 1)
 
   pub list_at_lem : SoundPart t x p → get_or t p 0 ≡ 12 → ListAt
   list_at_lem s b =
       let f = part-bare t x p s (λ e. omega (arith, b, e)) in
       let o = opened t x p list_kind b f.0 in
-      let r = row_operands t x (after t p) (word_at t (p + fields_at)) (p + count_head) o.row in
+      let r = row_operands t x (after t p) (word_at t (p + 3)) (p + 5) o.row in
       record { is = f.1 ∙ ap (λ e. bare e) o.is; body = o.body; room = o.room; rest = r.0; ends = omega (arith, r.1) }
 
   pub map_at_lem : SoundPart t x p → get_or t p 0 ≡ 13 → MapAt
   map_at_lem s b =
       let f = part-bare t x p s (λ e. omega (arith, b, e)) in
       let o = opened t x p map_kind b f.0 in
-      let r = row-entries t x (after t p) (word_at t (p + fields_at)) (p + count_head) o.row in
+      let r = row-entries t x (after t p) (word_at t (p + 3)) (p + 5) o.row in
       record { is = f.1 ∙ ap (λ e. bare e) o.is; body = o.body; room = o.room; rest = r.0; ends = omega (arith, r.1) }

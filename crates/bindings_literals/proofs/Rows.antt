@@ -5,7 +5,8 @@ use mathlib.Core.List.{List}
 use native.Mathlib.Omega.{arith}
 use lib.ListN.{length, get_or}
 use Rattle.table_check.specs.declared.faults.Marks.TheVariants.{Anywhere, Values}
-use Rattle.table_layout.specs.Layout.{head_bytes, word_at, after, fields_at}
+use Rattle.table_layout.specs.Layout.{head_bytes, word_at}
+use Rattle.table_layout.specs.Layout.{after}
 use Rattle.table_check.specs.Records.{Sound, SoundPart, Row}
 use Rattle.table_layout.proofs.KindLaws.{head-table}
 use Rattle.table_check.proofs.HeadLaws.{Here}
@@ -20,9 +21,9 @@ back n = omega arith
 pub record Place (t : List ℕ) (q : ℕ) : Type 0 where
   pub known : get_or t q 0 < 17
   pub head : q + head_bytes (get_or t q 0) ≤ length t
-  pub start : q + fields_at ≤ length t
+  pub three : q + 3 ≤ length t
   pub ends : after t q ≤ length t
-  pub least : fields_at ≤ word_at t (q + 1)
+  pub least : 3 ≤ word_at t (q + 1)
   pub whole : head_bytes (get_or t q 0) ≤ word_at t (q + 1)
 
 of-here : (t : List ℕ) (q : ℕ) → Here t q (length t) → Place t q
@@ -31,7 +32,7 @@ of-here t q h =
     record {
       known = h.known;
       head = h.room;
-      start = omega (arith, f.0, f.1, h.room);
+      three = omega (arith, f.0, f.1, h.room);
       ends = h.inside;
       least = omega (arith, f.0, f.1, h.least);
       whole = h.least;

@@ -1,5 +1,5 @@
--- A table judged as a binding, in the order of the tests: the first record that is no literal, List or Map; how deep it nests; the first key
--- that is of a wrong kind or matches one before it; and how many cells and bytes it takes.
+-- What a table comes to as a binding, in the order in which it is judged: the first record that is no literal, List or Map; how deep it
+-- nests; the first key that is none or that matches one before it; and how many cells and bytes it takes.
 use Rattle.std.specs.Prelude.{ℕ, zero, suc, ◌+◌, ◌*◌, ◌≤◌, max, List, [], ◌∷◌, ◌++◌, Bool, false, not, ◌&&◌, ◌||◌, cond}
 use Rattle.meaning.specs.Value.{Scalar, key_in}
 use Rattle.meaning.specs.Comparison.{scalar_equal}
@@ -11,7 +11,7 @@ use Rattle.meaning.specs.Spelling.{Literal, scalar_at, list_at, map_at, Literals
 use Rattle.bindings_literals.specs.declared.judgement.Fault.{Fault}
 use Rattle.bindings_literals.specs.declared.judgement.Fault.TheVariants.{At, Nowhere}
 use Rattle.bindings_literals.specs.declared.judgement.Judged.{Judged}
-use Rattle.bindings_literals.specs.Literals.{literal_in, literals_in, literal_pairs_in, literal_or_absent, text_length}
+use Rattle.bindings_literals.specs.Literals.{literal_in, literals_in, literal_pairs_in, literal_value, text_length}
 use Rattle.table_check.specs.Fits.{is_some}
 use Rattle.table_layout.specs.Layout.{after}
 use Rattle.rooms.specs.declared.value.Value.{Value}
@@ -39,7 +39,7 @@ unfoldable pub is_among : Scalar → List Literal → Bool
 is_among x [] = false
 is_among x (l ∷ ls) = matches x l || is_among x ls
 
--- the fault of a key that has others before it
+-- the fault of a key, behind others
 unfoldable pub key_fault : List Literal → Literal → Fault
 key_fault before (scalar_at p x) = cond (is_some (key_in x) && not (is_among x before)) Nowhere (At p)
 key_fault before (list_at p ls) = At p
@@ -91,7 +91,7 @@ unfoldable mutual
   bytes_over no_literal_pairs = 0
   bytes_over (literal_pairs l m ls) = bytes_for l + (bytes_for m + bytes_over ls)
 
--- ---- the judgement of several records
+-- ---- what records come to together
 
 abbrev pub nothing_judged : Judged
 nothing_judged = record { other = Nowhere; key = Nowhere; nesting = 0; cells = 0; bytes = 0 }
@@ -126,10 +126,10 @@ pub record Small (j : Judged) (n : ℕ) : Type 0 where
   pub nesting : j.nesting ≤ n
   pub bytes : j.bytes ≤ 65535 * n
 
--- a key is equal to one of the first `count` keys from a place on
+-- a key is equal to one of the first so many, from a place on
 unfoldable pub repeated_in : (t x : List ℕ) → Value → (count place : ℕ) → Bool
 repeated_in t x v zero q = false
-repeated_in t x v (suc n) q = same_seen (seen_of x [] [] (plain_of v)) (seen_of x [] [] (plain_of (literal_or_absent t q))) || repeated_in t x v n (after t (after t q))
+repeated_in t x v (suc n) q = same_seen (seen_of x [] [] (plain_of v)) (seen_of x [] [] (plain_of (literal_value t q))) || repeated_in t x v n (after t (after t q))
 
 -- ---- all of it
 

@@ -1,12 +1,13 @@
--- The records of a table read as literals, Lists and Maps, whatever they are. `literal_of` of the definition says whether they are such.
+-- The records of a table as literals, Lists and Maps, whatever they are: `literal_of` of the definition says whether they are that.
 use Rattle.std.specs.Prelude.{ℕ, zero, suc, ◌+◌, List, [], ◌∷◌, cond, eqb, get_or}
+use Rattle.std.specs.Int.{w64}
+use Rattle.std.proofs.Common.{to_z}
 use Rattle.numbers.specs.Double.{double_of}
-use Rattle.numbers.specs.Int.{signed_of}
 use Rattle.meaning.specs.Value.{null}
 use Rattle.meaning.specs.Expr.{Expr, literal, name, unary, binary, conditional, select, list_of, map_of, comprehension, call, none_call, or_value, Elements, no_elements, element, marked_element, Pairs, no_pairs, pair, marked_pair}
-use Rattle.meaning.specs.Table.{Part, bare, marked}
+use Rattle.meaning.specs.Table.{Part, bare, marked, word_bytes}
 use Rattle.meaning.specs.Spelling.{Literal, scalar_at, list_at, map_at, Literals, no_literals, literals, LiteralPairs, no_literal_pairs, literal_pairs}
-use Rattle.table_layout.specs.Layout.{fields_at, word_at, long_at, after, span_size_at}
+use Rattle.table_layout.specs.Layout.{fields_at, word_at, long_at, after}
 use Rattle.table_check.specs.Records.{expr_of, part_of, Sound, SoundPart}
 use Rattle.rooms.specs.declared.value.Value.{Value}
 use Rattle.rooms.specs.declared.value.Value.TheVariants as Value
@@ -46,12 +47,12 @@ part_literal (marked p e) = scalar_at p null
 
 -- ---- places of an accepted table
 
--- how many bytes `count` operands from a place on take
+-- how many bytes so many operands from a place on take
 unfoldable pub row_bytes : List ℕ → (count place : ℕ) → ℕ
 row_bytes t zero q = 0
 row_bytes t (suc n) q = word_at t (q + 1) + row_bytes t n (after t q)
 
--- and `count` entries
+-- so many entries
 unfoldable pub entry_bytes : List ℕ → (count place : ℕ) → ℕ
 entry_bytes t zero q = 0
 entry_bytes t (suc n) q = word_at t (q + 1) + (word_at t (after t q + 1) + entry_bytes t n (after t (after t q)))
@@ -78,16 +79,16 @@ module _ (t x : List ℕ) where
 
 -- ---- as values
 
--- a literal's value, with its text in the literal text; `Absent` for a record that is no literal
-unfoldable pub literal_or_absent : List ℕ → ℕ → Value
-literal_or_absent t p =
+-- a literal's value, its text where it lies in the table's; `Absent` for a record that is none
+unfoldable pub literal_value : List ℕ → ℕ → Value
+literal_value t p =
     cond (eqb (get_or t p 0) 0) Value.Null
     (cond (eqb (get_or t p 0) 1) (Value.Bool (eqb (get_or t (p + fields_at) 0) 1))
-    (cond (eqb (get_or t p 0) 2) (Value.Int (signed_of (long_at t (p + fields_at))))
+    (cond (eqb (get_or t p 0) 2) (Value.Int (to_z w64 (long_at t (p + fields_at))))
     (cond (eqb (get_or t p 0) 3) (Value.Uint (long_at t (p + fields_at)))
     (cond (eqb (get_or t p 0) 4) (double_value (double_of (long_at t (p + fields_at))))
-    (cond (eqb (get_or t p 0) 5) (Value.String Text.Literal (word_at t (p + fields_at)) (word_at t (p + span_size_at)))
-    (cond (eqb (get_or t p 0) 6) (Value.Bytes Text.Literal (word_at t (p + fields_at)) (word_at t (p + span_size_at))) Value.Absent))))))
+    (cond (eqb (get_or t p 0) 5) (Value.String Text.Literal (word_at t (p + fields_at)) (word_at t (p + (fields_at + word_bytes))))
+    (cond (eqb (get_or t p 0) 6) (Value.Bytes Text.Literal (word_at t (p + fields_at)) (word_at t (p + (fields_at + word_bytes)))) Value.Absent))))))
 
 abbrev pub text_length : Value → ℕ
 text_length Value.Null = 0

@@ -5,12 +5,12 @@ ghost use Rattle.bindings_literals.specs.Literals.{Entries, keys_from, literal_i
 ghost use Rattle.bindings_literals.specs.Judging.{repeated_in, key_fault};
 
 use crate::judgement::Fault;
-use crate::literals::literal_or_absent;
+use crate::literals::literal_at;
 use rooms::value::{Value, is_key};
 use rooms_comparison::plain::key_equal;
 use table_layout::outline::end_at;
 
-// Whether `key` is equal to one of the first `count` keys of a Map whose first key stands at `first`.
+// Whether a key is equal to one of the first so many in a Map whose first key stands at a place.
 fn repeated(table: &[u8], literal: &[u8], first: usize, count: usize, key: Value) -> bool
     requires { Entries table.now literal.now count first }
     ensures { result ≡ repeated_in table.now literal.now key count first }
@@ -18,7 +18,7 @@ fn repeated(table: &[u8], literal: &[u8], first: usize, count: usize, key: Value
     let mut at = first;
     let mut left = count;
     while 0 < left {
-        let other = literal_or_absent(table, at);
+        let other = literal_at(table, at);
         if key_equal(literal, b"", b"", key, other) {
             return true;
         }
@@ -28,13 +28,12 @@ fn repeated(table: &[u8], literal: &[u8], first: usize, count: usize, key: Value
     false
 }
 
-// The fault of the key at `at`, which has `count` keys before it.
+// The fault of a key, behind so many others.
 pub fn key_fault(table: &[u8], literal: &[u8], first: usize, count: usize, at: usize) -> Fault
     requires { Entries table.now literal.now count first × Sound table.now literal.now at }
-    ensures { result ≡ key_fault (keys_from table.now literal.now count first)
-        (literal_in (expr_of table.now literal.now at)) }
+    ensures { result ≡ key_fault (keys_from table.now literal.now count first) (literal_in (expr_of table.now literal.now at)) }
 {
-    let key = literal_or_absent(table, at);
+    let key = literal_at(table, at);
     if !is_key(key) {
         return Fault::At(at);
     }

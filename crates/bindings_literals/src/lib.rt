@@ -1,9 +1,9 @@
 // Tables judged as bindings: whether an accepted table is made of literals, Lists and Maps alone, how deep it nests, whether its keys are keys and
 // unlike each other, and how many cells and bytes it takes.
-// Here: the walk over the table, record by record. `judgement` joins the judgements of parts, `keys` tests the keys of a Map, and `literals` reads
+// Here: the walk over the table, record by record. `judgement` joins what the parts come to, `keys` tests the keys of a Map, and `literals` reads
 // literals.
 pub mod judgement;
-mod keys;
+pub mod keys;
 pub mod literals;
 
 ghost use Rattle.std.specs.Prelude.{◌≡◌, [], ◌+◌, ◌-◌, ◌<◌, ◌≤◌, length};
@@ -14,7 +14,7 @@ ghost use Rattle.bindings_literals.specs.Judging.{other_fault, without_parts, Sm
 
 use crate::judgement::{Fault, Judged, deepened, joined, nothing_judged, with_key};
 use crate::keys::key_fault;
-use crate::literals::{literal_or_absent, text_length};
+use crate::literals::{literal_at, text_length};
 use bindings_sound::values::is_absent;
 use rooms::value::Value;
 use table_layout::fields::count_at;
@@ -59,15 +59,13 @@ pub fn judge(table: &[u8], literal: &[u8], at: usize) -> Judged
         let first = first_operand(table, at);
         return deepened(judge_entries(table, literal, first, count_at(table, at)));
     }
-    without_parts(literal_or_absent(table, at), at)
+    without_parts(literal_at(table, at), at)
 }
 
 #[cycle(judge_judge_elements_judge_entries)]
 fn judge_elements(table: &[u8], literal: &[u8], first: usize, count: usize) -> Judged
-    requires { Operands table.now literal.now count first × (first + row_bytes table.now count first ≤ length table.now)
-        × (length table.now ≤ 16384) }
-    ensures { (result ≡ judged_elements (elements_of table.now literal.now count first))
-        × Small result (row_bytes table.now count first) }
+    requires { Operands table.now literal.now count first × (first + row_bytes table.now count first ≤ length table.now) × (length table.now ≤ 16384) }
+    ensures { (result ≡ judged_elements (elements_of table.now literal.now count first)) × Small result (row_bytes table.now count first) }
 {
     let mut sum = nothing_judged();
     let mut at = first;
@@ -82,10 +80,8 @@ fn judge_elements(table: &[u8], literal: &[u8], first: usize, count: usize) -> J
 
 #[cycle(judge_judge_elements_judge_entries)]
 fn judge_entries(table: &[u8], literal: &[u8], first: usize, count: usize) -> Judged
-    requires { Entries table.now literal.now count first × (first + entry_bytes table.now count first ≤ length table.now)
-        × (length table.now ≤ 16384) }
-    ensures { (result ≡ judged_pairs [] (pairs_of table.now literal.now count first))
-        × Small result (entry_bytes table.now count first) }
+    requires { Entries table.now literal.now count first × (first + entry_bytes table.now count first ≤ length table.now) × (length table.now ≤ 16384) }
+    ensures { (result ≡ judged_pairs [] (pairs_of table.now literal.now count first)) × Small result (entry_bytes table.now count first) }
 {
     let mut sum = nothing_judged();
     let mut at = first;

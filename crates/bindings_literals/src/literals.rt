@@ -1,7 +1,7 @@
 // The literals of an accepted table.
 ghost use Rattle.std.specs.Prelude.{◌≡◌, ◌+◌, ◌<◌, ◌≤◌, length, get_or};
 ghost use Rattle.table_layout.specs.Layout.{kind_numbers, head_bytes};
-ghost use Rattle.bindings_literals.specs.Literals.{literal_or_absent, text_length, text_first, moved_to};
+ghost use Rattle.bindings_literals.specs.Literals.{literal_value, text_length, text_first, moved_to};
 
 use rooms::value::{TextSpace, Value, double_value};
 use table_layout::fields::{number_at, span_at};
@@ -10,9 +10,9 @@ use table_layout::number_literals::{bits_at, int_at};
 use table_layout::outline::kind_at;
 
 // The value of a literal, its text where it lies; absent for any other record.
-pub fn literal_or_absent(table: &[u8], at: usize) -> Value
+pub fn literal_at(table: &[u8], at: usize) -> Value
     requires { (get_or table.now at 0 < kind_numbers) × (at + head_bytes (get_or table.now at 0) ≤ length table.now) }
-    ensures { result ≡ literal_or_absent table.now at }
+    ensures { result ≡ literal_value table.now at }
 {
     match kind_at(table, at) {
         NULL => Value::Null,

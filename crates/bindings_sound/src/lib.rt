@@ -1,8 +1,8 @@
 // A binding room as a caller lends it, with any contents: whether it is one that bindings make, and if not, the first bad cell.
 // Here: the verdict on the whole room. `values` judges what a cell or a slot holds, `references` what that refers to, and `map_keys` the keys of a
 // Map.
-mod map_keys;
-mod references;
+pub mod map_keys;
+pub mod references;
 pub mod values;
 
 ghost use Rattle.std.specs.Prelude.{◌≡◌, min, ◌<◌};
@@ -24,7 +24,7 @@ pub struct Bindings {
 #[derive(Drop)]
 pub enum Soundness {
     Sound,
-    // The first bad cell; 0 where no cell is bad, but a slot or a used count is.
+    // The first bad cell; 0 where no cell is bad, but a slot or a used count.
     Unsound(usize),
 }
 
@@ -69,7 +69,7 @@ fn slots_fit(cells: &[u64], text: &[u8], used: usize, bytes: usize, scope: Scope
 }
 
 // The cells below the used count are judged one by one, each by what it says and what the cells it refers to say.
-// The slots are judged first, which saves a copy of the scope; where there is a bad cell, it is still the answer.
+// The slots are judged first, which saves a copy of the scope; a bad cell is answered all the same.
 pub fn sound(cells: &[u64], text: &[u8], bindings: Bindings) -> Soundness
     ensures { result ≡ sound_of cells.now text.now bindings }
 {

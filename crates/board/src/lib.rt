@@ -1,18 +1,17 @@
 // The evaluator for callers in C and Rust: numbers and slices only. Whatever is lent, there is an answer. include/ombravelik.h says how the
 // functions are called.
 ghost use Rattle.std.specs.Prelude.{◌≡◌, List, ℕ};
+ghost use Rattle.rooms.specs.Rooms.{rooms};
 ghost use Rattle.rooms.specs.Cells.{cell_of};
 ghost use Rattle.rooms.specs.Value.{parts_of};
 ghost use Rattle.answer_values.specs.Elements.{element_in, present_in};
 ghost use Rattle.answer_values.specs.Entries.{key_in, value_in};
 ghost use Rattle.answer.specs.Meant.{Evaluates};
 ghost use Rattle.board_state.specs.State.{bindings_in};
-ghost use Rattle.board_state.specs.Bringing.{binding_room};
-ghost use Rattle.board_calls.specs.Intake.{checks, empties};
-ghost use Rattle.board_calls.specs.Meant.{left, BringsInto};
+ghost use Rattle.board_state.specs.Bringing.{BindingRoom, binding_room};
+ghost use Rattle.board_calls.specs.Intake.{checks, empties, brings};
 ghost use Rattle.board_calls.specs.ReadOut.{reads, reads_part};
 ghost use Rattle.board_words.specs.Evaluation.{EvaluatesInto};
-ghost use Rattle.rooms.specs.Lent.{rooms_at_entry, rooms_at_exit};
 
 use answer::Answer;
 use board_words::answers::ANSWER_WORDS;
@@ -45,9 +44,7 @@ pub extern "C" fn ombravelik_bring_in(
     literal: &[u8],
     answer: &mut [u64],
 ) -> u8
-    ensures { BringsInto (binding_room state.old binding_cells.old binding_text.old) name
-        table.now literal.now answer.old
-        (left result answer.new (binding_room state.new binding_cells.new binding_text.new)) }
+    ensures { ◌≡◌ {A = (ℕ × List ℕ) × BindingRoom} ((result, answer.new), binding_room state.new binding_cells.new binding_text.new) (brings (binding_room state.old binding_cells.old binding_text.old) name table.now literal.now answer.old) }
 {
     board_calls::intake::bring_in(
         state,
@@ -71,8 +68,7 @@ fn evaluate_over(
     text: &mut [u8],
     steps: usize,
 ) -> Answer
-    ensures { Evaluates table.now (bindings_in state.now) steps
-        (rooms_at_entry literal binding_cells binding_text cells text) result (rooms_at_exit literal binding_cells binding_text cells text) }
+    ensures { Evaluates table.now (bindings_in state.now) steps (rooms literal.now binding_cells.now binding_text.now cells.old text.old) result (rooms literal.now binding_cells.now binding_text.now cells.new text.new) }
 {
     let bindings = board_state::bindings_in(state);
     evaluator::evaluate(
@@ -100,8 +96,7 @@ pub extern "C" fn ombravelik_evaluate(
     steps: usize,
     answer: &mut [u64],
 ) -> u8
-    ensures { EvaluatesInto table.now state.now steps (rooms_at_entry literal binding_cells binding_text cells text)
-        answer.old result answer.new (rooms_at_exit literal binding_cells binding_text cells text) }
+    ensures { EvaluatesInto table.now state.now steps (rooms literal.now binding_cells.now binding_text.now cells.old text.old) answer.old result answer.new (rooms literal.now binding_cells.now binding_text.now cells.new text.new) }
 {
     if answer.len() < ANSWER_WORDS {
         return NO_ROOM;
@@ -137,8 +132,7 @@ pub extern "C" fn ombravelik_element(
     index: usize,
     part: &mut [u64],
 ) -> u8
-    ensures { ◌≡◌ {A = ℕ × List ℕ} (result, part.new)
-        (reads_part (element_in binding_cells.now cells.now (parts_of (cell_of head payload)) index) part.old) }
+    ensures { ◌≡◌ {A = ℕ × List ℕ} (result, part.new) (reads_part (element_in binding_cells.now cells.now (parts_of (cell_of head payload)) index) part.old) }
 {
     board_calls::readout::element(binding_cells, cells, head, payload, index, part)
 }
@@ -153,8 +147,7 @@ pub extern "C" fn ombravelik_key(
     index: usize,
     part: &mut [u64],
 ) -> u8
-    ensures { ◌≡◌ {A = ℕ × List ℕ} (result, part.new)
-        (reads_part (key_in binding_cells.now cells.now (parts_of (cell_of head payload)) index) part.old) }
+    ensures { ◌≡◌ {A = ℕ × List ℕ} (result, part.new) (reads_part (key_in binding_cells.now cells.now (parts_of (cell_of head payload)) index) part.old) }
 {
     board_calls::readout::key(binding_cells, cells, head, payload, index, part)
 }
@@ -169,8 +162,7 @@ pub extern "C" fn ombravelik_value(
     index: usize,
     part: &mut [u64],
 ) -> u8
-    ensures { ◌≡◌ {A = ℕ × List ℕ} (result, part.new)
-        (reads_part (value_in binding_cells.now cells.now (parts_of (cell_of head payload)) index) part.old) }
+    ensures { ◌≡◌ {A = ℕ × List ℕ} (result, part.new) (reads_part (value_in binding_cells.now cells.now (parts_of (cell_of head payload)) index) part.old) }
 {
     board_calls::readout::value(binding_cells, cells, head, payload, index, part)
 }
@@ -184,8 +176,7 @@ pub extern "C" fn ombravelik_present(
     payload: u64,
     part: &mut [u64],
 ) -> u8
-    ensures { ◌≡◌ {A = ℕ × List ℕ} (result, part.new)
-        (reads_part (present_in binding_cells.now cells.now (parts_of (cell_of head payload))) part.old) }
+    ensures { ◌≡◌ {A = ℕ × List ℕ} (result, part.new) (reads_part (present_in binding_cells.now cells.now (parts_of (cell_of head payload))) part.old) }
 {
     board_calls::readout::present(binding_cells, cells, head, payload, part)
 }

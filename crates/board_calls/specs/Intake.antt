@@ -1,9 +1,9 @@
 -- What each function of `intake` returns and leaves in lent memory, from what the crates below it say.
 use Rattle.std.specs.Prelude.{ℕ, List, cond, ltb, eqb, length}
 use Rattle.table_check.specs.Check.{check_of}
-use Rattle.bindings_bringing.specs.declared.Answer.{Answer}
-use Rattle.bindings_bringing.specs.declared.Answer.TheVariants as Bringing
-use Rattle.bindings_bringing.specs.Bringing.{emptied}
+use Rattle.bindings.specs.declared.admission.Answer.{Answer}
+use Rattle.bindings.specs.declared.admission.Answer.TheVariants as Bringing
+use Rattle.bindings.specs.Bringing.{emptied}
 use Rattle.board_words.specs.Overlay.{no_room, handed}
 use Rattle.board_state.specs.State.{state_words, state_of}
 use Rattle.board_state.specs.Bringing.{BindingRoom, stows}

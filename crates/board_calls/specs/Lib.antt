@@ -1,5 +1,3 @@
--- What the contracts cite: what each function returns and leaves in lent memory, of the module `intake` (`Intake`, and for bringing in what the
--- definition says of it, `Meant`) and of `readout` (`ReadOut`).
+-- What the contracts cite: what each function returns and leaves in lent memory, of the module `intake` (`Intake`) and of `readout` (`ReadOut`).
 pub mod Intake
-pub mod Meant
 pub mod ReadOut

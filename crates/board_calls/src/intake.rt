@@ -1,10 +1,9 @@
 // What goes in: a table checked, a state emptied, a binding brought in, with the answer as words.
 ghost use Rattle.std.specs.Prelude.{◌≡◌, List, ℕ};
-ghost use Rattle.board_state.specs.Bringing.{binding_room};
-ghost use Rattle.board_calls.specs.Intake.{checks, empties};
-ghost use Rattle.board_calls.specs.Meant.{left, BringsInto};
+ghost use Rattle.board_state.specs.Bringing.{BindingRoom, binding_room};
+ghost use Rattle.board_calls.specs.Intake.{checks, empties, brings};
 
-use bindings_bringing::Answer;
+use bindings::admission::Answer;
 use board_state::STATE_WORDS;
 use board_words::answers::{ANSWER_WORDS, DONE};
 use board_words::overlay::NO_ROOM;
@@ -38,9 +37,7 @@ pub fn bring_in(
     literal: &[u8],
     answer: &mut [u64],
 ) -> u8
-    ensures { BringsInto (binding_room state.old binding_cells.old binding_text.old) name
-        table.now literal.now answer.old
-        (left result answer.new (binding_room state.new binding_cells.new binding_text.new)) }
+    ensures { ◌≡◌ {A = (ℕ × List ℕ) × BindingRoom} ((result, answer.new), binding_room state.new binding_cells.new binding_text.new) (brings (binding_room state.old binding_cells.old binding_text.old) name table.now literal.now answer.old) }
 {
     if answer.len() < ANSWER_WORDS {
         return NO_ROOM;

@@ -27,9 +27,8 @@ use Rattle.bindings_sound.proofs.SoundScope.{absent-is, beyond, fits-held, held-
 use Rattle.board_state.specs.State.{says_absent, is_state, bindings_in}
 use Rattle.board_state.proofs.SlotSteps.{slot-absent, slot-value}
 use Rattle.board_state.specs.Bringing.{BindingRoom}
-use Rattle.board_state.specs.Meant.{Stands}
-use Rattle.board_state.proofs.NoState.{sound-state}
-use Rattle.board_laws.proofs.WordsAgain.{cell-there, says-words, slot-in, sound-order}
+use Rattle.board_laws.specs.Called.{Stands}
+use Rattle.board_laws.proofs.WordsAgain.{cell-there, says-words, slot-in, sound-state, sound-order}
 
 -- the words of no value
 absent-words : cell_of 16 0 ≡ Value.Absent

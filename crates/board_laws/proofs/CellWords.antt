@@ -8,9 +8,7 @@ use borrow.Author.Tests.{ltb-false, eqb-true}
 use Rattle.numbers.specs.declared.double.Double.{Double}
 use Rattle.numbers.specs.declared.double.Double.TheVariants.{Plain, Nan}
 use Rattle.numbers.specs.Double.{bits_of, double_of}
-use Rattle.numbers.specs.Int.{signed_of}
 use Rattle.numbers.proofs.DoubleLaws.{bits_back}
-use Rattle.numbers.proofs.IntWords.{word_back}
 use Rattle.rooms.specs.declared.value.Value.{Value}
 use Rattle.rooms.specs.declared.value.Value.TheVariants as Value
 use Rattle.rooms.specs.declared.value.TextSpace.{TextSpace}
@@ -20,7 +18,7 @@ use Rattle.rooms.specs.declared.value.CellSpace.TheVariants as Cells
 use Rattle.rooms.specs.declared.places.TextPlace.TheVariants as TextPlace
 use Rattle.rooms.specs.declared.places.CellPlace.TheVariants as CellPlace
 use Rattle.rooms.specs.Value.{double_value}
-use Rattle.rooms.specs.Cells.{text_number, cell_number, packed, head_of, payload_of, text_place, cell_place, bare_of, text_of, container_of, value_of, cell_of}
+use Rattle.rooms.specs.Cells.{word_of, signed_of, text_number, cell_number, packed, head_of, payload_of, text_place, cell_place, bare_of, text_of, container_of, value_of, cell_of}
 use Rattle.machine.proofs.AnyCells.{either}
 use Rattle.board_laws.specs.ValueWords.{Written}
 
@@ -81,6 +79,14 @@ module _ (d n x : ℕ) (space : CellSpace) where
       (λ e. either (Written (packed 15 (cell_number space) d n) x) (eqb n 0) (λ f. is-value (Value.OptionalOf d space x) (ap (packed 15 (cell_number space) d) (sym (eqb-true n 0 f))) refl) (λ f. no_value))
 
 -- ---- values without a place
+
+-- an Int's word gives back the word
+word_back : (x : ℕ) → x < 2 ^ 64 → word_of (signed_of x) ≡ x
+unfolding word_of signed_of
+word_back x h = either (λ z. word_of z ≡ x) (ltb x (2 ^ 63)) (λ e. refl) (λ e. twice (ltb-false x (2 ^ 63) e))
+  where
+    twice : 2 ^ 63 ≤ x → 2 ^ 64 - 1 - (2 ^ 64 - 1 - x) ≡ x
+    twice l = omega (arith, h, l)
 
 double-written : (d : Double) (x : ℕ) → bits_of d ≡ x → Written 4 x (double_value d)
 double-written (Plain y) x e = is-value (Value.Double y) refl e

@@ -16,27 +16,25 @@ use Rattle.meaning_laws.specs.Accepted.{Accepted, fresh, brought}
 use Rattle.board_words.specs.Overlay.{no_room}
 use Rattle.board_state.specs.State.{bindings_in, state_of}
 use Rattle.board_state.specs.Bringing.{BindingRoom}
-use Rattle.board_state.specs.Meant.{Stands}
 use Rattle.board_words.specs.Answers.{which_done}
 use Rattle.board_calls.specs.Intake.{brings}
-use Rattle.board_calls.specs.Meant.{Left, left_by, BroughtIn, AsMeant, Says}
-use Rattle.board_state.specs.Settled.{Words}
+use Rattle.board_laws.specs.InOrder.{Words}
 use Rattle.board_laws.specs.Called as Called
-use Rattle.board_laws.specs.Called.{Made}
+use Rattle.board_laws.specs.Called.{Stands, Left, left_by, BroughtIn, AsMeant, BringsIn, Made}
 use Rattle.board_laws.proofs.WordsAgain.{accepted-again}
 use Rattle.board_laws.proofs.BroughtOver.{bring-in-means}
 use Rattle.board_laws.proofs.RuledOver.{empty-means}
 
 module _ (before : BindingRoom) (room : Meaning.BindingRoom) (stands : Stands before room) (name : ℕ) (table literal answer : List ℕ) (words : Words before.state)
     (table_bytes : AllBytes table) (text_bytes : AllBytes literal) (done : (brings before name table literal answer).0.0 ≡ which_done) where
-  abbrev made : Left
-  made = left_by (brings before name table literal answer)
+  abbrev left : Left
+  left = left_by (brings before name table literal answer)
 
   abbrev meant : Got Meaning.BindingRoom
   meant = bring (length before.cells / 2) (length before.text) room name table literal
 
-  means : Says before name table literal answer made
-  means = (bring-in-means before name table literal answer words table_bytes text_bytes).says
+  means : BringsIn before name table literal answer left
+  means = bring-in-means before name table literal answer left refl words table_bytes text_bytes
 
   -- 0 is returned where there is room for an answer
   long : 8 ≤ length answer
@@ -50,13 +48,13 @@ module _ (before : BindingRoom) (room : Meaning.BindingRoom) (stands : Stands be
   brings-too : (more : Meaning.BindingRoom) × (meant ≡ got more)
   brings-too = by-meaning meant refl (means.sound long room stands)
     where
-      by-meaning : (g : Got Meaning.BindingRoom) → meant ≡ g → AsMeant g before room answer made → (more : Meaning.BindingRoom) × (meant ≡ got more)
+      by-meaning : (g : Got Meaning.BindingRoom) → meant ≡ g → AsMeant g before room answer left → (more : Meaning.BindingRoom) × (meant ≡ got more)
       by-meaning (got more) e a = (more, e)
       by-meaning (refused why p) e a = let f = sym a.returns ∙ done in absurd (omega (arith, f))
 
   -- what it brings in is there
-  brought-in : (more : Meaning.BindingRoom) → meant ≡ got more → BroughtIn before room more answer made
-  brought-in more e = subst (λ (g : Got Meaning.BindingRoom). AsMeant g before room answer made) e (means.sound long room stands)
+  brought-in : (more : Meaning.BindingRoom) → meant ≡ got more → BroughtIn before room more answer left
+  brought-in more e = subst (λ (g : Got Meaning.BindingRoom). AsMeant g before room answer left) e (means.sound long room stands)
 
 -- Every state that calls make, over its cells and text, stands for the room that the definition makes by the same bindings: so all that is proved of
 -- such rooms and of evaluations over them is true of it.
@@ -65,9 +63,9 @@ made-stands r room (Called.emptied state cells text h) = (fresh, (empty-means st
 made-stands r more (Called.brought before room _ name table literal answer m words table_bytes text_bytes d e) =
     let (made, stands) = made-stands before room m in
     let a = brought-in before room stands name table literal answer words table_bytes text_bytes d more e in (
-      subst (λ (n : ℕ). Accepted (n / 2) (length r.text) more) (sym a.holds.cells.long)
-          (subst (λ (n : ℕ). Accepted (length before.cells / 2) n more) (sym a.holds.text.long) (brought name table literal made table_bytes text_bytes e)),
-      a.holds.stands,
+      subst (λ (n : ℕ). Accepted (n / 2) (length r.text) more) (sym a.cells.long)
+          (subst (λ (n : ℕ). Accepted (length before.cells / 2) n more) (sym a.text.long) (brought name table literal made table_bytes text_bytes e)),
+      a.stands,
     )
 
 -- Over such a state 0 is returned only where the definition brings in: so every call that returns 0 makes one again.

@@ -24,7 +24,7 @@ use Rattle.answer_values.specs.Elements.{element_in, present_in}
 use Rattle.answer_values.specs.Entries.{key_in, value_in}
 use Rattle.answer_values.specs.Shown.{Shows}
 use Rattle.answer_values.proofs.Showing.{shows}
-use Rattle.board_state.specs.Settled.{Words}
+use Rattle.board_laws.specs.InOrder.{Words}
 use Rattle.board_laws.specs.ValueWords.{ReadAgain}
 use Rattle.board_laws.proofs.CellWords.{cell-written}
 

@@ -25,9 +25,9 @@ use Rattle.rooms.specs.Reading.{reading}
 use Rattle.rooms.specs.Scope.{absent}
 use Rattle.rooms.proofs.CellLaws.{read_back}
 use Rattle.bindings_sound.specs.declared.Bindings.{Bindings}
-use Rattle.bindings_bringing.specs.Bringing.{emptied}
-use Rattle.bindings_bringing.specs.Meant.{StandsFor}
-use Rattle.bindings_bringing.proofs.BroughtIn.{emptied-stands}
+use Rattle.bindings.specs.Bringing.{emptied}
+use Rattle.bindings_laws.specs.Brings.{StandsFor}
+use Rattle.bindings_laws.proofs.Brought.{emptied-stands}
 use Rattle.machine.specs.declared.outcome.Used.{Used}
 use Rattle.machine.specs.Refines.{used_of}
 use Rattle.answer.specs.Numbers.{error_meant, limit_meant, limit_number}
@@ -42,15 +42,15 @@ use Rattle.board_words.specs.Overlay.{over, handed}
 use Rattle.board_state.specs.State.{bindings_in, state_of}
 use Rattle.board_state.specs.Settled.{AllFit}
 use Rattle.board_state.proofs.RoundTrip.{round_trip}
-use Rattle.board_state.proofs.SettledValues.{settled-reading, settled-stands, each_fits}
-use Rattle.board_state.proofs.FitSlots.{absent-fit, state-fits, state-slots}
 use Rattle.board_state.specs.Bringing.{binding_room}
-use Rattle.board_state.specs.Meant.{Stands}
 use Rattle.board_words.specs.Answers as Report
 use Rattle.board_words.specs.Answers.{report, which_done, which_value, which_error, which_exhausted, which_answer, report_answer}
 use Rattle.board_calls.specs.Intake.{empties}
 use Rattle.board_words.specs.Evaluation.{answered_into, evaluates, EvaluatesInto}
-use Rattle.board_laws.specs.Called.{LentTo, AnswersAs, EvaluatesAs}
+use Rattle.board_laws.specs.Called.{Stands, LentTo, AnswersAs, EvaluatesAs}
+use Rattle.board_laws.proofs.SettledValues.{settled-reading}
+use Rattle.board_laws.proofs.SettledAnswers.{each_fits, settled-stands}
+use Rattle.board_laws.proofs.FitSlots.{absent-fit, state-fits, state-slots}
 
 -- ---- emptying
 

@@ -1,29 +1,31 @@
--- Bringing in and evaluating give the same over settled bindings as over the bindings themselves, and the same over a state that bindings were
--- put into. Rests on SettledValues. Assumes nothing.
+-- Bringing in and evaluating over settled bindings come to what they come to over the bindings themselves; so do they over a state that
+-- bindings were put into. Rests on SettledValues. Assumes nothing.
 use Prim.Native.Nat.{ℕ, zero, suc}
 use mathlib.Core.Path.{◌≡◌, refl, sym, ap, ◌∙◌, subst}
+use mathlib.Core.Logic.{◌↔◌}
 use mathlib.Core.List.{List, [], ◌∷◌, map}
-use lib.ListN.{length, set}
+use lib.ListN.{length, get_or, set}
 use Rattle.meaning.specs.Errors.{WrongField, NameBound}
 use Rattle.meaning.specs.Value.{Scalar, null, bool, int, uint, double, string, bytes}
 use Rattle.meaning.specs.Kinds.{name_of}
 use Rattle.meaning.specs.Heads.{Got, got, refused, ◌>>=◌, ◌>>◌, demand, or_refuse, start}
 use Rattle.meaning.specs.Table.{read_table}
 use Rattle.meaning.specs.Spelling.{Literal, scalar_at, list_at, map_at}
-use Rattle.meaning.specs.Bindings.{scope_of}
+use Rattle.meaning.specs.Bindings.{BindingRoom, scope_of}
 use Rattle.meaning.specs.Answer.{Answered, answer_read}
 use Rattle.rooms.specs.declared.value.Value.{Value}
 use Rattle.rooms.specs.declared.scope.Slot.{Slot}
 use Rattle.rooms.specs.Cells.{Fits, settled}
 use Rattle.rooms.specs.Rooms.{Rooms}
-use Rattle.rooms.specs.Scope.{slot_of}
+use Rattle.rooms.specs.Scope.{absent, slot_of}
 use Rattle.rooms_taking.specs.Taking.{cell_room, text_room}
 use Rattle.bindings_sound.specs.declared.Bindings.{Bindings}
 use Rattle.bindings_sound.specs.Fits.{is_absent}
 use Rattle.bindings_literals.specs.Laying.{Room, room, laid_scalar, laid}
 use Rattle.bindings_sound.specs.Sound.{if_sound}
-use Rattle.bindings_bringing.specs.Bringing as Bringing
-use Rattle.bindings_bringing.specs.Bringing.{literal_for, after, outcome_of}
+use Rattle.bindings.specs.Bringing as Bringing
+use Rattle.bindings.specs.Bringing.{literal_for, after, outcome_of}
+use Rattle.bindings_laws.specs.Brings.{StandsFor}
 use Rattle.answer.specs.Evaluated as Evaluated
 use Rattle.answer.specs.declared.Answer.{Answer}
 use Rattle.answer.specs.Meant.{Says, limits, meant, Evaluates}
@@ -32,8 +34,8 @@ use Rattle.answer.proofs.Promises.{says-alike}
 use Rattle.board_state.specs.State.{bindings_in, state_of}
 use Rattle.board_state.specs.Settled.{settled_slot, settled_bindings, AllFit}
 use Rattle.board_state.proofs.RoundTrip.{round_trip}
-use Rattle.board_state.proofs.SettledValues.{read-settled, settled-absent, settled-slot, settled-written, settled-sound, settled-room, each_fits}
 use Rattle.board_laws.specs.ValueWords.{settled_outcome}
+use Rattle.board_laws.proofs.SettledValues.{read-settled, settled-absent, settled-slot, settled-written, settled-sound, settled-held, settled-room}
 
 -- ---- what is laid down is settled
 
@@ -114,7 +116,21 @@ settled-alike table b fit steps lent answer other left left_other h k =
     says-alike (meant table b steps lent) lent lent answer other left left_other refl refl
     (subst (λ (m : Answered). Says m lent answer left) (settled-meant table b fit steps lent) h.says) k.says
 
+-- ---- rooms of the definition
+
+-- Settled bindings stand for a room of the definition exactly if the bindings themselves do.
+pub settled-stands : (w t : List ℕ) (b : Bindings) → ((n : ℕ) → Fits (slot_of b.scope n)) → (room : BindingRoom) → StandsFor w t (settled_bindings b) room ↔ StandsFor w t b room
+settled-stands w t b fit room = (
+  λ s. record { sound = sym (settled-sound w t b) ∙ s.sound; cells = s.cells; bytes = s.bytes; scope = λ n. sym (settled-held w t b fit n) ∙ s.scope n },
+  λ s. record { sound = settled-sound w t b ∙ s.sound; cells = s.cells; bytes = s.bytes; scope = λ n. settled-held w t b fit n ∙ s.scope n },
+)
+
 -- ---- over a state
+
+pub each_fits : (l : List Slot) → AllFit l → (n : ℕ) → Fits (get_or l n absent).value
+each_fits [] f n = tt
+each_fits (s ∷ l) f zero = f.0
+each_fits (s ∷ l) f (suc n) = each_fits l f.1 n
 
 module _ (b : Bindings) (whole : length b.scope.slots ≡ 128) (fit : AllFit b.scope.slots) where
   -- The words of a state that bindings were put into come back as they were.

@@ -14,22 +14,21 @@ use Rattle.rooms.specs.declared.scope.Slot.{Slot}
 use Rattle.rooms.specs.Cells.{head_of, payload_of, bare_of, value_of, cell_of, has_cell, cell_in}
 use Rattle.rooms.specs.Scope.{slot_of}
 use Rattle.bindings_sound.specs.declared.Bindings.{Bindings}
-use Rattle.bindings_sound.specs.declared.Soundness.TheVariants.{Sound}
+use Rattle.bindings_sound.specs.declared.Soundness.TheVariants.{Sound, Unsound}
 use Rattle.bindings_sound.specs.Fits.{is_absent, slot_fits}
 use Rattle.bindings_sound.specs.Sound.{sound_of}
 use Rattle.bindings_sound.proofs.FitLaws.{both_true, sound-room}
 use Rattle.board_state.specs.State.{says_absent, slot_in, slots_in, scope_in, no_bindings, is_state, bindings_in, slot_words, state_of}
 use Rattle.board_state.proofs.SlotSteps.{slot-absent, slot-value, slot-wrong}
-use Rattle.board_state.proofs.NoState.{state-long, sound-state}
-use Rattle.board_state.specs.Settled.{Words}
-use Rattle.board_laws.specs.InOrder.{InOrder}
+use Rattle.board_state.proofs.NoState.{no-state}
+use Rattle.board_laws.specs.InOrder.{Words, InOrder}
 use Rattle.board_laws.proofs.CellWords.{cell-written}
 
 -- ---- a state's own words
 
 module _ (w : List ℕ) (s : is_state w ≡ true) where
-  long : length w ≡ 259
-  long = state-long w s
+  pub state-long : length w ≡ 259
+  state-long = eqb-true (length w) 259 (both_true s).0
 
   slot-count : get_or w 258 0 ≡ 128
   slot-count = eqb-true (get_or w 258 0) 128 (both_true {a = eqb (length w) 259} s).1
@@ -40,7 +39,7 @@ module _ (w : List ℕ) (s : is_state w ≡ true) where
 
   pub cell-there : (n : ℕ) → n < 128 → cell_in w n ≡ cell_of (get_or w (n * 2) 0) (get_or w (n * 2 + 1) 0)
   unfolding cell_in
-  cell-there n h = rw (lt-ltb n (length w / 2) (omega (arith, h, long))) refl
+  cell-there n h = rw (lt-ltb n (length w / 2) (omega (arith, h, state-long))) refl
 
   pub says-words : (n : ℕ) → says_absent w n ≡ true → (get_or w (n * 2) 0 ≡ 16) × (get_or w (n * 2 + 1) 0 ≡ 0)
   unfolding says_absent
@@ -70,15 +69,15 @@ module _ (w : List ℕ) (s : is_state w ≡ true) where
         ap (λ (k : ℕ). head_of (slot_in w i) ∷ payload_of (slot_in w i) ∷ slot_words (slots_in w (suc i) n) ++ drop (k * 2) w) {x = i + suc n} {y = suc i + n} (omega arith)
         ∙ ap (λ (l : List ℕ). head_of (slot_in w i) ∷ payload_of (slot_in w i) ∷ l) (slots-again (suc i) n (omega (arith, h)) ∙ ap (λ (k : ℕ). drop k w) {x = suc i * 2} {y = suc (suc (i * 2))} (omega arith))
         ∙ (λ k. (slot-words i (omega (arith, h))).0 k ∷ ((slot-words i (omega (arith, h))).1 ∙ ap (λ (m : ℕ). get_or w m 0) {x = i * 2 + 1} {y = suc (i * 2)} (omega arith)) k ∷ drop (suc (suc (i * 2))) w)
-        ∙ ap (λ (l : List ℕ). get_or w (i * 2) 0 ∷ l) (sym (drop-cons w (suc (i * 2)) 0 (omega (arith, h, long))))
-        ∙ sym (drop-cons w (i * 2) 0 (omega (arith, h, long)))
+        ∙ ap (λ (l : List ℕ). get_or w (i * 2) 0 ∷ l) (sym (drop-cons w (suc (i * 2)) 0 (omega (arith, h, state-long))))
+        ∙ sym (drop-cons w (i * 2) 0 (omega (arith, h, state-long)))
 
     behind : drop 256 w ≡ get_or w 256 0 ∷ get_or w 257 0 ∷ 128 ∷ []
     behind =
-        drop-cons w 256 0 (omega (arith, long))
-        ∙ ap (λ (l : List ℕ). get_or w 256 0 ∷ l) (drop-cons w 257 0 (omega (arith, long)))
-        ∙ ap (λ (l : List ℕ). get_or w 256 0 ∷ get_or w 257 0 ∷ l) (drop-cons w 258 0 (omega (arith, long)))
-        ∙ (λ i. get_or w 256 0 ∷ get_or w 257 0 ∷ slot-count i ∷ drop_of_length-le w {i = 259} (omega (arith, long)) i)
+        drop-cons w 256 0 (omega (arith, state-long))
+        ∙ ap (λ (l : List ℕ). get_or w 256 0 ∷ l) (drop-cons w 257 0 (omega (arith, state-long)))
+        ∙ ap (λ (l : List ℕ). get_or w 256 0 ∷ get_or w 257 0 ∷ l) (drop-cons w 258 0 (omega (arith, state-long)))
+        ∙ (λ i. get_or w 256 0 ∷ get_or w 257 0 ∷ slot-count i ∷ drop_of_length-le w {i = 259} (omega (arith, state-long)) i)
 
     all-again : state_of (bindings_in w) ≡ w
     unfolding state_of scope_in
@@ -164,6 +163,17 @@ slot_is w i (suc n) (suc k) d h = slot_is w (suc i) n k d (omega (arith, h)) ∙
 pub slot-in : (w : List ℕ) → is_state w ≡ true → (n : ℕ) → n < 128 → slot_of (bindings_in w).scope n ≡ slot_in w n
 unfolding scope_in
 slot-in w s n h = ap (λ (b : Bindings). slot_of b.scope n) (is-bindings w s) ∙ slot_is w 0 128 n _ h ∙ ap (slot_in w) {x = 0 + n} {y = n} (omega arith)
+
+-- words that some room is sound with are a state
+pub sound-state : (w cells text : List ℕ) → sound_of cells text (bindings_in w) ≡ Sound → is_state w ≡ true
+sound-state w cells text s = by_state (is_state w) refl
+  where
+    unlike : Sound ≡ Unsound 0 → ⊥
+    unlike e = let z : ◌≡◌ {A = ℕ} 0 1 = cc in omega arith
+
+    by_state : (b : Bool) → is_state w ≡ b → is_state w ≡ true
+    by_state true e = e
+    by_state false e = absurd (unlike (sym s ∙ no-state w cells text e))
 
 -- A state that is accepted over some cells and text is in order.
 pub sound-order : (w cells text : List ℕ) → sound_of cells text (bindings_in w) ≡ Sound → InOrder w

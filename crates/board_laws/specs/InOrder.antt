@@ -1,9 +1,14 @@
--- The words that are in order as a state: of its length, with the number of slots, and for each name the words of a value or of an absent slot.
-use Rattle.std.specs.Prelude.{ℕ, ◌<◌, ◌≡◌, ◌⊎◌, true, false, List}
+-- The words that are in order as a state: as many as one has, with the number of slots, and for each name a value's words or those that say there
+-- is none.
+use Rattle.std.specs.Prelude.{ℕ, ◌^◌, ◌<◌, ◌≡◌, ◌⊎◌, true, false, List, get_or}
 use Rattle.meaning.specs.Limits.{names}
 use Rattle.rooms.specs.Cells.{cell_in}
 use Rattle.bindings_sound.specs.Fits.{is_absent}
 use Rattle.board_state.specs.State.{says_absent, is_state}
+
+-- what a slice of words can hold
+abbrev pub Words : List ℕ → Type 0
+Words w = (i : ℕ) → get_or w i 0 < 2 ^ 64
 
 pub record InOrder (w : List ℕ) : Type 0 where
   pub state : is_state w ≡ true

@@ -1,9 +1,9 @@
--- Two words and the value that they are; what bringing in gives, with the values in the spelling that words give them.
+-- Two words and the value that they are; what bringing in comes to, with the values in the spelling that words give them.
 use Rattle.std.specs.Prelude.{ℕ, ◌≡◌, false}
 use Rattle.rooms.specs.declared.value.Value.{Value}
 use Rattle.rooms.specs.Cells.{head_of, payload_of, cell_of}
 use Rattle.bindings_sound.specs.Fits.{is_absent}
-use Rattle.bindings_bringing.specs.Bringing.{Outcome}
+use Rattle.bindings.specs.Bringing.{Outcome}
 use Rattle.board_state.specs.Settled.{settled_bindings}
 
 -- where they are a value, h and x are its words

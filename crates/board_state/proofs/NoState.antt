@@ -1,17 +1,14 @@
--- No room is sound with words that are no state: so words that some room is sound with are one. Assumes nothing.
+-- No room is sound with words that are no state. Assumes nothing.
 use Prim.Native.Nat.{ℕ, min}
-use mathlib.Core.Path.{◌≡◌, refl, sym, ap, ◌∙◌}
+use mathlib.Core.Path.{◌≡◌, refl, ap, ◌∙◌}
 use mathlib.Core.Bool.{Bool, true, false, ◌&&◌}
 use mathlib.Core.List.{List}
 use native.Mathlib.Omega.{arith}
 use lib.Dec.{ltb, leb}
-use lib.ListN.{length}
-use borrow.Author.Tests.{eqb-true}
 use Rattle.rooms_taking.specs.Taking.{cell_room, text_room}
-use Rattle.bindings_sound.specs.declared.Soundness.TheVariants.{Sound, Unsound}
+use Rattle.bindings_sound.specs.declared.Soundness.TheVariants.{Unsound}
 use Rattle.bindings_sound.specs.Fits.{slot_fits}
 use Rattle.bindings_sound.specs.Sound.{first_bad, slots_fit, used_cells, used_bytes, sound_of}
-use Rattle.bindings_sound.proofs.FitLaws.{both_true}
 use Rattle.board_state.specs.State.{no_bindings, is_state, bindings_in}
 
 no_cells : no_bindings.cells ≡ 0
@@ -50,18 +47,3 @@ unsound words text =
 pub no-state : (words cells text : List ℕ) → is_state words ≡ false → sound_of cells text (bindings_in words) ≡ Unsound 0
 unfolding bindings_in
 no-state words cells text h = ap (sound_of cells text) (rw h refl) ∙ unsound cells text
-
--- as many words as a state has
-pub state-long : (w : List ℕ) → is_state w ≡ true → length w ≡ 259
-state-long w s = eqb-true (length w) 259 (both_true s).0
-
--- words that some room is sound with are a state
-pub sound-state : (w cells text : List ℕ) → sound_of cells text (bindings_in w) ≡ Sound → is_state w ≡ true
-sound-state w cells text s = by_state (is_state w) refl
-  where
-    unlike : Sound ≡ Unsound 0 → ⊥
-    unlike e = let z : ◌≡◌ {A = ℕ} 0 1 = cc in omega arith
-
-    by_state : (b : Bool) → is_state w ≡ b → is_state w ≡ true
-    by_state true e = e
-    by_state false e = absurd (unlike (sym s ∙ no-state w cells text e))

@@ -1,9 +1,9 @@
 -- Bringing in over a state: what the bindings that it stands for become is written back to it.
 use Rattle.std.specs.Prelude.{ℕ, List}
 use Rattle.bindings_sound.specs.declared.Bindings.{Bindings}
-use Rattle.bindings_bringing.specs.declared.Answer.{Answer}
-use Rattle.bindings_bringing.specs.declared.Answer.TheVariants.{Done, Refused}
-use Rattle.bindings_bringing.specs.Bringing.{Outcome, outcome_of}
+use Rattle.bindings.specs.declared.admission.Answer.{Answer}
+use Rattle.bindings.specs.declared.admission.Answer.TheVariants.{Done, Refused}
+use Rattle.bindings.specs.Bringing.{Outcome, outcome_of}
 use Rattle.board_state.specs.State.{bindings_in, state_put}
 
 pub record BindingRoom : Type 0 where

@@ -1,5 +1,5 @@
--- What is read back of bindings that are put into a state: the same bindings, each Double in the one spelling that words give it.
-use Rattle.std.specs.Prelude.{ℕ, ◌^◌, ◌<◌, List, [], ◌∷◌, map, get_or}
+-- What comes back of bindings that are put into a state: themselves, each Double in the one spelling that words give it.
+use Rattle.std.specs.Prelude.{List, [], ◌∷◌, map}
 use Rattle.rooms.specs.declared.scope.Slot.{Slot}
 use Rattle.rooms.specs.Cells.{Fits, settled}
 use Rattle.bindings_sound.specs.declared.Bindings.{Bindings}
@@ -8,7 +8,7 @@ use Rattle.bindings_sound.specs.declared.Bindings.{Bindings}
 abbrev pub settled_slot : Slot → Slot
 settled_slot s = record { value = settled s.value }
 
--- the same for each slot; the used counts stay
+-- each slot so; the used counts as they are
 abbrev pub settled_bindings : Bindings → Bindings
 settled_bindings b = record { scope = record { slots = map settled_slot b.scope.slots }; cells = b.cells; bytes = b.bytes }
 
@@ -16,7 +16,3 @@ settled_bindings b = record { scope = record { slots = map settled_slot b.scope.
 abbrev pub AllFit : List Slot → Type 0
 AllFit [] = Unit {0}
 AllFit (s ∷ l) = Fits s.value × AllFit l
-
--- what a slice of words can hold
-abbrev pub Words : List ℕ → Type 0
-Words w = (i : ℕ) → get_or w i 0 < 2 ^ 64

@@ -5,7 +5,6 @@ use Rattle.rooms.specs.declared.value.Value.{Value}
 use Rattle.rooms.specs.declared.value.Value.TheVariants as Value
 use Rattle.rooms.specs.declared.scope.Slot.{Slot}
 use Rattle.rooms.specs.declared.scope.Scope.{Scope}
-use Rattle.rooms.specs.Kinds as Kind
 use Rattle.rooms.specs.Cells.{cell_in, has_cell, head_of, payload_of}
 use Rattle.rooms.specs.Scope.{empty_slots, stored}
 use Rattle.bindings_sound.specs.declared.Bindings.{Bindings}
@@ -25,13 +24,17 @@ bytes_at = 257
 abbrev pub slots_at : ℕ
 slots_at = 258
 
+-- the first word of a slot without a value; the second is 0
+abbrev pub absent_head : ℕ
+absent_head = 16
+
 -- ---- the bindings that words stand for
 
 -- slot i has the two words of no value
 unfoldable pub says_absent : List ℕ → (i : ℕ) → Bool
-says_absent w i = has_cell w i && (eqb (get_or w (i * 2) 0) Kind.absent && eqb (get_or w (i * 2 + 1) 0) 0)
+says_absent w i = has_cell w i && (eqb (get_or w (i * 2) 0) absent_head && eqb (get_or w (i * 2 + 1) 0) 0)
 
--- words that are neither a value nor those of an absent slot are read as an Optional: no binding gives a name such a value
+-- words that are no value, and do not say that there is none, are an Optional: no binding gives a name such a value
 unfoldable pub slot_in : List ℕ → (i : ℕ) → Value
 slot_in w i = cond (is_absent (cell_in w i)) (cond (says_absent w i) Value.Absent Value.OptionalNone) (cell_in w i)
 
@@ -43,7 +46,7 @@ slots_in w i (suc n) = record { value = slot_in w i } ∷ slots_in w (suc i) n
 unfoldable pub scope_in : List ℕ → Scope
 scope_in w = record { slots = slots_in w 0 names }
 
--- what words that are no state stand for: no room is sound with it
+-- what words stand for that are no state: no room is sound with it
 unfoldable pub no_bindings : Bindings
 no_bindings = record { scope = stored empty_slots 0 Value.OptionalNone; cells = 0; bytes = 0 }
 
@@ -62,6 +65,6 @@ slot_words (s ∷ slots) = head_of s.value ∷ payload_of s.value ∷ slot_words
 unfoldable pub state_of : Bindings → List ℕ
 state_of b = slot_words b.scope.slots ++ b.cells ∷ b.bytes ∷ names ∷ []
 
--- over lent words, if their number is a state's
+-- over lent words, where there are as many as a state has
 unfoldable pub state_put : (lent : List ℕ) → Bindings → List ℕ
 state_put w b = cond (eqb (length w) state_words) (state_of b) w

@@ -1,8 +1,9 @@
 // Bindings brought in over a state, the words that a caller holds beside the cells and the text of a binding room.
-ghost use Rattle.board_state.specs.Bringing.{binding_room};
-ghost use Rattle.board_state.specs.Meant.{BringsOver};
+ghost use Rattle.std.specs.Prelude.{◌≡◌};
+ghost use Rattle.bindings.specs.declared.admission.Answer.{Answer};
+ghost use Rattle.board_state.specs.Bringing.{BindingRoom, binding_room, stows};
 
-use bindings_bringing::Answer;
+use bindings::admission::Answer;
 
 // Brings the value that a table spells into a binding room, under a name that has none. A refusal changes nothing.
 pub fn bring_in(
@@ -13,8 +14,7 @@ pub fn bring_in(
     table: &[u8],
     literal: &[u8],
 ) -> Answer
-    ensures { BringsOver (binding_room state.old cells.old text.old) name table.now
-        literal.now (result, binding_room state.new cells.new text.new) }
+    ensures { ◌≡◌ {A = Answer × BindingRoom} (result, binding_room state.new cells.new text.new) (stows (binding_room state.old cells.old text.old) name table.now literal.now) }
 {
     let before = crate::bindings_in(state);
     let brought = bindings::bring_in(cells, text, before, name, table, literal);

@@ -1,5 +1,5 @@
 // Bindings as words that a caller holds, a state: a slot for each of the 128 names, as a cell; then how many cells and bytes of the binding room
-// are used; and the number of slots, by which a state is known. Words of any other shape stand for bindings that make every room unsound.
+// are used; and how many slots there are, by which a state is known. Words of any other shape stand for bindings that no room is sound with.
 // Here: a state is read and written. `bringing` brings a binding in over one.
 pub mod bringing;
 
@@ -8,7 +8,6 @@ ghost use Rattle.board_state.specs.State.{cells_at, says_absent, slot_in, scope_
 
 use bindings_sound::Bindings;
 use bindings_sound::values::is_absent;
-use rooms::kinds::ABSENT;
 use rooms::scope::{NAMES, Scope, Slot};
 use rooms::value::Value;
 use rooms_cells::{read_cell, write_cell};
@@ -25,6 +24,9 @@ const SLOTS_AT: usize = 258;
 // How many slots a state has.
 const SLOTS: u64 = 128;
 
+// The head of a slot that is absent.
+const ABSENT: u64 = 16;
+
 fn says_absent(words: &[u64], name: usize) -> bool
     ensures { result ≡ says_absent words.now name }
 {
@@ -37,7 +39,7 @@ fn says_absent(words: &[u64], name: usize) -> bool
 }
 
 // What a slot's words hold.
-// Words that are neither a value nor those of an absent slot are read as an Optional, which no binding gives a name.
+// Words that are no value, and do not say that it is absent, are an Optional, which no binding gives a name.
 fn slot_in(words: &[u64], name: usize) -> Value
     ensures { result ≡ slot_in words.now name }
 {
@@ -72,7 +74,7 @@ fn scope_in(words: &[u64]) -> Scope
     scope
 }
 
-// What words that are no state stand for.
+// What words stand for that are no state.
 fn no_bindings() -> Bindings
     ensures { result ≡ no_bindings }
 {
@@ -113,7 +115,7 @@ fn put_scope(words: &mut [u64], scope: Scope)
     }
 }
 
-// Bindings as a state, if the number of words is a state's; otherwise nothing is written.
+// Bindings as a state, where the words are as many as one has; otherwise nothing is written.
 pub fn put_bindings(words: &mut [u64], bindings: Bindings)
     ensures { words.new ≡ state_put words.old bindings }
 {

@@ -2,8 +2,7 @@
 use Rattle.std.specs.Prelude.{ℕ, List, [], ◌∷◌, ◌++◌}
 use Rattle.rooms.specs.declared.value.Value.{Value}
 use Rattle.rooms.specs.Value.{plain_of, parts_of}
-use Rattle.numbers.specs.Int.{word_of}
-use Rattle.rooms.specs.Cells.{bit_of, text_number, head_of, payload_of}
+use Rattle.rooms.specs.Cells.{bit_of, word_of, text_number, head_of, payload_of}
 use Rattle.answer_values.specs.declared.kinds.Truth.{Truth}
 use Rattle.answer_values.specs.declared.kinds.Truth.TheVariants as Truth
 use Rattle.answer_values.specs.declared.numeric.Numeric.{Numeric}

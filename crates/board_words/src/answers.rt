@@ -1,8 +1,7 @@
 // An answer as eight words: which it is, its number and place, the counts of steps, cells and bytes, and the two words of a value.
 ghost use Rattle.std.specs.Prelude.{◌≡◌, List, ℕ};
 ghost use Rattle.board_words.specs.Overlay.{handed};
-ghost use Rattle.board_words.specs.Answers.{nothing_used, report, which_done, which_refused, done};
-ghost use Rattle.board_words.specs.Answers.{refusal, which_checked, report_checked, which_answer, report_answer};
+ghost use Rattle.board_words.specs.Answers.{nothing_used, report, which_done, which_refused, done, refusal, which_checked, report_checked, which_answer, report_answer};
 
 use crate::overlay::{hand, words_of};
 use answer::Answer;

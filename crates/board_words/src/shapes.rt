@@ -7,16 +7,16 @@ ghost use Rattle.board_words.specs.Shapes.{number_word, span_words, shape_of, pa
 use crate::overlay::{hand, words_of};
 use answer_values::kinds::kind_of;
 use answer_values::spans_and_counts::{Span, count_of, text_of};
-use rooms::kinds;
 use rooms::value::Value;
 use rooms_cells::packing::text_number;
+use table_layout::kinds::DOUBLE;
 
 fn number_word(value: Value) -> u64
     ensures { result ≡ number_word value }
 {
     let words = words_of(value);
     // the kinds up to this one are Null, Bools and numbers
-    if kinds::DOUBLE < kind_of(value) as u64 {
+    if DOUBLE < kind_of(value) {
         return 0;
     }
     words[1]

@@ -1,10 +1,10 @@
 // `+` on lists: both are copied, one after the other, to the end of the room.
-ghost use Rattle.std.specs.Prelude.{List};
+ghost use Rattle.std.specs.Prelude.{List, ℕ};
 ghost use Rattle.rooms.specs.Value.{parts_of};
 ghost use Rattle.rooms.specs.Rooms.{rooms};
 ghost use Rattle.machine.specs.Numbers.{both_lists, list_sum};
+ghost use Rattle.eval_outcomes.specs.Gives.{Gives};
 ghost use Rattle.eval_arithmetic.specs.ListSums.{sum_parts};
-ghost use Rattle.eval_outcomes.specs.Does.{DoesOnCells};
 
 use eval_outcomes::outcomes::{no_overload, out_of_cells, with_cells};
 use machine::outcome::{Outcome, Used};
@@ -25,7 +25,7 @@ fn join_lists(
     count: u16,
     used: Used,
 ) -> Outcome
-    ensures { DoesOnCells result binding_cells cells (both_lists deep space first length other from count used) }
+    ensures { (l t x : List ℕ) → Gives result l binding_cells.now t cells.new x (both_lists deep space first length other from count used (rooms l binding_cells.now t cells.old x)) }
 {
     let base = used.cells;
     let all = (length as usize) + (count as usize);
@@ -53,7 +53,7 @@ fn list_sum(
     at: usize,
     used: Used,
 ) -> Outcome
-    ensures { DoesOnCells result binding_cells cells (list_sum at deep space first length (parts_of right) used) }
+    ensures { (l t x : List ℕ) → Gives result l binding_cells.now t cells.new x (list_sum at deep space first length (parts_of right) used (rooms l binding_cells.now t cells.old x)) }
 {
     match parts_of(right) {
         Parts::Elements(other, from, count) => join_lists(
@@ -82,7 +82,7 @@ pub fn sum_parts(
     at: usize,
     used: Used,
 ) -> Outcome
-    ensures { DoesOnCells result binding_cells cells (sum_parts at left right (parts_of left) used) }
+    ensures { (l t x : List ℕ) → Gives result l binding_cells.now t cells.new x (sum_parts at left right (parts_of left) used (rooms l binding_cells.now t cells.old x)) }
 {
     let deep = deeper(nesting_of(left), nesting_of(right));
     match parts_of(left) {

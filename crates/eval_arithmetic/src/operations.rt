@@ -2,8 +2,8 @@
 ghost use Rattle.rooms.specs.Rooms.{rooms};
 ghost use Rattle.machine.specs.Numbers.{only_add, arithmetic};
 ghost use Rattle.eval_outcomes.specs.Seen.{arith_seen};
+ghost use Rattle.eval_outcomes.specs.Gives.{Gives};
 ghost use Rattle.eval_arithmetic.specs.Sums.{sum_of};
-ghost use Rattle.eval_outcomes.specs.Does.{Does};
 
 use crate::numeric::number_arith;
 use crate::sums::sum;
@@ -25,7 +25,7 @@ fn other_arith(
     at: usize,
     used: Used,
 ) -> Outcome
-    ensures { Does result literal binding_cells binding_text cells text (only_add at (arith_seen operator) (λ u q. sum_of at left right u q) used) }
+    ensures { Gives result literal.now binding_cells.now binding_text.now cells.new text.new (only_add at (arith_seen operator) (λ u q. sum_of at left right u q) used (rooms literal.now binding_cells.now binding_text.now cells.old text.old)) }
 {
     match operator {
         Arith::Add => {
@@ -60,7 +60,7 @@ pub fn arithmetic(
     at: usize,
     used: Used,
 ) -> Outcome
-    ensures { Does result literal binding_cells binding_text cells text (arithmetic at (arith_seen operator) left right used) }
+    ensures { Gives result literal.now binding_cells.now binding_text.now cells.new text.new (arithmetic at (arith_seen operator) left right used (rooms literal.now binding_cells.now binding_text.now cells.old text.old)) }
 {
     let Plain::Number(n) = plain_of(left) else {
         return other_arith(

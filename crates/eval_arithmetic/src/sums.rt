@@ -1,7 +1,7 @@
 // `+` of what is no number, by what the left operand is.
 ghost use Rattle.rooms.specs.Rooms.{rooms};
+ghost use Rattle.eval_outcomes.specs.Gives.{Gives};
 ghost use Rattle.eval_arithmetic.specs.Sums.{sum_of};
-ghost use Rattle.eval_outcomes.specs.Does.{Does};
 
 use crate::list_sum::sum_parts;
 use crate::text_sum::{bytes_sum, string_sum};
@@ -21,7 +21,7 @@ pub(crate) fn sum(
     at: usize,
     used: Used,
 ) -> Outcome
-    ensures { Does result literal binding_cells binding_text cells text (sum_of at left right used) }
+    ensures { Gives result literal.now binding_cells.now binding_text.now cells.new text.new (sum_of at left right used (rooms literal.now binding_cells.now binding_text.now cells.old text.old)) }
 {
     match plain_of(left) {
         Plain::String(space, first, length) => {

@@ -1,10 +1,10 @@
 // `+` on texts: both are copied, one after the other, to the end of the room.
-ghost use Rattle.std.specs.Prelude.{◌≡◌};
+ghost use Rattle.std.specs.Prelude.{◌≡◌, List, ℕ};
 ghost use Rattle.rooms.specs.Value.{plain_of};
 ghost use Rattle.rooms.specs.Rooms.{rooms};
 ghost use Rattle.machine.specs.Numbers.{string_sum, bytes_sum};
+ghost use Rattle.eval_outcomes.specs.Gives.{Gives};
 ghost use Rattle.eval_arithmetic.specs.TextSums.{JoinedIn, joined_of, joined_out};
-ghost use Rattle.eval_outcomes.specs.Does.{DoesOnTexts};
 
 use eval_outcomes::outcomes::{no_overload, with_bytes};
 use machine::outcome::{Limit, Outcome, Used};
@@ -30,8 +30,7 @@ fn join_texts(
     count: u16,
     used: Used,
 ) -> Joined
-    ensures { JoinedIn result text.new (joined_of literal.now binding_text.now text.old space first
-        length other from count used) }
+    ensures { JoinedIn result text.new (joined_of literal.now binding_text.now text.old space first length other from count used) }
 {
     let end = used.bytes;
     let all = (length as usize) + (count as usize);
@@ -77,7 +76,7 @@ pub fn string_sum(
     at: usize,
     used: Used,
 ) -> Outcome
-    ensures { DoesOnTexts result literal binding_text text (string_sum at space first length (plain_of right) used) }
+    ensures { (b c : List ℕ) → Gives result literal.now b binding_text.now c text.new (string_sum at space first length (plain_of right) used (rooms literal.now b binding_text.now c text.old)) }
 {
     match plain_of(right) {
         Plain::Null => no_overload(at, used),
@@ -115,7 +114,7 @@ pub fn bytes_sum(
     at: usize,
     used: Used,
 ) -> Outcome
-    ensures { DoesOnTexts result literal binding_text text (bytes_sum at space first length (plain_of right) used) }
+    ensures { (b c : List ℕ) → Gives result literal.now b binding_text.now c text.new (bytes_sum at space first length (plain_of right) used (rooms literal.now b binding_text.now c text.old)) }
 {
     match plain_of(right) {
         Plain::Null => no_overload(at, used),

@@ -2,14 +2,13 @@
 // Here: all of these but `in`, which is in `membership`.
 pub mod membership;
 
-ghost use Rattle.std.specs.Prelude.{◌≡◌};
+ghost use Rattle.std.specs.Prelude.{◌≡◌, List, ℕ};
 ghost use Rattle.std.specs.Bool.{beq};
 ghost use Rattle.meaning.specs.Comparison.{holds};
 ghost use Rattle.rooms.specs.Rooms.{rooms};
 ghost use Rattle.machine.specs.Outcomes.{truth_out};
 ghost use Rattle.machine.specs.Comparison.{on_pairs, equal_out, ordered_out, compare_out};
 ghost use Rattle.eval_outcomes.specs.Seen.{comparison_seen};
-ghost use Rattle.rooms.specs.Lent.{OnTexts, rooms_at_entry};
 
 use eval_outcomes::operators::Comparison;
 use eval_outcomes::outcomes::{no_overload, out_of_steps, truth_out, with_steps};
@@ -42,7 +41,7 @@ pub fn equals(
     right: Value,
     used: Used,
 ) -> Outcome
-    ensures { result ≡ equal_out limit same left right used (rooms_at_entry literal binding_cells binding_text cells text) }
+    ensures { result ≡ equal_out limit same left right used (rooms literal.now binding_cells.now binding_text.now cells.now text.now) }
 {
     let pairs = rooms_comparison::equality::equal(
         literal,
@@ -112,7 +111,7 @@ pub fn compare(
     at: usize,
     used: Used,
 ) -> Outcome
-    ensures { OnTexts literal binding_text text (λ q. result ≡ compare_out (comparison_seen operator) at left right used q) }
+    ensures { (b c : List ℕ) → result ≡ compare_out (comparison_seen operator) at left right used (rooms literal.now b binding_text.now c text.now) }
 {
     match rooms_comparison::ordering::compare(literal, binding_text, text, left, right) {
         Compared::Is(order) => ordered(operator, order, at, used),

@@ -5,14 +5,12 @@ ghost use Rattle.rooms.specs.Value.{parts_of};
 ghost use Rattle.machine.specs.Outcomes.{truth_out};
 ghost use Rattle.machine.specs.Comparison.{on_pairs, on_found};
 ghost use Rattle.machine.specs.Selection.{in_parts};
-ghost use Rattle.rooms.specs.Lent.{rooms_at_entry};
 
 use eval_outcomes::outcomes::{no_overload, out_of_steps, truth_out, with_steps};
 use machine::outcome::{Outcome, Used};
 use rooms::value::{Parts, Value, is_key};
 use rooms_comparison::lookup::Found;
 use rooms_comparison::pairs::Pairs;
-use rooms_comparison::runs::Run;
 
 fn from_found(found: Found, used: Used) -> Outcome
     ensures { result ≡ on_found found used (λ c u. truth_out true u) (λ u. truth_out false u) }
@@ -47,15 +45,10 @@ pub fn is_in(
     at: usize,
     used: Used,
 ) -> Outcome
-    ensures { result ≡ in_parts limit at (rooms_at_entry literal binding_cells binding_text cells text) v used (parts_of container) }
+    ensures { result ≡ in_parts limit at (rooms literal.now binding_cells.now binding_text.now cells.now text.now) v used (parts_of container) }
 {
     match rooms::value::parts_of(container) {
         Parts::Elements(space, first, length) => {
-            let run = Run {
-                space,
-                first,
-                length,
-            };
             let pairs = rooms_comparison::in_list::among(
                 literal,
                 binding_cells,
@@ -64,18 +57,15 @@ pub fn is_in(
                 text,
                 limit,
                 v,
-                run,
+                space,
+                first,
+                length,
                 used.steps,
             );
             from_among(pairs, used)
         }
         Parts::Entries(space, first, length) => {
             if is_key(v) {
-                let run = Run {
-                    space,
-                    first,
-                    length,
-                };
                 let found = rooms_comparison::lookup::find(
                     literal,
                     binding_cells,
@@ -84,7 +74,9 @@ pub fn is_in(
                     text,
                     limit,
                     v,
-                    run,
+                    space,
+                    first,
+                    length,
                     used.steps,
                 );
                 from_found(found, used)

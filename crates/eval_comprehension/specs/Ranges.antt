@@ -5,5 +5,5 @@ use Rattle.eval_comprehension.specs.declared.ranges.Range.{Range}
 use Rattle.eval_comprehension.specs.declared.ranges.Range.TheVariants as Range
 
 abbrev pub range_seen : Range → Option Items
-range_seen (Range.Over i) = some (record { space = i.space; first = i.first; count = i.count; stride = i.stride })
+range_seen (Range.Over s a n k) = some (record { space = s; first = a; count = n; stride = k })
 range_seen Range.Not = none

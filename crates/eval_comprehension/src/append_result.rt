@@ -1,9 +1,9 @@
 // The append path of a comprehension: the runs of cells that it has collected, and the list of them all.
-ghost use Rattle.std.specs.Prelude.{◌≡◌, List, ◌<◌, ◌^◌, eqb, get_or, set};
+ghost use Rattle.std.specs.Prelude.{◌≡◌, List, ℕ, ◌<◌, ◌^◌, eqb, get_or, set};
 ghost use Rattle.rooms.specs.Rooms.{rooms};
 ghost use Rattle.machine.specs.Comprehension.{add_run, runs_copied, gathered};
+ghost use Rattle.eval_outcomes.specs.Gives.{Gives};
 ghost use Rattle.eval_comprehension.specs.AppendResult.{gathered_in};
-ghost use Rattle.eval_outcomes.specs.Does.{DoesOnCells};
 
 use eval_outcomes::outcomes::{out_of_cells, with_cells};
 use machine::outcome::{Outcome, Used};
@@ -11,7 +11,7 @@ use rooms::value::{CellSpace, Value, deeper};
 use rooms_taking::copying::copy_cells;
 use rooms_taking::{Taken, take_cells};
 
-// A turn that gathers takes at least two cells, and there are at most 4,096: 2,048 runs are enough.
+// A turn that gathers takes at least two cells, and there are at most 4,096: so many runs are enough.
 pub const MOST_RUNS: usize = 2048;
 
 // How many runs of cells, how many elements in them, and the nesting of a list of those.
@@ -22,7 +22,7 @@ pub struct Collected {
     pub nesting: u8,
 }
 
-// An element becomes `number`, if there is such an element.
+// An element becomes `number`, where it is there.
 fn store_run(list: &mut [u16], index: usize, number: u16)
     ensures { list.new ≡ set list.old index number }
 {
@@ -47,8 +47,7 @@ pub fn add_run(
     nesting: u8,
 ) -> Collected
     requires { (collected.runs < 2 ^ 32) × (collected.count < 2 ^ 32) }
-    ensures { gathered_in firsts.new counts.new result ≡ add_run (eqb length 0)
-        (gathered_in firsts.old counts.old collected) first length nesting }
+    ensures { gathered_in firsts.new counts.new result ≡ add_run (eqb length 0) (gathered_in firsts.old counts.old collected) first length nesting }
 {
     let deep = deeper(collected.nesting, nesting);
     if length == 0 {
@@ -78,8 +77,7 @@ fn copy_runs(
     to: usize,
 )
     requires { (runs < 2 ^ 32) × (to < 2 ^ 32) }
-    ensures { cells.new ≡ runs_copied binding_cells.now firsts.now counts.now runs 0 to
-        cells.old }
+    ensures { cells.new ≡ runs_copied binding_cells.now firsts.now counts.now runs 0 to cells.old }
 {
     let mut run = 0;
     let mut left = runs;
@@ -110,7 +108,7 @@ pub fn collected_list(
     used: Used,
 ) -> Outcome
     requires { collected.runs < 2 ^ 32 }
-    ensures { DoesOnCells result binding_cells cells (gathered (gathered_in firsts.now counts.now collected) used) }
+    ensures { (l t x : List ℕ) → Gives result l binding_cells.now t cells.new x (gathered (gathered_in firsts.now counts.now collected) used (rooms l binding_cells.now t cells.old x)) }
 {
     let base = used.cells;
     let count = collected.count;

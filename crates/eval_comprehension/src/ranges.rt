@@ -6,18 +6,10 @@ ghost use Rattle.eval_comprehension.specs.Ranges.{range_seen};
 
 use rooms::value::{CellSpace, Parts, Value, parts_of};
 
-// What is iterated over: so many items from a cell on, `stride` cells from one to the next.
-#[derive(Drop)]
-pub struct Items {
-    pub space: CellSpace,
-    pub first: u16,
-    pub count: u16,
-    pub stride: u16,
-}
-
+// What is iterated over: space, first cell, how many, and how far from one to the next.
 #[derive(Drop)]
 pub enum Range {
-    Over(Items),
+    Over(CellSpace, u16, u16, u16),
     Not,
 }
 
@@ -26,22 +18,8 @@ pub fn range_of(v: Value) -> Range
     ensures { range_seen result ≡ items_parts (parts_of v) }
 {
     match parts_of(v) {
-        Parts::Elements(space, first, length) => {
-            Range::Over(Items {
-                space,
-                first,
-                count: length,
-                stride: 1,
-            })
-        }
-        Parts::Entries(space, first, keys) => {
-            Range::Over(Items {
-                space,
-                first,
-                count: keys,
-                stride: 2,
-            })
-        }
+        Parts::Elements(space, first, length) => Range::Over(space, first, length, 1),
+        Parts::Entries(space, first, length) => Range::Over(space, first, length, 2),
         Parts::Present(_, _) => Range::Not,
         Parts::Nothing => Range::Not,
     }

@@ -1,9 +1,8 @@
 // An element of a List record: what its mark makes of it, and its cell.
-ghost use Rattle.std.specs.Prelude.{◌≡◌, List, ◌<◌, true};
+ghost use Rattle.std.specs.Prelude.{◌≡◌, List, ℕ, ◌<◌, true};
 ghost use Rattle.rooms.specs.Rooms.{rooms};
 ghost use Rattle.machine.specs.Views.{part_in};
 ghost use Rattle.eval_containers.specs.Filling.{part_seen, AddedIn, added_of};
-ghost use Rattle.rooms.specs.Lent.{OnCells};
 
 use crate::{Part, Ready};
 use eval_outcomes::outcomes::{Optional, optional_of};
@@ -11,7 +10,7 @@ use rooms::value::{Value, deeper, nesting_of};
 use rooms_cells::{cell_at, write_cell};
 
 fn unmarked_value(binding_cells: &[u64], cells: &[u64], v: Value) -> Part
-    ensures { OnCells binding_cells cells (λ q. part_seen result ≡ part_in q true v) }
+    ensures { (l t x : List ℕ) → part_seen result ≡ part_in (rooms l binding_cells.now t cells.now x) true v }
 {
     match optional_of(v) {
         Optional::Not => Part::Is(v),
@@ -23,7 +22,7 @@ fn unmarked_value(binding_cells: &[u64], cells: &[u64], v: Value) -> Part
 }
 
 pub fn part_of(binding_cells: &[u64], cells: &[u64], marked: bool, v: Value) -> Part
-    ensures { OnCells binding_cells cells (λ q. part_seen result ≡ part_in q marked v) }
+    ensures { (l t x : List ℕ) → part_seen result ≡ part_in (rooms l binding_cells.now t cells.now x) marked v }
 {
     if marked {
         unmarked_value(binding_cells, cells, v)
@@ -41,7 +40,7 @@ pub fn add_element(
     v: Value,
 ) -> Ready
     requires { ready.count < 65536 }
-    ensures { OnCells binding_cells cells (λ q. AddedIn result cells.new (added_of first ready (part_in q marked v) cells.old)) }
+    ensures { (l t x : List ℕ) → AddedIn result cells.new (added_of first ready (part_in (rooms l binding_cells.now t cells.old x) marked v) cells.old) }
 {
     match part_of(binding_cells, cells, marked, v) {
         Part::Is(part) => {

@@ -3,16 +3,14 @@ ghost use Rattle.std.specs.Prelude.{◌<◌};
 ghost use Rattle.rooms.specs.Rooms.{rooms};
 ghost use Rattle.machine.specs.Views.{part_in};
 ghost use Rattle.eval_containers.specs.Filling.{EntryIn, inserted_of, entered_of};
-ghost use Rattle.rooms.specs.Lent.{rooms_at_entry};
 
 use crate::elements::part_of;
-use crate::{Added, Entry, Part, Ready};
+use crate::{Entry, Part, Ready};
 use eval_outcomes::outcomes::{out_of_steps, with_steps};
 use machine::outcome::{Error, Outcome, Used};
 use rooms::value::{CellSpace, Value, deeper, nesting_of};
 use rooms_cells::write_cell;
 use rooms_comparison::lookup::Found;
-use rooms_comparison::runs::Run;
 
 // The duplicate test, then both cells.
 fn insert(
@@ -30,16 +28,9 @@ fn insert(
     used: Used,
 ) -> Entry
     requires { ready.count < 65536 }
-    ensures { EntryIn result cells.new (inserted_of limit at first ready key v used
-        (rooms_at_entry literal binding_cells binding_text cells text)) }
+    ensures { EntryIn result cells.new (inserted_of limit at first ready key v used (rooms literal.now binding_cells.now binding_text.now cells.old text.now)) }
 {
     let count = ready.count;
-    let length = count as u16;
-    let run = Run {
-        space: CellSpace::Evaluation,
-        first,
-        length,
-    };
     match rooms_comparison::lookup::find(
         literal,
         binding_cells,
@@ -48,7 +39,9 @@ fn insert(
         text,
         limit,
         key,
-        run,
+        CellSpace::Evaluation,
+        first,
+        count as u16,
         used.steps,
     ) {
         Found::At(_, more) => {
@@ -78,18 +71,16 @@ pub fn add_entry(
     limit: usize,
     first: u16,
     ready: Ready,
-    added: Added,
+    key: Value,
+    marked: bool,
+    v: Value,
     at: usize,
     used: Used,
 ) -> Entry
     requires { ready.count < 65536 }
-    ensures { EntryIn result cells.new (entered_of limit at first ready added.key
-        (part_in (rooms_at_entry literal binding_cells binding_text cells text) added.marked added.value) used
-        (rooms_at_entry literal binding_cells binding_text cells text)) }
+    ensures { EntryIn result cells.new (entered_of limit at first ready key (part_in (rooms literal.now binding_cells.now binding_text.now cells.old text.now) marked v) used (rooms literal.now binding_cells.now binding_text.now cells.old text.now)) }
 {
-    let key = added.key;
-    let v = added.value;
-    match part_of(binding_cells, cells, added.marked, v) {
+    match part_of(binding_cells, cells, marked, v) {
         Part::Is(part) => insert(
             literal,
             binding_cells,

@@ -19,7 +19,7 @@ pub enum Begun {
     Full,
 }
 
-// `count` cells for `parts` parts.
+// So many cells for so many parts.
 pub fn begin(cells: &mut [u64], parts: usize, count: usize, used: Used) -> Begun
     requires { parts < 65536 }
     ensures { BegunIn result cells.new (begun_of parts count used cells.old) }
@@ -70,7 +70,7 @@ pub fn whole_list(first: u16, ready: Ready, used: Used) -> Outcome
 
 // ---- entries
 
-// A value that may be a key, or the outcome that ends the record.
+// A key that may be one, or what goes out in its place.
 #[derive(Drop)]
 pub enum Key {
     Is(Value, Used),
@@ -93,15 +93,6 @@ pub fn key_of(operand: Outcome, at: usize) -> Key
     }
 }
 
-// An entry that is to be added: its key, and its value, with a mark or without.
-#[derive(Drop)]
-pub struct Added {
-    pub key: Value,
-    pub marked: bool,
-    pub value: Value,
-}
-
-// What becomes of it.
 #[derive(Drop)]
 pub enum Entry {
     Made(Ready, Used),

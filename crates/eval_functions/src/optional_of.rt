@@ -1,7 +1,8 @@
 // A present Optional is made here.
+ghost use Rattle.std.specs.Prelude.{List, ℕ};
 ghost use Rattle.rooms.specs.Rooms.{rooms};
 ghost use Rattle.machine.specs.Outcomes.{present};
-ghost use Rattle.eval_outcomes.specs.Does.{DoesOnEvaluationCells};
+ghost use Rattle.eval_outcomes.specs.Gives.{Gives};
 
 use eval_outcomes::outcomes::{out_of_cells, with_cells};
 use machine::outcome::{Limit, Outcome, Used};
@@ -10,7 +11,7 @@ use rooms_taking::Taken;
 
 // A present Optional: its cell, then its nesting.
 pub fn present(cells: &mut [u64], v: Value, used: Used) -> Outcome
-    ensures { DoesOnEvaluationCells result cells (present v used) }
+    ensures { (l b t x : List ℕ) → Gives result l b t cells.new x (present v used (rooms l b t cells.old x)) }
 {
     let cell = used.cells;
     let Taken::To(end) = rooms_taking::take_cells(cells, cell, 1) else {

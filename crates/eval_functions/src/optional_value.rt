@@ -1,9 +1,8 @@
 // The functions on Optionals: hasValue, value and orValue. optional.of is `optional_of::present`.
-ghost use Rattle.std.specs.Prelude.{◌≡◌};
+ghost use Rattle.std.specs.Prelude.{◌≡◌, List, ℕ};
 ghost use Rattle.rooms.specs.Rooms.{rooms};
 ghost use Rattle.machine.specs.Views.{optional_in};
 ghost use Rattle.machine.specs.Calls.{has_value_out, value_out, or_value_out};
-ghost use Rattle.rooms.specs.Lent.{OnCells};
 
 use eval_outcomes::outcomes::{Optional, no_overload, optional_of, truth_out};
 use machine::outcome::{Error, Outcome, Used};
@@ -21,7 +20,7 @@ pub fn has_value(v: Value, at: usize, used: Used) -> Outcome
 }
 
 pub fn value(binding_cells: &[u64], cells: &[u64], v: Value, at: usize, used: Used) -> Outcome
-    ensures { OnCells binding_cells cells (λ q. result ≡ value_out at used q (optional_in v)) }
+    ensures { (l t x : List ℕ) → result ≡ value_out at used (rooms l binding_cells.now t cells.now x) (optional_in v) }
 {
     match optional_of(v) {
         Optional::Not => no_overload(at, used),
@@ -41,7 +40,7 @@ pub fn or_value(
     at: usize,
     used: Used,
 ) -> Outcome
-    ensures { OnCells binding_cells cells (λ q. result ≡ or_value_out at default used q (optional_in target)) }
+    ensures { (l t x : List ℕ) → result ≡ or_value_out at default used (rooms l binding_cells.now t cells.now x) (optional_in target) }
 {
     match optional_of(target) {
         Optional::Not => no_overload(at, used),

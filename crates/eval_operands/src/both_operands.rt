@@ -1,9 +1,8 @@
-// After the other operand: the outcomes of both, joined.
-ghost use Rattle.std.specs.Prelude.{◌≡◌};
+// After the other operand: what both came to, joined.
+ghost use Rattle.std.specs.Prelude.{◌≡◌, List, ℕ};
 ghost use Rattle.rooms.specs.Rooms.{rooms};
+ghost use Rattle.eval_outcomes.specs.Gives.{Gives};
 ghost use Rattle.eval_shapes.specs.Next.{with_default, join_of};
-ghost use Rattle.eval_outcomes.specs.Does.{Does};
-ghost use Rattle.rooms.specs.Lent.{OnCells};
 
 use crate::two_values::after_right;
 use eval_functions::optional_value::or_value;
@@ -19,7 +18,7 @@ fn after_target(
     at: usize,
     used: Used,
 ) -> Outcome
-    ensures { OnCells binding_cells cells (λ q. result ≡ with_default at default v used q) }
+    ensures { (l t x : List ℕ) → result ≡ with_default at default v used (rooms l binding_cells.now t cells.now x) }
 {
     match default {
         Outcome::Value(other, _) => or_value(binding_cells, cells, other, v, at, used),
@@ -42,7 +41,7 @@ fn join_value(
     v: Value,
     used: Used,
 ) -> Outcome
-    ensures { Does result literal binding_cells binding_text cells text (join_of limit at fixed first (Outcome.Value v used)) }
+    ensures { Gives result literal.now binding_cells.now binding_text.now cells.new text.new (join_of limit at fixed first (Outcome.Value v used) (rooms literal.now binding_cells.now binding_text.now cells.old text.old)) }
 {
     match fixed {
         Fixed::Binary(operator) => after_right(
@@ -79,7 +78,7 @@ pub fn after_both(
     first: Outcome,
     second: Outcome,
 ) -> Outcome
-    ensures { Does result literal binding_cells binding_text cells text (join_of limit at fixed first second) }
+    ensures { Gives result literal.now binding_cells.now binding_text.now cells.new text.new (join_of limit at fixed first second (rooms literal.now binding_cells.now binding_text.now cells.old text.old)) }
 {
     match second {
         Outcome::Value(v, used) => join_value(

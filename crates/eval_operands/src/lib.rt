@@ -2,9 +2,9 @@
 // Here: what follows the operand that is begun first, with what the record has beside its operands. `unary` and `select_and_calls` end records of
 // one operand; `left_operand` says whether the right one is begun; `both_operands` and `two_values` end records of two.
 pub mod both_operands;
-mod left_operand;
+pub mod left_operand;
 mod select_and_calls;
-mod two_values;
+pub mod two_values;
 mod unary;
 
 ghost use Rattle.std.specs.Prelude.{◌≡◌, ◌+◌, ◌≤◌, length};
@@ -13,7 +13,6 @@ ghost use Rattle.rooms.specs.Rooms.{rooms};
 ghost use Rattle.table_check.specs.Records.{Sound, expr_of, head_of_kind};
 ghost use Rattle.machine.specs.Literals.{field_value};
 ghost use Rattle.eval_shapes.specs.Shapes.{shape_of, NextIn, next_of};
-ghost use Rattle.rooms.specs.Lent.{rooms_at_entry, rooms_at_exit};
 
 use crate::left_operand::after_left;
 use crate::select_and_calls::{call, select};
@@ -46,8 +45,7 @@ pub fn after_first(
     first: Outcome,
 ) -> Next
     requires { Sound table.now literal.now at × (shape_of (expr_of table.now literal.now at) ≡ Shape.Operands fixed) }
-    ensures { NextIn result (rooms_at_exit literal binding_cells binding_text cells text)
-        (next_of table.now limit at fixed first (rooms_at_entry literal binding_cells binding_text cells text)) }
+    ensures { NextIn result (rooms literal.now binding_cells.now binding_text.now cells.new text.now) (next_of table.now limit at fixed first (rooms literal.now binding_cells.now binding_text.now cells.old text.now)) }
 {
     match fixed {
         Fixed::Unary(operator) => Next::Stop(unary(operator, first, at)),

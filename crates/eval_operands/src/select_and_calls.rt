@@ -3,8 +3,8 @@ ghost use Rattle.rooms.specs.Rooms.{rooms};
 ghost use Rattle.machine.specs.Outcomes.{with_value};
 ghost use Rattle.machine.specs.Selection.{select_field};
 ghost use Rattle.machine.specs.Calls.{called};
+ghost use Rattle.eval_outcomes.specs.Gives.{Gives};
 ghost use Rattle.eval_outcomes.specs.Seen.{function_seen};
-ghost use Rattle.eval_outcomes.specs.Does.{Does};
 
 use eval_functions::optional_of::present;
 use eval_functions::optional_value::{has_value, value};
@@ -26,7 +26,7 @@ pub fn select(
     field: Value,
     at: usize,
 ) -> Outcome
-    ensures { Does result literal binding_cells binding_text cells text (λ q. with_value operand q (λ v u q. select_field limit at test field v u q)) }
+    ensures { Gives result literal.now binding_cells.now binding_text.now cells.new text.now (with_value operand (rooms literal.now binding_cells.now binding_text.now cells.old text.now) (λ v u q. select_field limit at test field v u q)) }
 {
     match operand {
         Outcome::Value(v, used) => select_field(
@@ -58,7 +58,7 @@ fn call_value(
     at: usize,
     used: Used,
 ) -> Outcome
-    ensures { Does result literal binding_cells binding_text cells text (called at (function_seen function) v used) }
+    ensures { Gives result literal.now binding_cells.now binding_text.now cells.new text.now (called at (function_seen function) v used (rooms literal.now binding_cells.now binding_text.now cells.old text.now)) }
 {
     match function {
         Function::Size => size(literal, binding_text, text, v, at, used),
@@ -78,7 +78,7 @@ pub fn call(
     argument: Outcome,
     at: usize,
 ) -> Outcome
-    ensures { Does result literal binding_cells binding_text cells text (λ q. with_value argument q (λ v u q. called at (function_seen function) v u q)) }
+    ensures { Gives result literal.now binding_cells.now binding_text.now cells.new text.now (with_value argument (rooms literal.now binding_cells.now binding_text.now cells.old text.now) (λ v u q. called at (function_seen function) v u q)) }
 {
     match argument {
         Outcome::Value(v, used) => call_value(

@@ -1,8 +1,8 @@
-// A binary operator whose right operand is a value. Logic decides from the left operand's outcome, any other operator from two values.
+// A binary operator whose right operand is a value. Logic decides from what the left operand came to, any other operator from two values.
 ghost use Rattle.rooms.specs.Rooms.{rooms};
 ghost use Rattle.machine.specs.Machine.{both, values_out, right_of};
+ghost use Rattle.eval_outcomes.specs.Gives.{Gives};
 ghost use Rattle.eval_outcomes.specs.Seen.{binary_seen};
-ghost use Rattle.eval_outcomes.specs.Does.{Does};
 
 use eval_arithmetic::operations::arithmetic;
 use eval_comparison::membership::is_in;
@@ -13,7 +13,7 @@ use eval_selection::indexing::{index, optional_select};
 use machine::outcome::{Outcome, Used};
 use rooms::value::Value;
 
-// Both operands are values, and the operator is neither `||` nor `&&`.
+// Both operands are values, and the operator is none of logic.
 fn values(
     literal: &[u8],
     binding_cells: &[u64],
@@ -27,7 +27,7 @@ fn values(
     at: usize,
     used: Used,
 ) -> Outcome
-    ensures { Does result literal binding_cells binding_text cells text (values_out limit at (binary_seen operator) left right used) }
+    ensures { Gives result literal.now binding_cells.now binding_text.now cells.new text.new (values_out limit at (binary_seen operator) left right used (rooms literal.now binding_cells.now binding_text.now cells.old text.old)) }
 {
     match operator {
         Binary::Equals => equals(
@@ -145,7 +145,7 @@ pub fn after_right(
     at: usize,
     used: Used,
 ) -> Outcome
-    ensures { Does result literal binding_cells binding_text cells text (right_of limit at (binary_seen operator) left right used) }
+    ensures { Gives result literal.now binding_cells.now binding_text.now cells.new text.new (right_of limit at (binary_seen operator) left right used (rooms literal.now binding_cells.now binding_text.now cells.old text.old)) }
 {
     let Binary::Logic(fold) = operator else {
         return both_values(
@@ -178,8 +178,7 @@ fn both_values(
     at: usize,
     used: Used,
 ) -> Outcome
-    ensures { Does result literal binding_cells binding_text cells text
-        (λ q. both left q (λ v. values_out limit at (binary_seen operator) v right used q)) }
+    ensures { Gives result literal.now binding_cells.now binding_text.now cells.new text.new (both left (rooms literal.now binding_cells.now binding_text.now cells.old text.old) (λ v. values_out limit at (binary_seen operator) v right used (rooms literal.now binding_cells.now binding_text.now cells.old text.old))) }
 {
     match left {
         Outcome::Value(v, _) => values(

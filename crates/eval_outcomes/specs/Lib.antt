@@ -1,3 +1,3 @@
--- What the contracts cite beside the machine: the form of a contract with lent memory (`Does`), the code's enums as the machine's views (`Seen`).
-pub mod Does
+-- What the contracts cite beside the machine: the form of a contract with lent memory (`Gives`), the code's enums as the machine's views (`Seen`).
+pub mod Gives
 pub mod Seen

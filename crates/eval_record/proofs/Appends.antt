@@ -30,11 +30,9 @@ use Rattle.eval_logic.specs.Conditions.{asked_of, on_asked}
 use Rattle.eval_comprehension.specs.declared.append_result.Collected.{Collected}
 use Rattle.eval_comprehension.specs.declared.append_turn.Gather.{Gather}
 use Rattle.eval_comprehension.specs.declared.append_turn.Gather.TheVariants as Gather
-use Rattle.eval_comprehension.specs.declared.ranges.Items.{Items}
 use Rattle.eval_comprehension.specs.AppendResult.{gathered_in}
 use Rattle.eval_comprehension.specs.AppendTurn.{gather_of, GatherIn, on_gather}
 use Rattle.eval_comprehension.proofs.AppendTurnLaws.{items_as}
-use Rattle.eval_shapes.specs.declared.comprehensions.Appending.{Appending}
 use Rattle.eval_shapes.specs.declared.comprehensions.Places.{Places}
 use Rattle.eval_shapes.specs.Comprehensions.{loop_at, guard_at, append_at}
 use Rattle.eval_shallow.proofs.Stops.{Is, after-operand}
@@ -55,26 +53,26 @@ guard-asked : (p : ℕ) (s : Scope) (u : Used) (r : Rooms) {guard : Option Does}
 guard-asked p s u r does e test f = rw e (record { is = λ holds fails. asked (does s u r) p test f holds fails })
 
 -- that, and the evaluation's memory after it
-pub record Guarded (t x b y : List ℕ) (limit p : ℕ) (a : Appending) (s : Scope) (u : Used) (cells₀ text₀ : List ℕ) (answer : Asked) (cells text : List ℕ) : Type 0 where
-  pub passed : Passed p (guard_at a.guarded (machine t limit (expr_of t x a.guard))) s u (rooms x b y cells₀ text₀) answer (rooms x b y cells text)
+pub record Guarded (t x b y : List ℕ) (limit p : ℕ) (is_guarded : Bool) (guard : ℕ) (s : Scope) (u : Used) (cells₀ text₀ : List ℕ) (a : Asked) (cells text : List ℕ) : Type 0 where
+  pub passed : Passed p (guard_at is_guarded (machine t limit (expr_of t x guard))) s u (rooms x b y cells₀ text₀) a (rooms x b y cells text)
   pub kept : length cells ≡ length cells₀
   pub keptx : length text ≡ length text₀
 
-module _ (t x b y : List ℕ) (limit p : ℕ) (a : Appending) (s : Scope) (u : Used) (cells₀ text₀ : List ℕ) {answer : Asked} {cells text : List ℕ} where
-  pub came-unguarded : a.guarded ≡ false → cells ≡ cells₀ → text ≡ text₀ → answer ≡ Asked.Holds u → Guarded t x b y limit p a s u cells₀ text₀ answer cells text
+module _ (t x b y : List ℕ) (limit p : ℕ) (is_guarded : Bool) (guard : ℕ) (s : Scope) (u : Used) (cells₀ text₀ : List ℕ) {a : Asked} {cells text : List ℕ} where
+  pub came-unguarded : is_guarded ≡ false → cells ≡ cells₀ → text ≡ text₀ → a ≡ Asked.Holds u → Guarded t x b y limit p is_guarded guard s u cells₀ text₀ a cells text
   came-unguarded e i j k =
       record {
-        passed = rw (i, j) (unguarded p s u (rooms x b y cells₀ text₀) (ap (λ b. guard_at b (machine t limit (expr_of t x a.guard))) e) k);
+        passed = rw (i, j) (unguarded p s u (rooms x b y cells₀ text₀) (ap (λ b. guard_at b (machine t limit (expr_of t x guard))) e) k);
         kept = ap (λ (w : List ℕ). length w) i;
         keptx = ap (λ (w : List ℕ). length w) j;
       }
 
-  pub came-guarded : a.guarded ≡ true → {o : Outcome} {cells₁ text₁ : List ℕ} → Came t x b y limit a.guard s u cells₀ text₀ o cells₁ text₁ → {asking : Asked} → asking ≡ asked_of p o →
-      cells ≡ cells₁ → text ≡ text₁ → answer ≡ asking → Guarded t x b y limit p a s u cells₀ text₀ answer cells text
+  pub came-guarded : is_guarded ≡ true → {o : Outcome} {cells₁ text₁ : List ℕ} → Came t x b y limit guard s u cells₀ text₀ o cells₁ text₁ → {a₁ : Asked} → a₁ ≡ asked_of p o →
+      cells ≡ cells₁ → text ≡ text₁ → a ≡ a₁ → Guarded t x b y limit p is_guarded guard s u cells₀ text₀ a cells text
   came-guarded e test h i j k =
       record {
         passed =
-            rw (i, j) (guard-asked p s u (rooms x b y cells₀ text₀) (machine t limit (expr_of t x a.guard)) (ap (λ b. guard_at b (machine t limit (expr_of t x a.guard))) e) test.is
+            rw (i, j) (guard-asked p s u (rooms x b y cells₀ text₀) (machine t limit (expr_of t x guard)) (ap (λ b. guard_at b (machine t limit (expr_of t x guard))) e) test.is
             (k ∙ h));
         kept = rw i test.kept;
         keptx = rw j test.keptx;
@@ -163,7 +161,44 @@ module _ (c : Loop) (path : AppendStep) (space : CellSpace) (stride : ℕ) where
           list-again {y' = y'} last run =
               ap (λ g'. onward scope g' y' (with_words z'' cells)) run ∙ (ap (λ k. on_gather k g (with_words z'' cells) (λ k y' q'. onward scope k y' q')) (sym last) ∙ this-list)
 
--- ---- the loop
+-- ---- turns that go on, wherever the operands stand that this path does not use
+
+module _ (t x : List ℕ) (limit p : ℕ) (is_guarded : Bool) (guard list : ℕ) (space : CellSpace) (stride item condition : ℕ) where
+  abbrev path : AppendStep
+  path = append_at t x limit is_guarded guard list
+
+  -- the turns from here do what those from there do
+  abbrev pub Same : (n at : ℕ) → Gathered → Scope → Used → Rooms → (n at : ℕ) → Gathered → Scope → Used → Rooms → Type 0
+  Same n at g s u r m q k e w z =
+      (places : Places) → places.item ≡ item → places.condition ≡ condition →
+      append_turns (loop_at t x limit p places) (append_at t x limit is_guarded guard list) space stride n at g s u r ≡
+      append_turns (loop_at t x limit p places) (append_at t x limit is_guarded guard list) space stride m q k e w z
+
+  pub none-again : (n at : ℕ) → 0 < n → (g : Gathered) (s : Scope) (u : Used) (r : Rooms) {o : Outcome} {z : Rooms} →
+      Is o z (machine t limit (expr_of t x condition) s u r) → {a : Asked} → a ≡ asked_of p o → {w : Used} → a ≡ Asked.Fails w → Same 0 at g s w z n at g s u r
+  none-again n at h g s u r test asking is places e f =
+      let k = rw (sym f) at test in
+      append-fails (loop_at t x limit p places) path space stride n at h g s u r k asking is
+
+  module _ (n at : ℕ) (h : 0 < n) (g : Gathered) (s : Scope) (u : Used) (r : Rooms) {o : Outcome} {z : Rooms}
+      (test : Is o z (machine t limit (expr_of t x condition) s u r)) {a : Asked} (asking : a ≡ asked_of p o) {w : Used} (is : a ≡ Asked.Holds w)
+      {v : Value} (cell : v ≡ cell_in (words_of z.binding_cells z.cells space) at)
+      {b : Asked} {z' : Rooms} (passed : Passed p (guard_at is_guarded (machine t limit (expr_of t x guard))) (stored s item v) w z b z') where
+    pub fails-again : {y : Used} → b ≡ Asked.Fails y → Same (n - 1) (at + stride) g (stored s item v) y z' n at g s u r
+    fails-again way places e f =
+        let k = rw (sym f) at test in
+        let l = rw (sym e) at passed in
+        rw (sym e) (guard-fails (loop_at t x limit p places) path space stride n at h g s u r k asking is cell l way)
+
+    pub gathers-again : {y : Used} → b ≡ Asked.Holds y → {o'' : Outcome} {z'' : Rooms} → Is o'' z'' (machine t limit (expr_of t x list) (stored s item v) y z') →
+        {k : Gather} {cells : List ℕ} → GatherIn k cells (gather_of z''.binding_cells z''.cells o'') →
+        {first m d : ℕ} {y' : Used} → k ≡ Gather.Run first m d y' → {g' : Gathered} → g' ≡ add_run (eqb m 0) g first m d →
+        Same (n - 1) (at + stride) g' (stored s item v) y' (with_words z'' cells) n at g s u r
+    gathers-again way items made last run places e f =
+        let k = rw (sym f) at test in
+        let l = rw (sym e) at passed in
+        let i = rw (sym e) at items in
+        rw (sym e) (list-again (loop_at t x limit p places) path space stride n at h g s u r k asking is cell l way i made last run)
 
 -- a run adds at most itself and its elements
 run-adds : (b : Bool) (g : Gathered) (a n d : ℕ) → ((add_run b g a n d).runs ≤ g.runs + 1) × ((add_run b g a n d).count ≤ g.count + n)
@@ -176,9 +211,9 @@ run-added f k f₁ k₁ g g₁ a n d e h =
     let m = run-adds (eqb n 0) (gathered_in f k g) a n d in
     (omega (arith, m.0, ap (λ (x : Gathered). x.runs) e), omega (arith, h, m.1, ap (λ (x : Gathered). x.count) e))
 
--- the loop over them: `left` items are left, the next of them in cell `cell`
-pub record AppendsLoop (t x b y cells₀ text₀ : List ℕ) (limit : ℕ) (a : Appending) (items : Items) (places : Places) (s₀ : Scope) (u₀ : Used)
-    (cells text firsts counts : List ℕ) (s : Scope) (g : Collected) (u : Used) (cell left : ℕ) : Type 0 where
+-- the loop over them: `left` items are left, the next of them in cell `cell`; of the comprehension's operands it uses the condition alone
+pub record AppendsLoop (t x b y cells₀ text₀ : List ℕ) (limit p : ℕ) (is_guarded : Bool) (guard list : ℕ) (space : CellSpace) (first count stride item condition : ℕ)
+    (s₀ : Scope) (u₀ : Used) (cells text firsts counts : List ℕ) (s : Scope) (g : Collected) (u : Used) (cell left : ℕ) : Type 0 where
   pub kept : length cells ≡ length cells₀
   pub keptx : length text ≡ length text₀
   pub long : length s.slots ≡ 128
@@ -188,14 +223,14 @@ pub record AppendsLoop (t x b y cells₀ text₀ : List ℕ) (limit : ℕ) (a : 
   pub below : cell + left * 65536 ≤ 65536 * 65536
   pub runs : g.runs + left ≤ 65535
   pub elements : g.count + left * 65535 ≤ 65535 * 65535
-  pub same :
-      append_turns (loop_at t x limit places) (append_at t x limit a) items.space items.stride left cell (gathered_in firsts counts g) s u (rooms x b y cells text) ≡
-      append_turns (loop_at t x limit places) (append_at t x limit a) items.space items.stride items.count items.first nothing_gathered s₀ u₀ (rooms x b y cells₀ text₀)
+  pub same : (places : Places) → places.item ≡ item → places.condition ≡ condition →
+      append_turns (loop_at t x limit p places) (append_at t x limit is_guarded guard list) space stride left cell (gathered_in firsts counts g) s u (rooms x b y cells text) ≡
+      append_turns (loop_at t x limit p places) (append_at t x limit is_guarded guard list) space stride count first nothing_gathered s₀ u₀ (rooms x b y cells₀ text₀)
 
-module _ (t x b y cells₀ text₀ : List ℕ) (limit : ℕ) (a : Appending) (items : Items) (places : Places) (s₀ : Scope) (u₀ : Used) where
-  pub appends-begin : length s₀.slots ≡ 128 → items.first < 65536 → items.count < 65536 →
-      AppendsLoop t x b y cells₀ text₀ limit a items places s₀ u₀ cells₀ text₀ (replicate 2048 0) (replicate 2048 0) s₀
-      (record { runs = 0; count = 0; nesting = 1 }) u₀ items.first items.count
+module _ (t x b y cells₀ text₀ : List ℕ) (limit p : ℕ) (is_guarded : Bool) (guard list : ℕ) (space : CellSpace) (first count stride item condition : ℕ) (s₀ : Scope) (u₀ : Used) where
+  pub appends-begin : length s₀.slots ≡ 128 → first < 65536 → count < 65536 →
+      AppendsLoop t x b y cells₀ text₀ limit p is_guarded guard list space first count stride item condition s₀ u₀ cells₀ text₀ (replicate 2048 0) (replicate 2048 0) s₀
+      (record { runs = 0; count = 0; nesting = 1 }) u₀ first count
   appends-begin e f g =
       record {
         kept = refl;
@@ -206,17 +241,17 @@ module _ (t x b y cells₀ text₀ : List ℕ) (limit : ℕ) (a : Appending) (it
         below = omega (arith, f, g);
         runs = omega (arith, g);
         elements = omega (arith, g);
-        same = refl;
+        same = λ places i j. refl;
       }
 
   pub appends-again : {cells text firsts counts : List ℕ} {s : Scope} {g : Collected} {u : Used} {cell left : ℕ} →
-      AppendsLoop t x b y cells₀ text₀ limit a items places s₀ u₀ cells text firsts counts s g u cell left →
-      0 < left → items.stride < 65536 → {cells₁ text₁ firsts₁ counts₁ : List ℕ} {s₁ : Scope} {g₁ : Collected} {u₁ : Used} →
+      AppendsLoop t x b y cells₀ text₀ limit p is_guarded guard list space first count stride item condition s₀ u₀ cells text firsts counts s g u cell left →
+      0 < left → stride < 65536 → {cells₁ text₁ firsts₁ counts₁ : List ℕ} {s₁ : Scope} {g₁ : Collected} {u₁ : Used} →
       length cells₁ ≡ length cells → length text₁ ≡ length text → length s₁.slots ≡ length s.slots → length firsts₁ ≡ length firsts → length counts₁ ≡ length counts →
       (g₁.runs ≤ g.runs + 1) × (g₁.count ≤ g.count + 65535) →
-      append_turns (loop_at t x limit places) (append_at t x limit a) items.space items.stride (left - 1) (cell + items.stride) (gathered_in firsts₁ counts₁ g₁) s₁ u₁ (rooms x b y cells₁ text₁) ≡
-      append_turns (loop_at t x limit places) (append_at t x limit a) items.space items.stride left cell (gathered_in firsts counts g) s u (rooms x b y cells text) →
-      AppendsLoop t x b y cells₀ text₀ limit a items places s₀ u₀ cells₁ text₁ firsts₁ counts₁ s₁ g₁ u₁ (cell + items.stride) (left - 1)
+      Same t x limit p is_guarded guard list space stride item condition (left - 1) (cell + stride) (gathered_in firsts₁ counts₁ g₁) s₁ u₁ (rooms x b y cells₁ text₁)
+      left cell (gathered_in firsts counts g) s u (rooms x b y cells text) →
+      AppendsLoop t x b y cells₀ text₀ limit p is_guarded guard list space first count stride item condition s₀ u₀ cells₁ text₁ firsts₁ counts₁ s₁ g₁ u₁ (cell + stride) (left - 1)
   appends-again v h w i j n k l m e =
       record {
         kept = i ∙ v.kept;
@@ -227,15 +262,15 @@ module _ (t x b y cells₀ text₀ : List ℕ) (limit : ℕ) (a : Appending) (it
         below = omega (arith, v.below, h, w);
         runs = omega (arith, v.runs, h, m.0);
         elements = omega (arith, v.elements, h, m.1);
-        same = e ∙ v.same;
+        same = λ places c d. e places c d ∙ v.same places c d;
       }
 
   -- after a condition that fails
   pub appends-over : {cells text firsts counts : List ℕ} {s : Scope} {g : Collected} {u : Used} {cell left : ℕ} →
-      AppendsLoop t x b y cells₀ text₀ limit a items places s₀ u₀ cells text firsts counts s g u cell left → {u₁ : Used} →
-      append_turns (loop_at t x limit places) (append_at t x limit a) items.space items.stride 0 cell (gathered_in firsts counts g) s u₁ (rooms x b y cells text) ≡
-      append_turns (loop_at t x limit places) (append_at t x limit a) items.space items.stride left cell (gathered_in firsts counts g) s u (rooms x b y cells text) →
-      AppendsLoop t x b y cells₀ text₀ limit a items places s₀ u₀ cells text firsts counts s g u₁ cell 0
+      AppendsLoop t x b y cells₀ text₀ limit p is_guarded guard list space first count stride item condition s₀ u₀ cells text firsts counts s g u cell left → {u₁ : Used} →
+      Same t x limit p is_guarded guard list space stride item condition 0 cell (gathered_in firsts counts g) s u₁ (rooms x b y cells text)
+      left cell (gathered_in firsts counts g) s u (rooms x b y cells text) →
+      AppendsLoop t x b y cells₀ text₀ limit p is_guarded guard list space first count stride item condition s₀ u₀ cells text firsts counts s g u₁ cell 0
   appends-over v e =
       record {
         kept = v.kept;
@@ -246,5 +281,5 @@ module _ (t x b y cells₀ text₀ : List ℕ) (limit : ℕ) (a : Appending) (it
         below = omega (arith, v.below);
         runs = omega (arith, v.runs);
         elements = omega (arith, v.elements);
-        same = e ∙ v.same;
+        same = λ places c d. e places c d ∙ v.same places c d;
       }

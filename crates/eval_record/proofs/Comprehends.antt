@@ -10,11 +10,12 @@ use borrow.Author.Tests.{ltb-true}
 use Rattle.meaning.specs.Look.{named}
 use Rattle.meaning.specs.Meaning.{look}
 use Rattle.rooms.specs.declared.value.Value.{Value}
+use Rattle.rooms.specs.declared.value.CellSpace.{CellSpace}
 use Rattle.rooms.specs.declared.scope.Scope.{Scope}
 use Rattle.rooms.specs.Value.{parts_of}
 use Rattle.rooms.specs.Rooms.{Rooms}
 use Rattle.rooms.specs.Scope.{stored}
-use Rattle.table_layout.specs.Layout.{word_at, after, head_bytes, comprehension_head}
+use Rattle.table_layout.specs.Layout.{word_at, after, head_bytes}
 use Rattle.table_check.specs.Records.{expr_of, Sound}
 use Rattle.table_check.proofs.Opened.{both_of}
 use Rattle.machine.specs.declared.outcome.Used.{Used}
@@ -24,11 +25,9 @@ use Rattle.machine.specs.declared.outcome.Outcome.TheVariants as Outcome
 use Rattle.machine.specs.Outcomes.{Res}
 use Rattle.machine.specs.Comprehension.{Items, AppendStep, items_parts, on_items, empty_parts, turns, append_turns, nothing_gathered, loop_from}
 use Rattle.machine.specs.Machine.{body, machine, append_step}
-use Rattle.eval_comprehension.specs.declared.ranges.Items as Over
 use Rattle.eval_comprehension.specs.declared.ranges.Range.{Range}
 use Rattle.eval_comprehension.specs.declared.ranges.Range.TheVariants as Range
 use Rattle.eval_comprehension.specs.Ranges.{range_seen}
-use Rattle.eval_shapes.specs.declared.comprehensions.Appending.{Appending}
 use Rattle.eval_shapes.specs.declared.comprehensions.Path.{Path}
 use Rattle.eval_shapes.specs.declared.comprehensions.Path.TheVariants as Path
 use Rattle.eval_shapes.specs.declared.comprehensions.Places.{Places}
@@ -61,15 +60,15 @@ module _ (t x : List ℕ) (limit p : ℕ) (at : ComprehensionAt t x p) {over sec
   whole = body t limit (expr_of t x p) s u r
 
   abbrev init : Res
-  init = machine t limit (expr_of t x (after t (p + comprehension_head))) s u r
+  init = machine t limit (expr_of t x (after t (p + 5))) s u r
 
   abbrev range : Used → Rooms → Res
-  range w z = machine t limit (expr_of t x (p + comprehension_head)) s w z
+  range w z = machine t limit (expr_of t x (p + 5)) s w z
 
-  over-is : over ≡ p + comprehension_head
+  over-is : over ≡ p + 5
   over-is = first-is ∙ at.first
 
-  second_at : second ≡ after t (p + comprehension_head)
+  second_at : second ≡ after t (p + 5)
   second_at = second_is ∙ ap (λ (n : ℕ). after t n) over-is
 
   init-is : {o : Outcome} {z : Rooms} → Is o z (machine t limit (expr_of t x second) s u r) → Is o z init
@@ -88,7 +87,7 @@ module _ (t x : List ℕ) (limit p : ℕ) (at : ComprehensionAt t x p) {over sec
 
     module _ {v : Value} {y : Used} (value : o' ≡ Outcome.Value v y) (k : Range) (seen : range_seen k ≡ items_parts (parts_of v)) where
       abbrev from : Items → Res
-      from items = loop_from (loop_at t x limit (places_at t p)) (open_path t x limit (places_at t p)) start items s y z'
+      from items = loop_from (loop_at t x limit p (places_at t p)) (open_path t x limit (places_at t p)) start items s y z'
 
       goes : on_items p y z' (range_seen k) (λ items. from items) ≡ whole
       goes =
@@ -97,41 +96,44 @@ module _ (t x : List ℕ) (limit p : ℕ) (at : ComprehensionAt t x p) {over sec
       pub no-range : k ≡ Range.Not → Is (Outcome.Error Error.IterableWanted p y) z' whole
       no-range e = ap (λ k. on_items p y z' (range_seen k) (λ items. from items)) (sym e) ∙ goes
 
-      module _ {found : Over.Items} (is : k ≡ Range.Over found) {places : Places} (e : places ≡ places_at t p)
+      module _ {space : CellSpace} {first count each : ℕ} (is : k ≡ Range.Over space first count each) {places : Places} (e : places ≡ places_at t p)
           (path : Path) (path-is : (limit : ℕ) → path_seen t x limit path ≡ path_of t x limit places start) where
         abbrev items : Items
-        items = record { space = found.space; first = found.first; count = found.count; stride = found.stride }
+        items = record { space = space; first = first; count = count; stride = each }
 
-        loops : loop_from (loop_at t x limit places) (open_path t x limit places) start items s y z' ≡ whole
+        loops : loop_from (loop_at t x limit p places) (open_path t x limit places) start items s y z' ≡ whole
         loops =
-            ap (λ (c : Places). loop_from (loop_at t x limit c) (open_path t x limit c) start items s y z') e ∙
+            ap (λ (c : Places). loop_from (loop_at t x limit p c) (open_path t x limit c) start items s y z') e ∙
             (ap (λ k. on_items p y z' (range_seen k) (λ items. from items)) (sym is) ∙ goes)
 
         path-at : {f : Path} → path ≡ f → path_of t x limit places start ≡ path_seen t x limit f
         path-at f = sym (path-is limit) ∙ ap (λ f. path_seen t x limit f) f
 
         pub turns-are : path ≡ Path.No → {o'' : Outcome} {z'' : Rooms} →
-            Is o'' z'' (turns (loop_at t x limit places) found.space found.stride found.count found.first none (stored s places.accumulator start) y z') → Is o'' z'' whole
-        turns-are f g = g ∙ (sym (turns-taken t x limit places (loop_at t x limit places) start items s y z' (path-at f)) ∙ loops)
+            Is o'' z'' (turns (loop_at t x limit p places) space each count first none (stored s places.accumulator start) y z') → Is o'' z'' whole
+        turns-are f g = g ∙ (sym (turns-taken t x limit places (loop_at t x limit p places) start items s y z' (path-at f)) ∙ loops)
 
-        pub appends-are : {a : Appending} → path ≡ Path.By a → {o'' : Outcome} {z'' : Rooms} →
-            Is o'' z'' (append_turns (loop_at t x limit places) (append_at t x limit a) found.space found.stride found.count found.first nothing_gathered s y z') → Is o'' z'' whole
-        appends-are {a} f g = g ∙ (sym (appends-taken t x limit places (loop_at t x limit places) start items s y z' (append_at t x limit a) (path-at f)) ∙ loops)
+        pub plain-are : {list : ℕ} → path ≡ Path.Plain list → {o'' : Outcome} {z'' : Rooms} →
+            Is o'' z'' (append_turns (loop_at t x limit p places) (append_at t x limit false list list) space each count first nothing_gathered s y z') → Is o'' z'' whole
+        plain-are {list} f g =
+            g ∙ (sym (appends-taken t x limit places (loop_at t x limit p places) start items s y z' (append_at t x limit false list list) (path-at f)) ∙ loops)
+
+        pub guarded-are : {guard list : ℕ} → path ≡ Path.Guarded guard list → {o'' : Outcome} {z'' : Rooms} →
+            Is o'' z'' (append_turns (loop_at t x limit p places) (append_at t x limit true guard list) space each count first nothing_gathered s y z') → Is o'' z'' whole
+        guarded-are {guard} {list} f g =
+            g ∙ (sym (appends-taken t x limit places (loop_at t x limit p places) start items s y z' (append_at t x limit true guard list) (path-at f)) ∙ loops)
 
 -- ---- what the loops ask
 
 -- of the append path that is run in the record at p: of its condition, its guard, which may be its list, and its list
-pub record Run (t x : List ℕ) (p condition : ℕ) (a : Appending) : Type 0 where
+pub record Run (t x : List ℕ) (p condition guard list : ℕ) : Type 0 where
   pub literal : get_or t condition 0 < 7
-  pub guard-sound : Sound t x a.guard
-  pub list-sound : Sound t x a.list
-  pub guard-smaller : word_at t (a.guard + 1) < word_at t (p + 1)
-  pub list-smaller : word_at t (a.list + 1) < word_at t (p + 1)
+  pub guard-sound : Sound t x guard
+  pub list-sound : Sound t x list
+  pub guard-smaller : word_at t (guard + 1) < word_at t (p + 1)
+  pub list-smaller : word_at t (list + 1) < word_at t (p + 1)
 
 module _ (t x : List ℕ) (p : ℕ) (at : ComprehensionAt t x p) {places : Places} (e : places ≡ places_at t p) where
-  pub place_is : places.at ≡ p
-  place_is = ap (λ (c : Places). c.at) e
-
   pub condition-sound : Sound t x places.condition
   condition-sound = rw e at.condition
 
@@ -151,13 +153,24 @@ module _ (t x : List ℕ) (p : ℕ) (at : ComprehensionAt t x p) {places : Place
   operands-smaller = rw e (omega (arith, at.extents))
 
   module _ (start : Value) (path : Path) (path-is : (limit : ℕ) → path_seen t x limit path ≡ path_of t x limit places start) (inside : PathIn t x places.step path) where
-    pub appends-run : {a : Appending} → path ≡ Path.By a → Run t x places.at places.condition a
-    appends-run f =
+    pub plain-run : {list : ℕ} → path ≡ Path.Plain list → Run t x p places.condition list list
+    plain-run f =
+        let i = subst (λ f. PathIn t x places.step f) f inside in
+        record {
+          literal = literal-condition t x 0 places start condition-sound (sym (path-is 0) ∙ ap (λ f. path_seen t x 0 f) f);
+          guard-sound = i.0;
+          list-sound = i.0;
+          guard-smaller = omega (arith, i.1, operands-smaller);
+          list-smaller = omega (arith, i.1, operands-smaller);
+        }
+
+    pub guarded-run : {guard list : ℕ} → path ≡ Path.Guarded guard list → Run t x p places.condition guard list
+    guarded-run f =
         let i = subst (λ f. PathIn t x places.step f) f inside in
         record {
           literal = literal-condition t x 0 places start condition-sound (sym (path-is 0) ∙ ap (λ f. path_seen t x 0 f) f);
           guard-sound = i.0;
           list-sound = i.1;
-          guard-smaller = rw place_is (omega (arith, i.2, operands-smaller));
-          list-smaller = rw place_is (omega (arith, i.3, operands-smaller));
+          guard-smaller = omega (arith, i.2, operands-smaller);
+          list-smaller = omega (arith, i.2, operands-smaller);
         }

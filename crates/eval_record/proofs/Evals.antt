@@ -8,7 +8,7 @@ use Rattle.rooms.specs.declared.scope.Scope.{Scope}
 use Rattle.rooms.specs.Rooms.{Rooms}
 use Rattle.rooms.specs.Scope.{slot_of}
 use Rattle.rooms.proofs.Scopes.{read-slot}
-use Rattle.table_layout.specs.Layout.{word_at, fields_at, count_head}
+use Rattle.table_layout.specs.Layout.{word_at}
 use Rattle.table_check.specs.Records.{expr_of, Sound, pairs_of}
 use Rattle.machine.specs.declared.outcome.Used.{Used}
 use Rattle.machine.specs.declared.outcome.Limit.TheVariants as Limit
@@ -43,16 +43,16 @@ module _ (t x : List ℕ) (limit p : ℕ) (sound : Sound t x p) (s : Scope) (u :
   pub none_is : {f : Shape} → f ≡ shape_of (expr_of t x p) → f ≡ Shape.None → Is (Outcome.Value Value.OptionalNone u) r this
   none_is e f = sym (none-body t limit s u r (expr_of t x p) (sym e ∙ f))
 
-  module _ (k : get_or t p 0 ≡ 13) {n : ℕ} (count : n ≡ word_at t (p + fields_at)) {b : Begun} {cells : List ℕ} (begun : BegunIn b cells (begun_of n (2 * n) u r.cells)) where
-    map-does : taking (2 * n) u r (λ w o. entries t limit p (pairs_of t x n (p + count_head)) s u.cells 0 0 w o) ≡ this
+  module _ (k : get_or t p 0 ≡ 13) {n : ℕ} (count : n ≡ word_at t (p + 3)) {b : Begun} {cells : List ℕ} (begun : BegunIn b cells (begun_of n (2 * n) u r.cells)) where
+    map-does : taking (2 * n) u r (λ w o. entries t limit p (pairs_of t x n (p + 5)) s u.cells 0 0 w o) ≡ this
     map-does = rw count (sym ((map_at t x p sound k).does limit s u r))
 
     pub map-full : b ≡ Begun.Full → {o : Outcome} → o ≡ Outcome.Exhausted Limit.Cells u → Is o (with_words r cells) this
-    map-full e f = rw f (begun-full n (2 * n) u r begun e (λ w o. entries t limit p (pairs_of t x n (p + count_head)) s u.cells 0 0 w o) ∙ map-does)
+    map-full e f = rw f (begun-full n (2 * n) u r begun e (λ w o. entries t limit p (pairs_of t x n (p + 5)) s u.cells 0 0 w o) ∙ map-does)
 
     pub map_is : {first m : ℕ} {w : Used} → b ≡ Begun.At first m w → {o : Outcome} {z : Rooms} →
-        Is o z (entries t limit p (pairs_of t x m (p + count_head)) s first 0 0 w (with_words r cells)) → Is o z this
+        Is o z (entries t limit p (pairs_of t x m (p + 5)) s first 0 0 w (with_words r cells)) → Is o z this
     map_is {first} {m} {w} e f =
         let q = begun-places n (2 * n) u r begun e in
         let g = rw (q.0, q.1) at f in
-        g ∙ (begun-at n (2 * n) u r begun e (λ w o. entries t limit p (pairs_of t x n (p + count_head)) s u.cells 0 0 w o) ∙ map-does)
+        g ∙ (begun-at n (2 * n) u r begun e (λ w o. entries t limit p (pairs_of t x n (p + 5)) s u.cells 0 0 w o) ∙ map-does)

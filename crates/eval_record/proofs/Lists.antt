@@ -7,7 +7,7 @@ use lib.ListN.{length, get_or}
 use Rattle.rooms.specs.declared.scope.Scope.{Scope}
 use Rattle.rooms.specs.Rooms.{rooms}
 use Rattle.meaning.specs.Kinds.{list_kind}
-use Rattle.table_layout.specs.Layout.{head_bytes, word_at, fields_at, count_head}
+use Rattle.table_layout.specs.Layout.{head_bytes, word_at}
 use Rattle.table_check.specs.Records.{Sound}
 use Rattle.table_check.proofs.Opened.{opened}
 use Rattle.machine.specs.declared.outcome.Used.{Used}
@@ -22,9 +22,9 @@ pub record ListLoop (t x b y cells₀ text₀ : List ℕ) (limit p base count : 
   pub keptx : length text ≡ length text₀
   pub room : g.count + left ≤ count
   pub same : from_element t x limit base c left place g u (rooms x b y cells text) ≡
-      from_element t x limit base c count (p + count_head) (record { count = 0; deep = 0 }) u₀ (rooms x b y cells₀ text₀)
+      from_element t x limit base c count (p + 5) (record { count = 0; deep = 0 }) u₀ (rooms x b y cells₀ text₀)
 
-pub list-begins : (t x b y cells text : List ℕ) (limit p base count : ℕ) (c : Scope) (u : Used) → Sound t x p → get_or t p 0 ≡ 12 → count ≡ word_at t (p + fields_at) →
+pub list-begins : (t x b y cells text : List ℕ) (limit p base count : ℕ) (c : Scope) (u : Used) → Sound t x p → get_or t p 0 ≡ 12 → count ≡ word_at t (p + 3) →
     {q : ℕ} → q ≡ p + head_bytes (get_or t p 0) → ListLoop t x b y cells text limit p base count c u cells text q count u (record { count = 0; deep = 0 })
 list-begins t x b y cells text limit p base count c u s k n e =
     let first = e ∙ (opened t x p list_kind k s).first in

@@ -15,8 +15,8 @@ use Rattle.rooms_comparison.specs.declared.lookup.Found.{Found}
 use Rattle.rooms_comparison.specs.declared.lookup.Found.TheVariants as Found
 use Rattle.rooms_comparison.specs.LookUp.{find_in}
 use Rattle.meaning.specs.Kinds.{map_kind}
-use Rattle.table_layout.specs.Layout.{head_bytes, word_at, after, fields_at, count_head}
-use Rattle.table_check.specs.Records.{Sound, SoundPart, expr_of, pairs_of, mark_byte}
+use Rattle.table_layout.specs.Layout.{head_bytes, word_at, after}
+use Rattle.table_check.specs.Records.{Sound, SoundPart, expr_of, pairs_of}
 use Rattle.table_check.proofs.Opened.{opened}
 use Rattle.machine.specs.declared.outcome.Used.{Used}
 use Rattle.machine.specs.declared.outcome.Outcome.{Outcome}
@@ -78,7 +78,7 @@ module _ (t x : List ℕ) (limit p base : ℕ) (c : Scope) where
     abbrev onward : Value → Used → Rooms → Res
     onward key w z =
         with_value (value_does w z).0 (value_does w z).1
-        (λ v w' z'. add_entry limit p base g.count g.deep key (part_in z' (eqb (get_or t (after t q) 0) mark_byte) v) w' z' (λ m d w o. rest m d w o))
+        (λ v w' z'. add_entry limit p base g.count g.deep key (part_in z' (eqb (get_or t (after t q) 0) 14) v) w' z' (λ m d w o. rest m d w o))
 
     this-entry : {o : Outcome} {z : Rooms} → Is o z key_does → from_entry n q g u r ≡ on_key (keyed_of p o) z onward
     this-entry {o} {z} e =
@@ -96,13 +96,13 @@ module _ (t x : List ℕ) (limit p base : ℕ) (c : Scope) where
       pub value-stops : Stops o' → Is o' z' (from_entry n q g u r)
       value-stops s = stops-there (value_does w z) second s _ ∙ sym this_key
 
-      module _ {v : Value} {w' : Used} (value : o' ≡ Outcome.Value v w') {b : Bool} (mark : b ≡ eqb (get_or t (after t q) 0) mark_byte)
+      module _ {v : Value} {w' : Used} (value : o' ≡ Outcome.Value v w') {b : Bool} (mark : b ≡ eqb (get_or t (after t q) 0) 14)
           {y : Entry} {cells : List ℕ} (made : EntryIn y cells (entered_of limit p base g key (part_in z' b v) w' z')) where
         this-value : on_entry y (with_words z' cells) rest ≡ from_entry n q g u r
         this-value =
             let m = rw mark at made in
             sym (entered limit p base key w' z'.literal z'.binding_cells z'.binding_text z'.cells z'.text rest g
-            (part_in z' (eqb (get_or t (after t q) 0) mark_byte) v) m) ∙ (goes_on (value_does w z) second value _ ∙ sym this_key)
+            (part_in z' (eqb (get_or t (after t q) 0) 14) v) m) ∙ (goes_on (value_does w z) second value _ ∙ sym this_key)
 
         pub entry-ends : {e : Outcome} → y ≡ Entry.Ends e → Is e (with_words z' cells) (from_entry n q g u r)
         entry-ends is = ap (λ y. on_entry y (with_words z' cells) rest) (sym is) ∙ this-value
@@ -118,9 +118,9 @@ pub record MapLoop (t x b y cells₀ text₀ : List ℕ) (limit p base count : �
   pub keptx : length text ≡ length text₀
   pub room : g.count + left ≤ count
   pub same : from_entry t x limit p base c left place g u (rooms x b y cells text) ≡
-      from_entry t x limit p base c count (p + count_head) (record { count = 0; deep = 0 }) u₀ (rooms x b y cells₀ text₀)
+      from_entry t x limit p base c count (p + 5) (record { count = 0; deep = 0 }) u₀ (rooms x b y cells₀ text₀)
 
-pub map-begins : (t x b y cells text : List ℕ) (limit p base count : ℕ) (c : Scope) (u : Used) → Sound t x p → get_or t p 0 ≡ 13 → count ≡ word_at t (p + fields_at) →
+pub map-begins : (t x b y cells text : List ℕ) (limit p base count : ℕ) (c : Scope) (u : Used) → Sound t x p → get_or t p 0 ≡ 13 → count ≡ word_at t (p + 3) →
     {q : ℕ} → q ≡ p + head_bytes (get_or t p 0) → MapLoop t x b y cells text limit p base count c u cells text q count u (record { count = 0; deep = 0 })
 map-begins t x b y cells text limit p base count c u s k n e =
     let first = e ∙ (opened t x p map_kind k s).first in

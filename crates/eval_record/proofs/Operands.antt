@@ -16,23 +16,18 @@ use Rattle.machine.specs.declared.outcome.Used.{Used}
 use Rattle.machine.specs.declared.outcome.Outcome.{Outcome}
 use Rattle.machine.specs.Machine.{machine}
 use Rattle.eval_shapes.specs.Leaves.{leaf_kinds, slot_in, leaf_step}
-use Rattle.eval_shallow.specs.declared.slots.Contents.{Contents}
 use Rattle.eval_shallow.specs.declared.slots.Quad.{Quad}
 use Rattle.eval_shallow.specs.declared.slots.Quad.TheVariants as Quad
 use Rattle.eval_shallow.specs.Slots.{IsQuad, QuadBelow, QuadHolds}
 use Rattle.eval_shallow.proofs.Stops.{Is}
 use Rattle.eval_shallow.proofs.SlotLaws as Slots
 
--- what reading a slot beyond the last gives
+-- as the code reads a slot that there is not
 abbrev pub beyond : Slot
 beyond = record { value = Value.Null }
 
 abbrev pub read_in : Scope → ℕ → Value
 read_in c n = (get_or c.slots n beyond).value
-
-abbrev read_four : Scope → (i j k l : ℕ) → Contents
-read_four c i j k l =
-    record { first = get_or c.slots i beyond; second = get_or c.slots j beyond; third = get_or c.slots k beyond; fourth = get_or c.slots l beyond }
 
 -- what the operand at p came to, and the evaluation's memory after it
 pub record Came (t x b y : List ℕ) (limit p : ℕ) (c : Scope) (u : Used) (cells₀ text₀ : List ℕ) (o : Outcome) (cells text : List ℕ) : Type 0 where
@@ -55,7 +50,7 @@ module _ {m q : Quad} (e : (m ≡ q) × QuadBelow m) {i j k l : ℕ} (is : m ≡
   pub slots-below : QuadBelow (Quad.Slots i j k l)
   slots-below = rw is at e.1
 
-  slots_read : (c : Scope) → length c.slots ≡ 128 → QuadHolds c q (read_four c i j k l)
+  slots_read : (c : Scope) → length c.slots ≡ 128 → QuadHolds c q (read_in c i) (read_in c j) (read_in c k) (read_in c l)
   slots_read c long =
       let b = slots-below in
       rw (sym e.0 ∙ is) (
@@ -83,6 +78,6 @@ module _ (t x b y : List ℕ) (limit p : ℕ) (c : Scope) (u : Used) (cells₀ t
 
   -- it was evaluated with its slots
   pub came-slots : length c.slots ≡ 128 → {m q : Quad} → (m ≡ q) × QuadBelow m → {h i j k : ℕ} → m ≡ Quad.Slots h i j k → {o₁ : Outcome} {cells₁ text₁ : List ℕ} →
-      ((s : Scope) → QuadHolds s q (read_four c h i j k) → Is o₁ (rooms x b y cells₁ text₁) (machine t limit (expr_of t x p) s u (rooms x b y cells₀ text₀))) →
+      ((s : Scope) → QuadHolds s q (read_in c h) (read_in c i) (read_in c j) (read_in c k) → Is o₁ (rooms x b y cells₁ text₁) (machine t limit (expr_of t x p) s u (rooms x b y cells₀ text₀))) →
       length cells₁ ≡ length cells₀ → length text₁ ≡ length text₀ → cells ≡ cells₁ → text ≡ text₁ → o ≡ o₁ → Came t x b y limit p c u cells₀ text₀ o cells text
   came-slots long e is does f g i j k = came-record (does c (slots_read e is c long)) f g i j k

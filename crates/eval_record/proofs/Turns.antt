@@ -7,7 +7,7 @@ use mathlib.Core.Option.{Option, none}
 use native.Mathlib.Numerals.{sub-one}
 use native.Mathlib.Omega.{arith}
 use lib.ListN.{length, get_or}
-use Rattle.table_layout.specs.Layout.{word_at, fields_at}
+use Rattle.table_layout.specs.Layout.{word_at}
 use Rattle.table_layout.proofs.KindLaws.{head-table}
 use Rattle.table_check.specs.Records.{Sound}
 use Rattle.table_check.proofs.AcceptedRecordLaws.{sound-here}
@@ -28,7 +28,6 @@ use Rattle.eval_logic.specs.declared.conditions.Asked.{Asked}
 use Rattle.eval_logic.specs.declared.conditions.Asked.TheVariants as Asked
 use Rattle.eval_logic.specs.Conditions.{asked_of, on_asked}
 use Rattle.eval_logic.proofs.ConditionLaws.{asked-as}
-use Rattle.eval_comprehension.specs.declared.ranges.Items.{Items}
 use Rattle.eval_comprehension.specs.declared.steps.Pending.{Pending}
 use Rattle.eval_comprehension.specs.declared.steps.Pending.TheVariants as Pending
 use Rattle.eval_comprehension.specs.declared.steps.Step.{Step}
@@ -129,41 +128,41 @@ module _ (c : Loop) (space : CellSpace) (stride : ℕ) where
         step-binds way = ap (λ k. on_step k z' binds holds) (sym way) ∙ this-step
 
 -- the loop over them: `left` items are left, the next of them in cell `cell`
-pub record TurnsLoop (t x b y cells₀ text₀ : List ℕ) (limit : ℕ) (items : Items) (places : Places) (s₀ : Scope) (u₀ : Used)
+pub record TurnsLoop (t x b y cells₀ text₀ : List ℕ) (limit p : ℕ) (space : CellSpace) (first count stride : ℕ) (places : Places) (s₀ : Scope) (u₀ : Used)
     (cells text : List ℕ) (s : Scope) (held : Pending) (u : Used) (cell left : ℕ) : Type 0 where
   pub kept : length cells ≡ length cells₀
   pub keptx : length text ≡ length text₀
   pub long : length s.slots ≡ 128
   -- the place of an item is a number of the code
   pub below : cell + left * 65536 ≤ 65536 * 65536
-  pub same : from_turn (loop_at t x limit places) items.space items.stride left cell held s u (rooms x b y cells text) ≡
-      from_turn (loop_at t x limit places) items.space items.stride items.count items.first Pending.Nothing s₀ u₀ (rooms x b y cells₀ text₀)
+  pub same : from_turn (loop_at t x limit p places) space stride left cell held s u (rooms x b y cells text) ≡
+      from_turn (loop_at t x limit p places) space stride count first Pending.Nothing s₀ u₀ (rooms x b y cells₀ text₀)
 
 -- a record has an extent
-pub extent-least : (t x : List ℕ) (q : ℕ) → Sound t x q → fields_at ≤ word_at t (q + 1)
+pub extent-least : (t x : List ℕ) (q : ℕ) → Sound t x q → 3 ≤ word_at t (q + 1)
 extent-least t x q s = let h = sound-here t x q s in let f = head-table (get_or t q 0) h.known in omega (arith, f.0, f.1, h.least)
 
-module _ (t x b y cells₀ text₀ : List ℕ) (limit : ℕ) (items : Items) (places : Places) (s₀ : Scope) (u₀ : Used) where
-  pub turns-begin : length s₀.slots ≡ 128 → items.first < 65536 → items.count < 65536 →
-      TurnsLoop t x b y cells₀ text₀ limit items places s₀ u₀ cells₀ text₀ s₀ Pending.Nothing u₀ items.first items.count
+module _ (t x b y cells₀ text₀ : List ℕ) (limit p : ℕ) (space : CellSpace) (first count stride : ℕ) (places : Places) (s₀ : Scope) (u₀ : Used) where
+  pub turns-begin : length s₀.slots ≡ 128 → first < 65536 → count < 65536 →
+      TurnsLoop t x b y cells₀ text₀ limit p space first count stride places s₀ u₀ cells₀ text₀ s₀ Pending.Nothing u₀ first count
   turns-begin e f g = record { kept = refl; keptx = refl; long = e; below = omega (arith, f, g); same = refl }
 
   -- after a turn that goes on
   pub turns-again : {cells text : List ℕ} {s : Scope} {held : Pending} {u : Used} {cell left : ℕ} →
-      TurnsLoop t x b y cells₀ text₀ limit items places s₀ u₀ cells text s held u cell left → 0 < left → items.stride < 65536 →
+      TurnsLoop t x b y cells₀ text₀ limit p space first count stride places s₀ u₀ cells text s held u cell left → 0 < left → stride < 65536 →
       {cells₁ text₁ : List ℕ} {s₁ : Scope} {held₁ : Pending} {u₁ : Used} → length cells₁ ≡ length cells → length text₁ ≡ length text →
       length s₁.slots ≡ length s.slots →
-      from_turn (loop_at t x limit places) items.space items.stride (left - 1) (cell + items.stride) held₁ s₁ u₁ (rooms x b y cells₁ text₁) ≡
-      from_turn (loop_at t x limit places) items.space items.stride left cell held s u (rooms x b y cells text) →
-      TurnsLoop t x b y cells₀ text₀ limit items places s₀ u₀ cells₁ text₁ s₁ held₁ u₁ (cell + items.stride) (left - 1)
+      from_turn (loop_at t x limit p places) space stride (left - 1) (cell + stride) held₁ s₁ u₁ (rooms x b y cells₁ text₁) ≡
+      from_turn (loop_at t x limit p places) space stride left cell held s u (rooms x b y cells text) →
+      TurnsLoop t x b y cells₀ text₀ limit p space first count stride places s₀ u₀ cells₁ text₁ s₁ held₁ u₁ (cell + stride) (left - 1)
   turns-again v h w i j k e =
       record { kept = i ∙ v.kept; keptx = j ∙ v.keptx; long = k ∙ v.long; below = omega (arith, v.below, h, w); same = e ∙ v.same }
 
   -- after a condition that fails
   pub turns-over : {cells text : List ℕ} {s : Scope} {held : Pending} {u : Used} {cell left : ℕ} →
-      TurnsLoop t x b y cells₀ text₀ limit items places s₀ u₀ cells text s held u cell left →
+      TurnsLoop t x b y cells₀ text₀ limit p space first count stride places s₀ u₀ cells text s held u cell left →
       {cells₁ text₁ : List ℕ} {u₁ : Used} → length cells₁ ≡ length cells → length text₁ ≡ length text →
-      from_turn (loop_at t x limit places) items.space items.stride 0 cell held s u₁ (rooms x b y cells₁ text₁) ≡
-      from_turn (loop_at t x limit places) items.space items.stride left cell held s u (rooms x b y cells text) →
-      TurnsLoop t x b y cells₀ text₀ limit items places s₀ u₀ cells₁ text₁ s held u₁ cell 0
+      from_turn (loop_at t x limit p places) space stride 0 cell held s u₁ (rooms x b y cells₁ text₁) ≡
+      from_turn (loop_at t x limit p places) space stride left cell held s u (rooms x b y cells text) →
+      TurnsLoop t x b y cells₀ text₀ limit p space first count stride places s₀ u₀ cells₁ text₁ s held u₁ cell 0
   turns-over v i j e = record { kept = i ∙ v.kept; keptx = j ∙ v.keptx; long = v.long; below = omega (arith, v.below); same = e ∙ v.same }

@@ -6,25 +6,25 @@ ghost use Rattle.rooms.specs.Rooms.{rooms};
 ghost use Rattle.table_layout.specs.Layout.{word_at};
 ghost use Rattle.table_check.specs.Records.{Sound, kind_byte};
 ghost use Rattle.machine.specs.Comprehension.{append_turns, nothing_gathered};
+ghost use Rattle.eval_outcomes.specs.Gives.{Gives};
 ghost use Rattle.eval_shapes.specs.Comprehensions.{loop_at, append_at};
-ghost use Rattle.eval_outcomes.specs.Does.{Does};
 
 use crate::eval::eval;
 use eval_comprehension::append_result::{Collected, MOST_RUNS, add_run, collected_list};
 use eval_comprehension::append_turn::{Gather, gather_items};
-use eval_comprehension::ranges::Items;
 use eval_logic::conditions::{Asked, asks};
 use eval_shallow::shallow::{reach, reach_at};
 use eval_shallow::single_lists::{single, single_at};
-use eval_shallow::slots::{Contents, Quad};
-use eval_shapes::comprehensions::{Appending, Places};
+use eval_shallow::slots::Quad;
+use eval_shapes::comprehensions::Places;
 use eval_shapes::leaves::leaf;
 use machine::outcome::{Outcome, Used};
 use rooms::scope::{Scope, Slot};
-use rooms::value::Value;
+use rooms::value::{CellSpace, Value};
 use rooms_cells::cell_at;
 
-// The append path: the accumulator is not stored, and the step and the result are not begun. The condition is a literal.
+// The append path: the accumulator is not stored, and the step and the result are not begun. The condition is a literal. Without a guard, `guard` is
+// the place of the items list, and nothing is asked of it in a turn.
 #[cycle(appends_comprehend_finish_turns_eval_list_parts_map_parts)]
 pub fn appends(
     table: &[u8],
@@ -34,26 +34,25 @@ pub fn appends(
     cells: &mut [u64],
     text: &mut [u8],
     limit: usize,
+    at: usize,
     scope: Scope,
     used: Used,
     places: Places,
-    appending: Appending,
-    items: Items,
+    guarded: bool,
+    guard: usize,
+    list: usize,
+    space: CellSpace,
+    first: u16,
+    count: u16,
+    each: u16,
 ) -> Outcome
-    requires { Sound table.now literal.now places.condition × (get_or table.now places.condition 0 < kind_byte name_kind)
-        × Sound table.now literal.now appending.guard × Sound table.now literal.now appending.list
-        × (word_at table.now (appending.guard + 1) < word_at table.now (places.at + 1))
-        × (word_at table.now (appending.list + 1) < word_at table.now (places.at + 1)) × (places.item < names) }
-    ensures { Does result literal binding_cells binding_text cells text
-        (append_turns (loop_at table.now literal.now limit places)
-        (append_at table.now literal.now limit appending) items.space items.stride items.count items.first
-        nothing_gathered scope used) }
+    requires { Sound table.now literal.now places.condition × (get_or table.now places.condition 0 < kind_byte name_kind) × Sound table.now literal.now guard × Sound table.now literal.now list × (word_at table.now (guard + 1) < word_at table.now (at + 1)) × (word_at table.now (list + 1) < word_at table.now (at + 1)) × (places.item < names) }
+    ensures { Gives result literal.now binding_cells.now binding_text.now cells.new text.new (append_turns (loop_at table.now literal.now limit at places) (append_at table.now literal.now limit guarded guard list) space each count first nothing_gathered scope used (rooms literal.now binding_cells.now binding_text.now cells.old text.old)) }
 {
     let item = places.item;
-    let space = items.space;
-    let guarded = appending.guarded;
-    let guard_slots = reach_at(table, literal, appending.guard);
-    let list_slots = single_at(table, literal, appending.list);
+    let condition = places.condition;
+    let guard_slots = reach_at(table, literal, guard);
+    let list_slots = single_at(table, literal, list);
     let mut firsts = [0u16; MOST_RUNS];
     let mut counts = [0u16; MOST_RUNS];
     let mut inner = scope;
@@ -63,20 +62,20 @@ pub fn appends(
         nesting: 1,
     };
     let mut spent = used;
-    let mut cell = items.first as usize;
-    let mut left = items.count as usize;
+    let mut cell = first as usize;
+    let mut left = count as usize;
     while 0 < left {
         let test = leaf(
             table,
             literal,
             limit,
-            places.condition,
+            condition,
             Slot {
                 value: Value::Absent,
             },
             spent,
         );
-        match asks(test, places.at) {
+        match asks(test, at) {
             Asked::Ends(outcome) => {
                 return outcome;
             }
@@ -89,10 +88,10 @@ pub fn appends(
                 inner.slots[item] = Slot {
                     value: cell_at(binding_cells, cells, space, cell),
                 };
-                cell += items.stride as usize;
+                cell += each as usize;
                 left -= 1;
                 let passes = if guarded {
-                    // the loop matches on a copy: its invariant must speak of every variable that it matches on
+                    // a copy is taken apart: what a loop takes apart is one of the things that its invariant speaks of
                     let reads = guard_slots;
                     let test = match reads {
                         Quad::Slots(first_slot, second_slot, third_slot, fourth_slot) => reach(
@@ -103,13 +102,11 @@ pub fn appends(
                             cells,
                             text,
                             limit,
-                            appending.guard,
-                            Contents {
-                                first: inner.slots[first_slot],
-                                second: inner.slots[second_slot],
-                                third: inner.slots[third_slot],
-                                fourth: inner.slots[fourth_slot],
-                            },
+                            guard,
+                            inner.slots[first_slot],
+                            inner.slots[second_slot],
+                            inner.slots[third_slot],
+                            inner.slots[fourth_slot],
                             more,
                         ),
                         Quad::No => eval(
@@ -120,12 +117,12 @@ pub fn appends(
                             cells,
                             text,
                             limit,
-                            appending.guard,
+                            guard,
                             inner,
                             more,
                         ),
                     };
-                    asks(test, places.at)
+                    asks(test, at)
                 } else {
                     Asked::Holds(more)
                 };
@@ -138,7 +135,7 @@ pub fn appends(
                     }
                     Asked::Holds(after) => {
                         let reads = list_slots;
-                        let elements = match reads {
+                        let items = match reads {
                             Quad::Slots(first_slot, second_slot, third_slot, fourth_slot) => single(
                                 table,
                                 literal,
@@ -147,13 +144,11 @@ pub fn appends(
                                 cells,
                                 text,
                                 limit,
-                                appending.list,
-                                Contents {
-                                    first: inner.slots[first_slot],
-                                    second: inner.slots[second_slot],
-                                    third: inner.slots[third_slot],
-                                    fourth: inner.slots[fourth_slot],
-                                },
+                                list,
+                                inner.slots[first_slot],
+                                inner.slots[second_slot],
+                                inner.slots[third_slot],
+                                inner.slots[fourth_slot],
                                 after,
                             ),
                             Quad::No => eval(
@@ -164,12 +159,12 @@ pub fn appends(
                                 cells,
                                 text,
                                 limit,
-                                appending.list,
+                                list,
                                 inner,
                                 after,
                             ),
                         };
-                        match gather_items(binding_cells, cells, elements) {
+                        match gather_items(binding_cells, cells, items) {
                             Gather::Ends(outcome) => {
                                 return outcome;
                             }

@@ -8,22 +8,22 @@ ghost use Rattle.rooms.specs.Scope.{stored};
 ghost use Rattle.table_check.specs.Records.{Sound, expr_of, kind_byte};
 ghost use Rattle.machine.specs.Comprehension.{finish, turns};
 ghost use Rattle.machine.specs.Machine.{body, machine};
+ghost use Rattle.eval_outcomes.specs.Gives.{Gives};
 ghost use Rattle.eval_comprehension.specs.Steps.{pending_seen};
 ghost use Rattle.eval_shapes.specs.Comprehensions.{loop_at};
-ghost use Rattle.eval_outcomes.specs.Does.{Does};
 
 use crate::appending::appends;
 use crate::eval::eval;
-use eval_comprehension::ranges::{Items, Range, range_of};
+use eval_comprehension::ranges::{Range, range_of};
 use eval_comprehension::steps::{Pending, Step, step_of};
 use eval_logic::conditions::{Asked, asks};
 use eval_shallow::shallow::{reach, reach_at};
-use eval_shallow::slots::{Contents, Quad};
+use eval_shallow::slots::Quad;
 use eval_shapes::comprehensions::{Path, Places, append_path, folds_at, places_at};
 use eval_shapes::leaves::{is_leaf, leaf, slot_at};
 use machine::outcome::{Error, Outcome, Used};
 use rooms::scope::{Scope, Slot};
-use rooms::value::Value;
+use rooms::value::{CellSpace, Value};
 use rooms_cells::cell_at;
 use table_layout::outline::{end_at, first_operand};
 
@@ -42,8 +42,7 @@ pub fn comprehend(
     used: Used,
 ) -> Outcome
     requires { Sound table.now literal.now at × (get_or table.now at 0 ≡ kind_byte comprehension_kind) }
-    ensures { Does result literal binding_cells binding_text cells text
-        (body table.now limit (expr_of table.now literal.now at) scope used) }
+    ensures { Gives result literal.now binding_cells.now binding_text.now cells.new text.new (body table.now limit (expr_of table.now literal.now at) scope used (rooms literal.now binding_cells.now binding_text.now cells.old text.old)) }
 {
     let over = first_operand(table, at);
     let init = end_at(table, over);
@@ -77,7 +76,7 @@ pub fn comprehend(
     let Outcome::Value(range, spent) = two else {
         return two;
     };
-    let Range::Over(items) = range_of(range) else {
+    let Range::Over(space, first, count, each) = range_of(range) else {
         return Outcome::Error(Error::IterableWanted, at, spent);
     };
     let places = places_at(table, literal, at, init);
@@ -90,13 +89,17 @@ pub fn comprehend(
             cells,
             text,
             limit,
+            at,
             scope,
             spent,
             places,
             start,
-            items,
+            space,
+            first,
+            count,
+            each,
         ),
-        Path::By(appending) => appends(
+        Path::Plain(list) => appends(
             table,
             literal,
             binding_cells,
@@ -104,16 +107,42 @@ pub fn comprehend(
             cells,
             text,
             limit,
+            at,
             scope,
             spent,
             places,
-            appending,
-            items,
+            false,
+            list,
+            list,
+            space,
+            first,
+            count,
+            each,
+        ),
+        Path::Guarded(guard, list) => appends(
+            table,
+            literal,
+            binding_cells,
+            binding_text,
+            cells,
+            text,
+            limit,
+            at,
+            scope,
+            spent,
+            places,
+            true,
+            guard,
+            list,
+            space,
+            first,
+            count,
+            each,
         ),
     }
 }
 
-// The comprehension loop.
+// The comprehension loop: the items are `count` cells from `first` on, `each` apart.
 #[cycle(appends_comprehend_finish_turns_eval_list_parts_map_parts)]
 pub fn turns(
     table: &[u8],
@@ -123,32 +152,35 @@ pub fn turns(
     cells: &mut [u64],
     text: &mut [u8],
     limit: usize,
+    at: usize,
     scope: Scope,
     used: Used,
     places: Places,
     start: Value,
-    items: Items,
+    space: CellSpace,
+    first: u16,
+    count: u16,
+    each: u16,
 ) -> Outcome
-    requires { Sound table.now literal.now places.condition × Sound table.now literal.now places.step
-        × Sound table.now literal.now places.result × (places.accumulator < names) × (places.item < names) }
-    ensures { Does result literal binding_cells binding_text cells text
-        (turns (loop_at table.now literal.now limit places) items.space items.stride items.count items.first none
-        (stored scope places.accumulator start) used) }
+    requires { Sound table.now literal.now places.condition × Sound table.now literal.now places.step × Sound table.now literal.now places.result × (places.accumulator < names) × (places.item < names) }
+    ensures { Gives result literal.now binding_cells.now binding_text.now cells.new text.new (turns (loop_at table.now literal.now limit at places) space each count first none (stored scope places.accumulator start) used (rooms literal.now binding_cells.now binding_text.now cells.old text.old)) }
 {
     let accumulator = places.accumulator;
     let item = places.item;
-    let space = items.space;
-    let folds = folds_at(table, literal, places.step, accumulator);
-    let condition_slots = reach_at(table, literal, places.condition);
-    let step_slots = reach_at(table, literal, places.step);
+    let condition = places.condition;
+    let step = places.step;
+    let result = places.result;
+    let folds = folds_at(table, literal, step, accumulator);
+    let condition_slots = reach_at(table, literal, condition);
+    let step_slots = reach_at(table, literal, step);
     let mut inner = scope;
     inner.slots[accumulator] = Slot { value: start };
     let mut held = Pending::Nothing;
     let mut spent = used;
-    let mut cell = items.first as usize;
-    let mut left = items.count as usize;
+    let mut cell = first as usize;
+    let mut left = count as usize;
     while 0 < left {
-        // the loop matches on a copy: its invariant must speak of every variable that it matches on
+        // a copy is taken apart: what a loop takes apart is one of the things that its invariant speaks of
         let reads = condition_slots;
         let test = match reads {
             Quad::Slots(first_slot, second_slot, third_slot, fourth_slot) => reach(
@@ -159,13 +191,11 @@ pub fn turns(
                 cells,
                 text,
                 limit,
-                places.condition,
-                Contents {
-                    first: inner.slots[first_slot],
-                    second: inner.slots[second_slot],
-                    third: inner.slots[third_slot],
-                    fourth: inner.slots[fourth_slot],
-                },
+                condition,
+                inner.slots[first_slot],
+                inner.slots[second_slot],
+                inner.slots[third_slot],
+                inner.slots[fourth_slot],
                 spent,
             ),
             Quad::No => eval(
@@ -176,13 +206,13 @@ pub fn turns(
                 cells,
                 text,
                 limit,
-                places.condition,
+                condition,
                 inner,
                 spent,
             ),
         };
 
-        match asks(test, places.at) {
+        match asks(test, at) {
             Asked::Ends(outcome) => {
                 return outcome;
             }
@@ -205,13 +235,11 @@ pub fn turns(
                         cells,
                         text,
                         limit,
-                        places.step,
-                        Contents {
-                            first: inner.slots[first_slot],
-                            second: inner.slots[second_slot],
-                            third: inner.slots[third_slot],
-                            fourth: inner.slots[fourth_slot],
-                        },
+                        step,
+                        inner.slots[first_slot],
+                        inner.slots[second_slot],
+                        inner.slots[third_slot],
+                        inner.slots[fourth_slot],
                         more,
                     ),
                     Quad::No => eval(
@@ -222,12 +250,12 @@ pub fn turns(
                         cells,
                         text,
                         limit,
-                        places.step,
+                        step,
                         inner,
                         more,
                     ),
                 };
-                cell += items.stride as usize;
+                cell += each as usize;
                 left -= 1;
                 match step_of(folds, held, gives) {
                     Step::Ends(outcome) => {
@@ -254,7 +282,7 @@ pub fn turns(
         cells,
         text,
         limit,
-        places.result,
+        result,
         inner,
         spent,
         held,
@@ -277,8 +305,7 @@ pub fn finish(
     held: Pending,
 ) -> Outcome
     requires { Sound table.now literal.now res }
-    ensures { Does result literal binding_cells binding_text cells text
-        (finish (machine table.now limit (expr_of table.now literal.now res)) (pending_seen held) scope used) }
+    ensures { Gives result literal.now binding_cells.now binding_text.now cells.new text.new (finish (machine table.now limit (expr_of table.now literal.now res)) (pending_seen held) scope used (rooms literal.now binding_cells.now binding_text.now cells.old text.old)) }
 {
     match held {
         Pending::Held(error, place) => Outcome::Error(error, place, used),

@@ -1,9 +1,9 @@
-// The record evaluator. It calls the functions for lists, maps and comprehensions, and they call it. Each such call copies the scope, so the caller
-// evaluates literals, names and records near those itself, with their slots.
+// The record evaluator, which the lists, the maps and the comprehensions call and are called by. An operand that is a literal or a name, or near
+// those, is evaluated by the caller with its slots, since every call of these copies the scope.
 ghost use Rattle.rooms.specs.Rooms.{rooms};
 ghost use Rattle.table_check.specs.Records.{Sound, expr_of};
 ghost use Rattle.machine.specs.Machine.{machine};
-ghost use Rattle.eval_outcomes.specs.Does.{Does};
+ghost use Rattle.eval_outcomes.specs.Gives.{Gives};
 
 use crate::comprehension::comprehend;
 use crate::list_records::list_parts;
@@ -13,7 +13,7 @@ use eval_operands::after_first;
 use eval_operands::both_operands::after_both;
 use eval_outcomes::outcomes::{out_of_cells, out_of_steps, stepped};
 use eval_shallow::shallow::{reach, reach_at};
-use eval_shallow::slots::{Contents, Quad};
+use eval_shallow::slots::Quad;
 use eval_shapes::leaves::{leaf_value, slot_at};
 use eval_shapes::next::Next;
 use eval_shapes::{Shape, begun_first, shape_at};
@@ -22,7 +22,7 @@ use rooms::scope::Scope;
 use rooms::value::Value;
 use table_layout::fields::count_at;
 
-// The outcome of the record at a place: its step, then what its shape asks.
+// What the record at a place gives: its step, then by its shape.
 #[cycle(appends_comprehend_finish_turns_eval_list_parts_map_parts)]
 pub fn eval(
     table: &[u8],
@@ -37,8 +37,7 @@ pub fn eval(
     used: Used,
 ) -> Outcome
     requires { Sound table.now literal.now at }
-    ensures { Does result literal binding_cells binding_text cells text
-        (machine table.now limit (expr_of table.now literal.now at) scope used) }
+    ensures { Gives result literal.now binding_cells.now binding_text.now cells.new text.new (machine table.now limit (expr_of table.now literal.now at) scope used (rooms literal.now binding_cells.now binding_text.now cells.old text.old)) }
 {
     if limit <= used.steps {
         return out_of_steps(used);
@@ -118,12 +117,10 @@ pub fn eval(
                     text,
                     limit,
                     one,
-                    Contents {
-                        first: scope.slots[first_slot],
-                        second: scope.slots[second_slot],
-                        third: scope.slots[third_slot],
-                        fourth: scope.slots[fourth_slot],
-                    },
+                    scope.slots[first_slot],
+                    scope.slots[second_slot],
+                    scope.slots[third_slot],
+                    scope.slots[fourth_slot],
                     begun,
                 ),
                 Quad::No => eval(
@@ -164,12 +161,10 @@ pub fn eval(
                             text,
                             limit,
                             two,
-                            Contents {
-                                first: scope.slots[first_slot],
-                                second: scope.slots[second_slot],
-                                third: scope.slots[third_slot],
-                                fourth: scope.slots[fourth_slot],
-                            },
+                            scope.slots[first_slot],
+                            scope.slots[second_slot],
+                            scope.slots[third_slot],
+                            scope.slots[fourth_slot],
                             more,
                         ),
                         Quad::No => eval(

@@ -2,10 +2,10 @@
 ghost use Rattle.std.specs.Prelude.{◌≡◌, ◌+◌, get_or};
 ghost use Rattle.meaning.specs.Kinds.{list_kind};
 ghost use Rattle.rooms.specs.Rooms.{rooms};
-ghost use Rattle.table_layout.specs.Layout.{word_at, fields_at, count_head};
+ghost use Rattle.table_layout.specs.Layout.{word_at};
 ghost use Rattle.table_check.specs.Records.{Sound, elements_of, kind_byte};
 ghost use Rattle.machine.specs.Machine.{elements};
-ghost use Rattle.eval_outcomes.specs.Does.{Does};
+ghost use Rattle.eval_outcomes.specs.Gives.{Gives};
 
 use crate::eval::eval;
 use eval_containers::elements::add_element;
@@ -32,9 +32,8 @@ pub fn list_parts(
     first: u16,
     count: u16,
 ) -> Outcome
-    requires { Sound table.now literal.now at × (get_or table.now at 0 ≡ kind_byte list_kind) × (count ≡ word_at table.now (at + fields_at)) }
-    ensures { Does result literal binding_cells binding_text cells text
-        (elements table.now limit (elements_of table.now literal.now count (at + count_head)) scope first 0 0 used) }
+    requires { Sound table.now literal.now at × (get_or table.now at 0 ≡ kind_byte list_kind) × (count ≡ word_at table.now (at + 3)) }
+    ensures { Gives result literal.now binding_cells.now binding_text.now cells.new text.new (elements table.now limit (elements_of table.now literal.now count (at + 5)) scope first 0 0 used (rooms literal.now binding_cells.now binding_text.now cells.old text.old)) }
 {
     let mut place = first_operand(table, at);
     let mut left = count as usize;

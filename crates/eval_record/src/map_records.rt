@@ -2,14 +2,14 @@
 ghost use Rattle.std.specs.Prelude.{◌≡◌, ◌+◌, get_or};
 ghost use Rattle.meaning.specs.Kinds.{map_kind};
 ghost use Rattle.rooms.specs.Rooms.{rooms};
-ghost use Rattle.table_layout.specs.Layout.{word_at, fields_at, count_head};
+ghost use Rattle.table_layout.specs.Layout.{word_at};
 ghost use Rattle.table_check.specs.Records.{Sound, kind_byte, pairs_of};
 ghost use Rattle.machine.specs.Machine.{entries};
-ghost use Rattle.eval_outcomes.specs.Does.{Does};
+ghost use Rattle.eval_outcomes.specs.Gives.{Gives};
 
 use crate::eval::eval;
 use eval_containers::entries::add_entry;
-use eval_containers::{Added, Entry, Key, Ready, key_of, whole_map};
+use eval_containers::{Entry, Key, Ready, key_of, whole_map};
 use eval_shapes::leaves::{is_leaf, is_marked, leaf, slot_at, unmarked};
 use machine::outcome::{Outcome, Used};
 use rooms::scope::Scope;
@@ -32,9 +32,8 @@ pub fn map_parts(
     first: u16,
     count: u16,
 ) -> Outcome
-    requires { Sound table.now literal.now at × (get_or table.now at 0 ≡ kind_byte map_kind) × (count ≡ word_at table.now (at + fields_at)) }
-    ensures { Does result literal binding_cells binding_text cells text
-        (entries table.now limit at (pairs_of table.now literal.now count (at + count_head)) scope first 0 0 used) }
+    requires { Sound table.now literal.now at × (get_or table.now at 0 ≡ kind_byte map_kind) × (count ≡ word_at table.now (at + 3)) }
+    ensures { Gives result literal.now binding_cells.now binding_text.now cells.new text.new (entries table.now limit at (pairs_of table.now literal.now count (at + 5)) scope first 0 0 used (rooms literal.now binding_cells.now binding_text.now cells.old text.old)) }
 {
     let mut place = first_operand(table, at);
     let mut left = count as usize;
@@ -90,11 +89,6 @@ pub fn map_parts(
                 };
                 place = end_at(table, second);
                 left -= 1;
-                let added = Added {
-                    key,
-                    marked,
-                    value: v,
-                };
                 match add_entry(
                     literal,
                     binding_cells,
@@ -104,7 +98,9 @@ pub fn map_parts(
                     limit,
                     first,
                     ready,
-                    added,
+                    key,
+                    marked,
+                    v,
                     at,
                     more,
                 ) {

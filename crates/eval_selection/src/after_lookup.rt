@@ -1,18 +1,18 @@
-// What becomes of a look-up: a present Optional or none; whether something was found; or what was found.
-ghost use Rattle.std.specs.Prelude.{◌≡◌};
+// What becomes of a look-up: a present Optional or none, whether there is something, or what was found.
+ghost use Rattle.std.specs.Prelude.{◌≡◌, List, ℕ};
 ghost use Rattle.rooms.specs.Rooms.{rooms, Rooms};
 ghost use Rattle.machine.specs.Selection.{optionally, tells, perhaps, select_in_container, select_in_map};
+ghost use Rattle.eval_outcomes.specs.Gives.{Gives};
 ghost use Rattle.eval_selection.specs.Untouched.{InMap};
-ghost use Rattle.eval_outcomes.specs.Does.{DoesOnEvaluationCells};
 
 use eval_functions::optional_of::present;
 use eval_outcomes::outcomes::truth_out;
 use machine::outcome::Outcome;
 use rooms::value::Value;
 
-// A present Optional, or none for any error. Exhaustion stays exhaustion.
+// A present Optional, or none for any error; exhaustion stays what it is.
 pub fn optionally(cells: &mut [u64], found: Outcome) -> Outcome
-    ensures { DoesOnEvaluationCells result cells (optionally found) }
+    ensures { (l b t x : List ℕ) → Gives result l b t cells.new x (optionally found (rooms l b t cells.old x)) }
 {
     match found {
         Outcome::Value(v, used) => present(cells, v, used),
@@ -33,7 +33,7 @@ fn tells(found: Outcome) -> Outcome
 }
 
 pub fn perhaps(cells: &mut [u64], optional: bool, found: Outcome) -> Outcome
-    ensures { DoesOnEvaluationCells result cells (perhaps optional found) }
+    ensures { (l b t x : List ℕ) → Gives result l b t cells.new x (perhaps optional found (rooms l b t cells.old x)) }
 {
     if optional {
         optionally(cells, found)
@@ -43,7 +43,7 @@ pub fn perhaps(cells: &mut [u64], optional: bool, found: Outcome) -> Outcome
 }
 
 pub fn select_in_container(cells: &mut [u64], test: bool, found: Outcome) -> Outcome
-    ensures { DoesOnEvaluationCells result cells (select_in_container test found) }
+    ensures { (l b t x : List ℕ) → Gives result l b t cells.new x (select_in_container test found (rooms l b t cells.old x)) }
 {
     if test {
         tells(found)

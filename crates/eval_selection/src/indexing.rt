@@ -3,7 +3,7 @@ ghost use Rattle.std.specs.Prelude.{◌≡◌};
 ghost use Rattle.rooms.specs.Rooms.{rooms};
 ghost use Rattle.machine.specs.Views.{is_string};
 ghost use Rattle.machine.specs.Selection.{index, opt_select};
-ghost use Rattle.eval_outcomes.specs.Does.{Does};
+ghost use Rattle.eval_outcomes.specs.Gives.{Gives};
 
 use crate::after_lookup::{optionally, perhaps};
 use crate::lookups::look_up;
@@ -26,7 +26,7 @@ pub fn index(
     at: usize,
     used: Used,
 ) -> Outcome
-    ensures { Does result literal binding_cells binding_text cells text (index limit at optional container probe used) }
+    ensures { Gives result literal.now binding_cells.now binding_text.now cells.new text.now (index limit at optional container probe used (rooms literal.now binding_cells.now binding_text.now cells.old text.now)) }
 {
     match optional_of(container) {
         Optional::Not => {
@@ -91,7 +91,7 @@ pub fn optional_select(
     at: usize,
     used: Used,
 ) -> Outcome
-    ensures { Does result literal binding_cells binding_text cells text (opt_select limit at container field used) }
+    ensures { Gives result literal.now binding_cells.now binding_text.now cells.new text.now (opt_select limit at container field used (rooms literal.now binding_cells.now binding_text.now cells.old text.now)) }
 {
     if is_string(field) {
         index(

@@ -1,7 +1,7 @@
 // Look-ups in lists and maps: `e.field`, has(e.field), `e[i]`, `e[?i]` and `e.?field`.
 
 // What becomes of a look-up: an Optional, a test, or what was found.
-mod after_lookup;
+pub mod after_lookup;
 // `e[i]`, `e[?i]` and `e.?field`.
 pub mod indexing;
 // The look-up itself.

@@ -1,17 +1,15 @@
 // Look-ups in lists and maps.
-ghost use Rattle.std.specs.Prelude.{◌≡◌};
+ghost use Rattle.std.specs.Prelude.{◌≡◌, List, ℕ};
 ghost use Rattle.rooms.specs.Rooms.{rooms, cell_at};
 ghost use Rattle.rooms_text.specs.Sizes.{position_of};
 ghost use Rattle.machine.specs.Comparison.{on_found};
 ghost use Rattle.machine.specs.Selection.{element_out, look_up_in, look_up, index};
-ghost use Rattle.rooms.specs.Lent.{OnCells, rooms_at_entry};
 
 use eval_outcomes::outcomes::{no_overload, out_of_steps, with_steps};
 use machine::outcome::{Error, Outcome, Used};
 use rooms::value::{CellSpace, Parts, Value, is_key, parts_of};
 use rooms_cells::cell_at;
 use rooms_comparison::lookup::Found;
-use rooms_comparison::runs::Run;
 use rooms_text::sizes::Position;
 
 fn element(
@@ -24,7 +22,7 @@ fn element(
     at: usize,
     used: Used,
 ) -> Outcome
-    ensures { OnCells binding_cells cells (λ q. result ≡ element_out at q space first used (position_of index length)) }
+    ensures { (l t x : List ℕ) → result ≡ element_out at (rooms l binding_cells.now t cells.now x) space first used (position_of index length) }
 {
     match rooms_text::sizes::position_in(index, length) {
         Position::At(i) => {
@@ -46,8 +44,7 @@ fn found_value(
     at: usize,
     used: Used,
 ) -> Outcome
-    ensures { OnCells binding_cells cells (λ q. result ≡ on_found found used (λ c w. Outcome.Value (cell_at q space c) w)
-        (λ w. Outcome.Error Error.NoSuchKey at w)) }
+    ensures { (l t x : List ℕ) → result ≡ on_found found used (λ c w. Outcome.Value (cell_at (rooms l binding_cells.now t cells.now x) space c) w) (λ w. Outcome.Error Error.NoSuchKey at w) }
 {
     match found {
         Found::At(cell, steps) => {
@@ -69,13 +66,14 @@ fn entry(
     cells: &[u64],
     text: &[u8],
     limit: usize,
-    run: Run,
+    space: CellSpace,
+    first: u16,
+    length: u16,
     key: Value,
     at: usize,
     used: Used,
 ) -> Outcome
-    ensures { result ≡ look_up_in limit at (rooms_at_entry literal binding_cells binding_text cells text) key used
-        (Parts.Entries run.space run.first run.length) }
+    ensures { result ≡ look_up_in limit at (rooms literal.now binding_cells.now binding_text.now cells.now text.now) key used (Parts.Entries space first length) }
 {
     if is_key(key) {
         let found = rooms_comparison::lookup::find(
@@ -86,10 +84,11 @@ fn entry(
             text,
             limit,
             key,
-            run,
+            space,
+            first,
+            length,
             used.steps,
         );
-        let space = run.space;
         found_value(binding_cells, cells, space, found, at, used)
     } else {
         no_overload(at, used)
@@ -109,31 +108,26 @@ pub fn look_up(
     at: usize,
     used: Used,
 ) -> Outcome
-    ensures { result ≡ look_up limit at (rooms_at_entry literal binding_cells binding_text cells text) container probe used }
+    ensures { result ≡ look_up limit at (rooms literal.now binding_cells.now binding_text.now cells.now text.now) container probe used }
 {
     match parts_of(container) {
         Parts::Elements(space, first, length) => {
             element(binding_cells, cells, space, first, length, probe, at, used)
         }
-        Parts::Entries(space, first, length) => {
-            let run = Run {
-                space,
-                first,
-                length,
-            };
-            entry(
-                literal,
-                binding_cells,
-                binding_text,
-                cells,
-                text,
-                limit,
-                run,
-                probe,
-                at,
-                used,
-            )
-        }
+        Parts::Entries(space, first, length) => entry(
+            literal,
+            binding_cells,
+            binding_text,
+            cells,
+            text,
+            limit,
+            space,
+            first,
+            length,
+            probe,
+            at,
+            used,
+        ),
         Parts::Present(_, _) => no_overload(at, used),
         Parts::Nothing => no_overload(at, used),
     }

@@ -4,7 +4,7 @@ ghost use Rattle.rooms.specs.Rooms.{rooms};
 ghost use Rattle.rooms.specs.Value.{parts_of};
 ghost use Rattle.machine.specs.Views.{optional_in};
 ghost use Rattle.machine.specs.Selection.{look_up, select_in_container, select_in_none, select_in_present, select_plain, select_field};
-ghost use Rattle.eval_outcomes.specs.Does.{Does};
+ghost use Rattle.eval_outcomes.specs.Gives.{Gives};
 
 use crate::after_lookup::{select_in_container, select_in_map};
 use crate::lookups::look_up;
@@ -36,7 +36,7 @@ fn select_found(
     at: usize,
     used: Used,
 ) -> Outcome
-    ensures { Does result literal binding_cells binding_text cells text (λ q. select_in_container test (look_up limit at q container field used) q) }
+    ensures { Gives result literal.now binding_cells.now binding_text.now cells.new text.now (select_in_container test (look_up limit at (rooms literal.now binding_cells.now binding_text.now cells.old text.now) container field used) (rooms literal.now binding_cells.now binding_text.now cells.old text.now)) }
 {
     let found = look_up(
         literal,
@@ -67,7 +67,7 @@ fn select_in_present(
     at: usize,
     used: Used,
 ) -> Outcome
-    ensures { Does result literal binding_cells binding_text cells text (select_in_present limit at test field container (parts_of container) used) }
+    ensures { Gives result literal.now binding_cells.now binding_text.now cells.new text.now (select_in_present limit at test field container (parts_of container) used (rooms literal.now binding_cells.now binding_text.now cells.old text.now)) }
 {
     match parts_of(container) {
         Parts::Elements(_, _, _) => select_found(
@@ -126,7 +126,7 @@ pub fn select_field(
     at: usize,
     used: Used,
 ) -> Outcome
-    ensures { Does result literal binding_cells binding_text cells text (select_field limit at test field container used) }
+    ensures { Gives result literal.now binding_cells.now binding_text.now cells.new text.now (select_field limit at test field container used (rooms literal.now binding_cells.now binding_text.now cells.old text.now)) }
 {
     match parts_of(container) {
         Parts::Elements(_, _, _) => no_overload(at, used),

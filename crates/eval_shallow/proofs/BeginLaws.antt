@@ -5,7 +5,7 @@ use mathlib.Core.List.{List}
 use lib.ListN.{get_or}
 use Rattle.rooms.specs.declared.scope.Scope.{Scope}
 use Rattle.rooms.specs.Rooms.{Rooms}
-use Rattle.table_layout.specs.Layout.{word_at, fields_at, count_head}
+use Rattle.table_layout.specs.Layout.{word_at}
 use Rattle.table_check.specs.Records.{expr_of, Sound, elements_of}
 use Rattle.machine.specs.declared.outcome.Used.{Used}
 use Rattle.machine.specs.declared.outcome.Limit.TheVariants as Limit
@@ -39,16 +39,16 @@ module _ (n count : ℕ) (u : Used) (r : Rooms) {b : Begun} {cells : List ℕ} (
 -- ---- a List record
 
 module _ (t x : List ℕ) (limit p : ℕ) (sound : Sound t x p) (s : Scope) (u : Used) (r : Rooms) (k : get_or t p 0 ≡ 12)
-    {n : ℕ} (count : n ≡ word_at t (p + fields_at)) {b : Begun} {cells : List ℕ} (begun : BegunIn b cells (begun_of n n u r.cells)) where
-  list-does : taking n u r (λ w o. elements t limit (elements_of t x n (p + count_head)) s u.cells 0 0 w o) ≡ body t limit (expr_of t x p) s u r
+    {n : ℕ} (count : n ≡ word_at t (p + 3)) {b : Begun} {cells : List ℕ} (begun : BegunIn b cells (begun_of n n u r.cells)) where
+  list-does : taking n u r (λ w o. elements t limit (elements_of t x n (p + 5)) s u.cells 0 0 w o) ≡ body t limit (expr_of t x p) s u r
   list-does = rw count (sym ((list_at t x p sound k).does limit s u r))
 
   pub list_full : b ≡ Begun.Full → {o : Outcome} → o ≡ Outcome.Exhausted Limit.Cells u → Is o (with_words r cells) (body t limit (expr_of t x p) s u r)
-  list_full e f = rw f (begun-full n n u r begun e (λ w o. elements t limit (elements_of t x n (p + count_head)) s u.cells 0 0 w o) ∙ list-does)
+  list_full e f = rw f (begun-full n n u r begun e (λ w o. elements t limit (elements_of t x n (p + 5)) s u.cells 0 0 w o) ∙ list-does)
 
   pub list-is : {first m : ℕ} {w : Used} → b ≡ Begun.At first m w → {o : Outcome} {z : Rooms} →
-      Is o z (elements t limit (elements_of t x m (p + count_head)) s first 0 0 w (with_words r cells)) → Is o z (body t limit (expr_of t x p) s u r)
+      Is o z (elements t limit (elements_of t x m (p + 5)) s first 0 0 w (with_words r cells)) → Is o z (body t limit (expr_of t x p) s u r)
   list-is {first} {m} {w} e f =
       let q = begun-places n n u r begun e in
       let g = rw (q.0, q.1) at f in
-      g ∙ (begun-at n n u r begun e (λ w o. elements t limit (elements_of t x n (p + count_head)) s u.cells 0 0 w o) ∙ list-does)
+      g ∙ (begun-at n n u r begun e (λ w o. elements t limit (elements_of t x n (p + 5)) s u.cells 0 0 w o) ∙ list-does)

@@ -11,7 +11,7 @@ use Rattle.rooms.specs.declared.value.Value.{Value}
 use Rattle.rooms.specs.declared.scope.Scope.{Scope}
 use Rattle.rooms.specs.Rooms.{Rooms}
 use Rattle.table_layout.specs.Layout.{after}
-use Rattle.table_check.specs.Records.{SoundPart, expr_of, elements_of, mark_byte}
+use Rattle.table_check.specs.Records.{SoundPart, expr_of, elements_of}
 use Rattle.machine.specs.declared.outcome.Used.{Used}
 use Rattle.machine.specs.declared.outcome.Outcome.{Outcome}
 use Rattle.machine.specs.declared.outcome.Outcome.TheVariants as Outcome
@@ -48,17 +48,17 @@ module _ (t x : List ℕ) (limit base : ℕ) (c : Scope) where
     rest m d w o = elements t limit (elements_of t x (n - 1) (after t q)) c base m d w o
 
     this-element : from_element n q g u r ≡
-        Containers.element (eqb (get_or t q 0) mark_byte) (machine t limit (expr_of t x (unmarked_at t q))) c base g.count g.deep u r
+        Containers.element (eqb (get_or t q 0) 14) (machine t limit (expr_of t x (unmarked_at t q))) c base g.count g.deep u r
         (λ m d w o. elements t limit (elements_of t x (n - 1) (after t q)) c base m d w o)
     this-element = rw (elements-next t x n q h) (element-does t limit c base g.count g.deep u r x q sound (elements_of t x (n - 1) (after t q)))
 
     pub element-stops : {o : Outcome} {z : Rooms} → Is o z does → Stops o → Is o z (from_element n q g u r)
     element-stops e s = stops-there does e s _ ∙ sym this-element
 
-    pub element-again : {o : Outcome} {z : Rooms} → Is o z does → {v : Value} {w : Used} → o ≡ Outcome.Value v w → {b : Bool} → b ≡ eqb (get_or t q 0) mark_byte →
+    pub element-again : {o : Outcome} {z : Rooms} → Is o z does → {v : Value} {w : Used} → o ≡ Outcome.Value v w → {b : Bool} → b ≡ eqb (get_or t q 0) 14 →
         {k : Ready} {cells : List ℕ} → AddedIn k cells (added_of base g (part_in z b v) z.cells) →
         from_element (n - 1) (after t q) k w (with_words z cells) ≡ from_element n q g u r
     element-again {z = z} e {v} {w} is {b} m a =
         let f = rw m at a in
-        sym (added base w z.literal z.binding_cells z.binding_text z.cells z.text (λ m d w o. elements t limit (elements_of t x (n - 1) (after t q)) c base m d w o) g (part_in z (eqb (get_or t q 0) mark_byte) v) f) ∙
+        sym (added base w z.literal z.binding_cells z.binding_text z.cells z.text (λ m d w o. elements t limit (elements_of t x (n - 1) (after t q)) c base m d w o) g (part_in z (eqb (get_or t q 0) 14) v) f) ∙
         (goes_on does e is _ ∙ sym this-element)

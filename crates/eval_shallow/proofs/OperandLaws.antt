@@ -9,7 +9,7 @@ use Rattle.rooms.specs.declared.value.Value.{Value}
 use Rattle.rooms.specs.declared.scope.Scope.{Scope}
 use Rattle.rooms.specs.Rooms.{Rooms}
 use Rattle.rooms.specs.Scope.{slot_of}
-use Rattle.table_layout.specs.Layout.{after, number_head}
+use Rattle.table_layout.specs.Layout.{after}
 use Rattle.table_check.specs.Records.{expr_of, Sound}
 use Rattle.machine.specs.declared.outcome.Used.{Used}
 use Rattle.machine.specs.declared.outcome.Outcome.{Outcome}
@@ -22,7 +22,6 @@ use Rattle.eval_shapes.specs.declared.Shape.TheVariants as Shape
 use Rattle.eval_shapes.specs.Shapes.{shape_of, first_at, next_of}
 use Rattle.eval_shapes.proofs.Operands.{go-at, no-next}
 use Rattle.eval_shapes.specs.Leaves.{slot_in}
-use Rattle.eval_shallow.specs.declared.slots.Contents.{Contents}
 use Rattle.eval_shallow.specs.declared.slots.Pair.{Pair}
 use Rattle.eval_shallow.specs.declared.slots.Pair.TheVariants as Pair
 use Rattle.eval_shallow.specs.Slots.{Operands, neither, one, two, operands_of, is_leaf, flat_slots, small_of, beside, near_slots, IsPair, PairHolds, IsQuad, QuadHolds}
@@ -41,7 +40,7 @@ module _ (P Q : Expr → Type 0) (t x : List ℕ) (p : ℕ) where
   by_form : (f : Fixed) → Each P Q (sides_with t x p f) → Begins P Q t x p f
   by_form (Fixed.Unary o) h = record { first = h; next = λ limit y r q u e. no-next e }
   by_form (Fixed.Binary o) h =
-      record { first = h.0; next = λ limit y r q u e. go-at (λ n. Q (expr_of t x n)) (left_of (binary_seen o) y) (after t (p + number_head)) y h.1 e }
+      record { first = h.0; next = λ limit y r q u e. go-at (λ n. Q (expr_of t x n)) (left_of (binary_seen o) y) (after t (p + 4)) y h.1 e }
   by_form Fixed.Conditional h = absurd h
   by_form (Fixed.Select y) h = record { first = h; next = λ limit y r q u e. no-next e }
   by_form (Fixed.Call f) h = record { first = h; next = λ limit y r q u e. no-next e }
@@ -86,14 +85,13 @@ near-small neither h = h
 near-small (one e) h = (beside-both (small_of e) (Pair.Slots 0 0) h).0
 near-small (two e f) h = beside-both (small_of e) (small_of f) h
 
-module _ (c : Scope) (v : Contents) where
-  beside-holds : (m n : Pair) → QuadHolds c (beside m n) v → PairHolds c m v.first.value v.second.value × PairHolds c n v.third.value v.fourth.value
+module _ (c : Scope) (v w x y : Value) where
+  beside-holds : (m n : Pair) → QuadHolds c (beside m n) v w x y → PairHolds c m v w × PairHolds c n x y
   beside-holds Pair.No n h = absurd h
   beside-holds (Pair.Slots a b) Pair.No h = absurd h
   beside-holds (Pair.Slots a b) (Pair.Slots d e) h = ((h.0, h.1), (h.2, h.3))
 
-  pub near-holds : (m : Operands) → QuadHolds c (near_slots m) v →
-      Each (λ e. PairHolds c (small_of e) v.first.value v.second.value) (λ e. PairHolds c (small_of e) v.third.value v.fourth.value) m
+  pub near-holds : (m : Operands) → QuadHolds c (near_slots m) v w x y → Each (λ e. PairHolds c (small_of e) v w) (λ e. PairHolds c (small_of e) x y) m
   near-holds neither h = h
   near-holds (one e) h = (beside-holds (small_of e) (Pair.Slots 0 0) h).0
   near-holds (two e f) h = beside-holds (small_of e) (small_of f) h

@@ -12,7 +12,7 @@ use denote.Enum.Declared.{tag_of}
 use borrow.Author.Tests.{ltb-true, ltb-false}
 use Rattle.meaning.specs.Expr.{Expr, literal, name, unary, binary, conditional, select, list_of, map_of, comprehension, call, none_call, or_value}
 use Rattle.meaning.specs.Kinds.{unary_kind, conditional_kind, select_kind, function_kind, Called, to_one, to_none, to_two, numbered, functions}
-use Rattle.table_layout.specs.Layout.{head_bytes, after, fields_at, number_head, select_head}
+use Rattle.table_layout.specs.Layout.{head_bytes, after}
 use Rattle.table_check.specs.Shapes.{called_count}
 use Rattle.table_check.specs.declared.faults.Marks.TheVariants.{Nowhere}
 use Rattle.table_check.specs.Records.{expr_of, Sound, Row, call_of}
@@ -40,11 +40,11 @@ use Rattle.eval_shallow.specs.Slots.{Operands, neither, one, two, operands_of, s
 -- ---- by the form
 
 abbrev pub sides_with : (t x : List ℕ) (p : ℕ) → Fixed → Operands
-sides_with t x p (Fixed.Unary o) = one (expr_of t x (p + number_head))
-sides_with t x p (Fixed.Binary o) = two (expr_of t x (p + number_head)) (expr_of t x (after t (p + number_head)))
+sides_with t x p (Fixed.Unary o) = one (expr_of t x (p + 4))
+sides_with t x p (Fixed.Binary o) = two (expr_of t x (p + 4)) (expr_of t x (after t (p + 4)))
 sides_with t x p Fixed.Conditional = neither
-sides_with t x p (Fixed.Select y) = one (expr_of t x (p + select_head))
-sides_with t x p (Fixed.Call f) = one (expr_of t x (p + number_head))
+sides_with t x p (Fixed.Select y) = one (expr_of t x (p + 8))
+sides_with t x p (Fixed.Call f) = one (expr_of t x (p + 4))
 sides_with t x p Fixed.OrValue = neither
 
 -- a record that is of no such form
@@ -66,7 +66,7 @@ none_beside e r i h = by e (rw i at h)
     by (or_value p e f) h = refl
 
 module _ (t x : List ℕ) (p : ℕ) where
-  call-one : (f : Function) (c : Option Called) → shape_of (call_of t x p c) ≡ Shape.Operands (Fixed.Call f) → operands_of (call_of t x p c) ≡ one (expr_of t x (p + number_head))
+  call-one : (f : Function) (c : Option Called) → shape_of (call_of t x p c) ≡ Shape.Operands (Fixed.Call f) → operands_of (call_of t x p c) ≡ one (expr_of t x (p + 4))
   call-one f none e = let z : ◌≡◌ {A = ℕ} 0 1 = cc in absurd (omega arith)
   call-one f (some (to_one g)) e = refl
   call-one f (some to_none) e = let z : ◌≡◌ {A = ℕ} 0 1 = cc in absurd (omega arith)
@@ -79,7 +79,7 @@ module _ (t x : List ℕ) (p : ℕ) where
   call-two (some to_two) e = refl
 
   module _ (s : Sound t x p) where
-    called_is : get_or t p 0 ≡ 16 → expr_of t x p ≡ call_of t x p (numbered functions (get_or t (p + fields_at) 0))
+    called_is : get_or t p 0 ≡ 16 → expr_of t x p ≡ call_of t x p (numbered functions (get_or t (p + 3) 0))
     called_is b = here-is t x p s function_kind b
 
     pub operands-at : (f : Fixed) → shape_of (expr_of t x p) ≡ Shape.Operands f → operands_of (expr_of t x p) ≡ sides_with t x p f
@@ -89,10 +89,10 @@ module _ (t x : List ℕ) (p : ℕ) where
     operands-at (Fixed.Select y) e = ap operands_of (here-is t x p s select_kind (shape-byte t x p s (Shape.Operands (Fixed.Select y)) e (omega arith)))
     operands-at (Fixed.Call f) e =
         let i = called_is (shape-byte t x p s (Shape.Operands (Fixed.Call f)) e (omega arith)) in
-        ap operands_of i ∙ call-one f (numbered functions (get_or t (p + fields_at) 0)) (rw i at e)
+        ap operands_of i ∙ call-one f (numbered functions (get_or t (p + 3) 0)) (rw i at e)
     operands-at Fixed.OrValue e =
         let i = called_is (shape-byte t x p s (Shape.Operands Fixed.OrValue) e (omega arith)) in
-        ap operands_of i ∙ call-two (numbered functions (get_or t (p + fields_at) 0)) (rw i at e)
+        ap operands_of i ∙ call-two (numbered functions (get_or t (p + 3) 0)) (rw i at e)
 
 -- ---- by the kind, as the code finds them
 
@@ -126,7 +126,7 @@ module _ (t x : List ℕ) (p : ℕ) where
   abbrev pub SidesIn : Expr → Sides → Type 0
   SidesIn e r = (sides_seen t x r ≡ operands_of e) × SoundSides t x r
 
-  called-sides : (c : Option Called) → Row t x Nowhere (after t p) (called_count c) (p + number_head) → SidesIn (call_of t x p c) (called_sides c (p + number_head))
+  called-sides : (c : Option Called) → Row t x Nowhere (after t p) (called_count c) (p + 4) → SidesIn (call_of t x p c) (called_sides c (p + 4))
   called-sides none r = (refl, tt)
   called-sides (some (to_one f)) r = (refl, r.0)
   called-sides (some to_none) r = (refl, tt)
@@ -148,14 +148,14 @@ module _ (t x : List ℕ) (p : ℕ) where
       pub select-side : get_or t p 0 ≡ 11 → SidesIn (expr_of t x p) (Sides.One q)
       select-side b = let o = opened t x p select_kind b s in rw (i ∙ o.first, o.is) (refl, o.row.0)
 
-      pub call-side : get_or t p 0 ≡ 16 → {n : ℕ} → n ≡ get_or t (p + fields_at) 0 → {r : Sides} → r ≡ call_sides n q → SidesIn (expr_of t x p) r
+      pub call-side : get_or t p 0 ≡ 16 → {n : ℕ} → n ≡ get_or t (p + 3) 0 → {r : Sides} → r ≡ call_sides n q → SidesIn (expr_of t x p) r
       call-side b j k =
           let o = opened t x p function_kind b s in
-          rw (k, j, i ∙ o.first, o.is) (called-sides (numbered functions (get_or t (p + fields_at) 0)) o.row)
+          rw (k, j, i ∙ o.first, o.is) (called-sides (numbered functions (get_or t (p + 3) 0)) o.row)
 
       module _ (b : get_or t p 0 ≡ 9) where
-        pub first-start : q + fields_at ≤ length t
-        first-start = let o = binary-at t x p s b in rw (i ∙ o.first) (sound-stands t x (p + number_head) o.one).start
+        pub first-start : q + 3 ≤ length t
+        first-start = let o = binary-at t x p s b in rw (i ∙ o.first) (sound-stands t x (p + 4) o.one).start
 
         pub binary-sides : {n : ℕ} → n ≡ after t q → SidesIn (expr_of t x p) (Sides.Two q n)
         binary-sides j = let o = binary-at t x p s b in rw (j, i ∙ o.first, o.is) (refl, (o.one, o.two))

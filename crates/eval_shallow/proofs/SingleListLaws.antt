@@ -17,8 +17,8 @@ use Rattle.rooms.specs.declared.value.Value.TheVariants as Value
 use Rattle.rooms.specs.declared.value.CellSpace.TheVariants as Cells
 use Rattle.rooms.specs.declared.scope.Scope.{Scope}
 use Rattle.rooms.specs.Rooms.{Rooms}
-use Rattle.table_layout.specs.Layout.{head_bytes, word_at, after, fields_at, count_head}
-use Rattle.table_check.specs.Records.{expr_of, part_of, Sound, SoundPart, elements_of, mark_byte}
+use Rattle.table_layout.specs.Layout.{head_bytes, word_at, after}
+use Rattle.table_check.specs.Records.{expr_of, part_of, Sound, SoundPart, elements_of}
 use Rattle.table_check.proofs.Opened.{opened}
 use Rattle.table_check.proofs.Parts.{part-marked, part-bare}
 use Rattle.machine.specs.declared.outcome.Used.{Used}
@@ -35,7 +35,6 @@ use Rattle.eval_containers.specs.Filling.{begun_of, BegunIn, added_of, AddedIn}
 use Rattle.eval_shapes.specs.Leaves.{unmarked_at}
 use Rattle.eval_shapes.proofs.KindLaws.{kind_in, kind-here, part-stands}
 use Rattle.eval_shapes.proofs.Rows.{list_at, element-next}
-use Rattle.eval_shallow.specs.declared.slots.Contents.{Contents}
 use Rattle.eval_shallow.specs.declared.slots.Quad.TheVariants as Quad
 use Rattle.eval_shallow.specs.Slots.{IsQuad, QuadHolds}
 use Rattle.eval_shallow.specs.Shallow.{reach_of}
@@ -58,28 +57,28 @@ only-not (marked p e) z es = refl
 
 -- of n elements from q on
 abbrev pub only_at : (t x : List ℕ) (n q : ℕ) → Option Expr
-only_at t x n q = cond (eqb n 1) (cond (eqb (get_or t q 0) mark_byte) none (some (expr_of t x q))) none
+only_at t x n q = cond (eqb n 1) (cond (eqb (get_or t q 0) 14) none (some (expr_of t x q))) none
 
 module _ (t x : List ℕ) where
-  only_one : (q : ℕ) → SoundPart t x q → (b : Bool) → eqb (get_or t q 0) mark_byte ≡ b → only_of (add_element (part_of t x q) no_elements) ≡ cond b none (some (expr_of t x q))
+  only_one : (q : ℕ) → SoundPart t x q → (b : Bool) → eqb (get_or t q 0) 14 ≡ b → only_of (add_element (part_of t x q) no_elements) ≡ cond b none (some (expr_of t x q))
   unfolding add_element
-  only_one q s true e = rw (part-marked t x q s (eqb-true (get_or t q 0) mark_byte e)).is
-  only_one q s false e = rw (part-bare t x q s (eqb-false (get_or t q 0) mark_byte e)).1
+  only_one q s true e = rw (part-marked t x q s (eqb-true (get_or t q 0) 14 e)).is
+  only_one q s false e = rw (part-bare t x q s (eqb-false (get_or t q 0) 14 e)).1
 
   only_at_lem : (n q : ℕ) → (0 < n → SoundPart t x q) → only_of (elements_of t x n q) ≡ only_at t x n q
   only_at_lem zero q h = refl
-  only_at_lem (suc zero) q h = only_one q (h (omega arith)) (eqb (get_or t q 0) mark_byte) refl
+  only_at_lem (suc zero) q h = only_one q (h (omega arith)) (eqb (get_or t q 0) 14) refl
   only_at_lem (suc (suc n)) q h =
       rw (ne_eqb (suc (suc n)) 1 (λ e. omega (arith, e))) (only-not (part_of t x q) (part_of t x (after t q)) (elements_of t x n (after t (after t q))))
 
   module _ (p : ℕ) (s : Sound t x p) (k : get_or t p 0 ≡ 12) where
-    pub part_sound : 0 < word_at t (p + fields_at) → SoundPart t x (p + count_head)
-    part_sound h = (element-next t x p (word_at t (p + fields_at)) (p + count_head) h (list_at t x p s k).left).sound
+    pub part_sound : 0 < word_at t (p + 3) → SoundPart t x (p + 5)
+    part_sound h = (element-next t x p (word_at t (p + 3)) (p + 5) h (list_at t x p s k).left).sound
 
-    only_here : only_in (expr_of t x p) ≡ only_at t x (word_at t (p + fields_at)) (p + count_head)
-    only_here = ap only_in (opened t x p list_kind k s).is ∙ only_at_lem (word_at t (p + fields_at)) (p + count_head) part_sound
+    only_here : only_in (expr_of t x p) ≡ only_at t x (word_at t (p + 3)) (p + 5)
+    only_here = ap only_in (opened t x p list_kind k s).is ∙ only_at_lem (word_at t (p + 3)) (p + 5) part_sound
 
-    pub slots-here : slots_of (only_at t x (word_at t (p + fields_at)) (p + count_head)) ≡ single_of (expr_of t x p)
+    pub slots-here : slots_of (only_at t x (word_at t (p + 3)) (p + 5)) ≡ single_of (expr_of t x p)
     slots-here = ap slots_of (sym only_here)
 
 -- ---- no other record
@@ -120,18 +119,18 @@ module _ (t x : List ℕ) (p : ℕ) (s : Sound t x p) where
 
   module _ (k : get_or t p 0 ≡ 12) where
     -- no element, or more than one
-    pub other-count : (word_at t (p + fields_at) ≡ 1 → ⊥) → Quad.No ≡ single_of (expr_of t x p)
-    other-count h = rw (ne_eqb (word_at t (p + fields_at)) 1 h) at (slots-here t x p s k)
+    pub other-count : (word_at t (p + 3) ≡ 1 → ⊥) → Quad.No ≡ single_of (expr_of t x p)
+    other-count h = rw (ne_eqb (word_at t (p + 3)) 1 h) at (slots-here t x p s k)
 
-    module _ (n : word_at t (p + fields_at) ≡ 1) {q : ℕ} (at : q ≡ p + head_bytes (get_or t p 0)) where
-      place : q ≡ p + count_head
+    module _ (n : word_at t (p + 3) ≡ 1) {q : ℕ} (at : q ≡ p + head_bytes (get_or t p 0)) where
+      place : q ≡ p + 5
       place = at ∙ (opened t x p list_kind k s).first
 
       pub element-stands : q < length t
-      element-stands = rw place (part-stands t x (p + count_head) (part_sound t x p s k (omega (arith, n)))).here
+      element-stands = rw place (part-stands t x (p + 5) (part_sound t x p s k (omega (arith, n)))).here
 
-      module _ {b : Bool} (m : b ≡ eqb (get_or t q 0) mark_byte) where
-        mark-at : b ≡ eqb (get_or t (p + count_head) 0) mark_byte
+      module _ {b : Bool} (m : b ≡ eqb (get_or t q 0) 14) where
+        mark-at : b ≡ eqb (get_or t (p + 5) 0) 14
         mark-at = rw place at m
 
         pub marked-one : b ≡ true → Quad.No ≡ single_of (expr_of t x p)
@@ -139,7 +138,7 @@ module _ (t x : List ℕ) (p : ℕ) (s : Sound t x p) where
 
         pub bare-sound : b ≡ false → Sound t x q
         bare-sound i =
-            rw place (part-bare t x (p + count_head) (part_sound t x p s k (omega (arith, n))) (eqb-false (get_or t (p + count_head) 0) mark_byte (sym mark-at ∙ i))).0
+            rw place (part-bare t x (p + 5) (part_sound t x p s k (omega (arith, n))) (eqb-false (get_or t (p + 5) 0) 14 (sym mark-at ∙ i))).0
 
         pub bare-one : b ≡ false → reach_of (expr_of t x q) ≡ single_of (expr_of t x p)
         bare-one i = rw place (rw (n, sym mark-at ∙ i) at (slots-here t x p s k))
@@ -148,12 +147,12 @@ module _ (t x : List ℕ) (p : ℕ) (s : Sound t x p) where
 
 pub record Single (t x : List ℕ) (p : ℕ) : Type 0 where
   pub kind : get_or t p 0 ≡ 12
-  pub count : 1 ≡ word_at t (p + fields_at)
-  pub place : p + head_bytes (get_or t p 0) ≡ p + count_head
-  pub bare : eqb (get_or t (p + count_head) 0) mark_byte ≡ false
-  pub part : SoundPart t x (p + count_head)
-  pub sound : Sound t x (p + count_head)
-  pub slots : single_of (expr_of t x p) ≡ reach_of (expr_of t x (p + count_head))
+  pub count : 1 ≡ word_at t (p + 3)
+  pub place : p + head_bytes (get_or t p 0) ≡ p + 5
+  pub bare : eqb (get_or t (p + 5) 0) 14 ≡ false
+  pub part : SoundPart t x (p + 5)
+  pub sound : Sound t x (p + 5)
+  pub slots : single_of (expr_of t x p) ≡ reach_of (expr_of t x (p + 5))
 
 by_tests : (a b : Bool) (e : Expr) → IsQuad (slots_of (cond a (cond b none (some e)) none)) → (a ≡ true) × (b ≡ false)
 by_tests true true e h = absurd h
@@ -164,8 +163,8 @@ module _ (t x : List ℕ) (p : ℕ) (s : Sound t x p) where
   pub single-here : IsQuad (single_of (expr_of t x p)) → Single t x p
   single-here h =
       let k = (kind-here t x p s).known 12 (omega arith) (is-list (expr_of t x p) h) in
-      let b = by_tests (eqb (word_at t (p + fields_at)) 1) (eqb (get_or t (p + count_head) 0) mark_byte) (expr_of t x (p + count_head)) (rw (sym (slots-here t x p s k)) at h) in
-      let n = eqb-true (word_at t (p + fields_at)) 1 b.0 in
+      let b = by_tests (eqb (word_at t (p + 3)) 1) (eqb (get_or t (p + 5) 0) 14) (expr_of t x (p + 5)) (rw (sym (slots-here t x p s k)) at h) in
+      let n = eqb-true (word_at t (p + 3)) 1 b.0 in
       let place = (opened t x p list_kind k s).first in
       record {
         kind = k;
@@ -182,9 +181,9 @@ module _ (t x : List ℕ) (p : ℕ) (single : Single t x p) {q : ℕ} (at : q �
   pub element-asked : IsQuad (single_of (expr_of t x p)) → Sound t x q × IsQuad (reach_of (expr_of t x q))
   element-asked h = rw (at ∙ single.place) (single.sound, rw single.slots at h)
 
-  pub element-gives : (c : Scope) (v : Contents) → QuadHolds c (single_of (expr_of t x p)) v → (limit : ℕ) (u : Used) (r : Rooms) {o : Outcome} {d : Rooms} →
-      ((s : Scope) → QuadHolds s (reach_of (expr_of t x q)) v → Is o d (machine t limit (expr_of t x q) s u r)) → Is o d (machine t limit (expr_of t x (p + count_head)) c u r)
-  element-gives c v h limit u r e = let f = rw (at ∙ single.place) at e in f c (rw single.slots at h)
+  pub element-gives : (c : Scope) (v w y z : Value) → QuadHolds c (single_of (expr_of t x p)) v w y z → (limit : ℕ) (u : Used) (r : Rooms) {o : Outcome} {d : Rooms} →
+      ((s : Scope) → QuadHolds s (reach_of (expr_of t x q)) v w y z → Is o d (machine t limit (expr_of t x q) s u r)) → Is o d (machine t limit (expr_of t x (p + 5)) c u r)
+  element-gives c v w y z h limit u r e = let f = rw (at ∙ single.place) at e in f c (rw single.slots at h)
 
 module _ (t x : List ℕ) (limit p : ℕ) (sound : Sound t x p) (single : Single t x p) (c : Scope) (u : Used) (r : Rooms)
     {b : Begun} {cells : List ℕ} (begun : BegunIn b cells (begun_of 1 1 u r.cells)) where
@@ -192,21 +191,21 @@ module _ (t x : List ℕ) (limit p : ℕ) (sound : Sound t x p) (single : Single
   single-full = list_full t x limit p sound c u r single.kind single.count begun
 
   module _ {first m : ℕ} {w : Used} (is : b ≡ Begun.At first m w) {o : Outcome} {z : Rooms}
-      (element : Is o z (machine t limit (expr_of t x (p + count_head)) c w (with_words r cells))) where
+      (element : Is o z (machine t limit (expr_of t x (p + 5)) c w (with_words r cells))) where
     abbrev begun-ready : Ready
     begun-ready = record { count = 0; deep = 0 }
 
-    unmarked-does : Is o z (machine t limit (expr_of t x (unmarked_at t (p + count_head))) c w (with_words r cells))
+    unmarked-does : Is o z (machine t limit (expr_of t x (unmarked_at t (p + 5))) c w (with_words r cells))
     unmarked-does = rw single.bare element
 
     pub single-stops : Stops o → Is o z (body t limit (expr_of t x p) c u r)
     single-stops h =
-        let e = element-stops t x limit first c 1 (p + count_head) (omega arith) single.part begun-ready w (with_words r cells) unmarked-does h in
+        let e = element-stops t x limit first c 1 (p + 5) (omega arith) single.part begun-ready w (with_words r cells) unmarked-does h in
         list-is t x limit p sound c u r single.kind single.count begun is (rw (begun-places 1 1 u r begun is).1 e)
 
     pub single-whole : {v : Value} {y : Used} → o ≡ Outcome.Value v y → {g : Ready} {cells' : List ℕ} → AddedIn g cells' (added_of first begun-ready (part_in z false v) z.cells) →
         {a : Outcome} → a ≡ whole g.deep (λ d. Value.List d Cells.Evaluation first g.count) y → Is a (with_words z cells') (body t limit (expr_of t x p) c u r)
     single-whole {v} {y} i {g} {cells'} added e =
-        let f = element-again t x limit first c 1 (p + count_head) (omega arith) single.part begun-ready w (with_words r cells) unmarked-does i (sym single.bare) added in
-        let d = ap (λ (a : Outcome). (a, with_words z cells')) e ∙ (sym (no-element t x limit first c 0 (after t (p + count_head)) refl g y (with_words z cells')) ∙ f) in
+        let f = element-again t x limit first c 1 (p + 5) (omega arith) single.part begun-ready w (with_words r cells) unmarked-does i (sym single.bare) added in
+        let d = ap (λ (a : Outcome). (a, with_words z cells')) e ∙ (sym (no-element t x limit first c 0 (after t (p + 5)) refl g y (with_words z cells')) ∙ f) in
         list-is t x limit p sound c u r single.kind single.count begun is (rw (begun-places 1 1 u r begun is).1 d)

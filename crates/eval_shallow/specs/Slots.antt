@@ -1,4 +1,4 @@
--- Records of one operand or two, and the slots that a record reads if it is a literal or a name, or at most two levels above those.
+-- Records of one operand or two, and the slots that a record reads which is a literal or a name, or which is two levels at most above those.
 use Rattle.std.specs.Prelude.{ℕ, ◌<◌, ◌≡◌, Bool, true, false, cond, List}
 use Rattle.std.proofs.Math.Option.{Option, none, some}
 use Rattle.meaning.specs.Limits.{names}
@@ -16,7 +16,6 @@ use Rattle.eval_shallow.specs.declared.slots.Sides.{Sides}
 use Rattle.eval_shallow.specs.declared.slots.Sides.TheVariants as Sides
 use Rattle.eval_shallow.specs.declared.slots.Pair.{Pair}
 use Rattle.eval_shallow.specs.declared.slots.Pair.TheVariants as Pair
-use Rattle.eval_shallow.specs.declared.slots.Contents.{Contents}
 use Rattle.eval_shallow.specs.declared.slots.Quad.{Quad}
 use Rattle.eval_shallow.specs.declared.slots.Quad.TheVariants as Quad
 
@@ -127,7 +126,6 @@ abbrev pub QuadBelow : Quad → Type 0
 QuadBelow Quad.No = Unit {0}
 QuadBelow (Quad.Slots a b c d) = (a < names) × (b < names) × (c < names) × (d < names)
 
-abbrev pub QuadHolds : Scope → Quad → Contents → Type 0
-QuadHolds s Quad.No v = ⊥
-QuadHolds s (Quad.Slots a b c d) v =
-    (slot_of s a ≡ v.first.value) × (slot_of s b ≡ v.second.value) × (slot_of s c ≡ v.third.value) × (slot_of s d ≡ v.fourth.value)
+abbrev pub QuadHolds : Scope → Quad → (v w x y : Value) → Type 0
+QuadHolds s Quad.No v w x y = ⊥
+QuadHolds s (Quad.Slots a b c d) v w x y = (slot_of s a ≡ v) × (slot_of s b ≡ w) × (slot_of s c ≡ x) × (slot_of s d ≡ y)

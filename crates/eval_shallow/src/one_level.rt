@@ -2,8 +2,8 @@
 ghost use Rattle.rooms.specs.Rooms.{rooms};
 ghost use Rattle.table_check.specs.Records.{Sound, expr_of};
 ghost use Rattle.machine.specs.Machine.{machine};
+ghost use Rattle.eval_outcomes.specs.Gives.{Gives};
 ghost use Rattle.eval_shallow.specs.Slots.{flat_of, small_of, IsPair, PairHolds};
-ghost use Rattle.eval_outcomes.specs.Does.{Does};
 
 use eval_operands::after_first;
 use eval_operands::both_operands::after_both;
@@ -14,7 +14,7 @@ use eval_shapes::{Shape, begun_first, shape_at};
 use machine::outcome::{Outcome, Used};
 use rooms::scope::{Scope, Slot};
 
-// Its outcome in any scope that has these values in its slots. The contract asks for such a record, so the last arm is never taken.
+// What it gives in any scope that has these values in its slots. No other record is asked for: there the last arm is never taken.
 pub fn flat(
     table: &[u8],
     literal: &[u8],
@@ -29,9 +29,7 @@ pub fn flat(
     used: Used,
 ) -> Outcome
     requires { Sound table.now literal.now at × IsPair (flat_of (expr_of table.now literal.now at)) }
-    ensures { (c : Scope) → PairHolds c (flat_of (expr_of table.now literal.now at)) first.value second.value → Does
-        result literal binding_cells binding_text cells text
-        (machine table.now limit (expr_of table.now literal.now at) c used) }
+    ensures { (c : Scope) → PairHolds c (flat_of (expr_of table.now literal.now at)) first.value second.value → Gives result literal.now binding_cells.now binding_text.now cells.new text.new (machine table.now limit (expr_of table.now literal.now at) c used (rooms literal.now binding_cells.now binding_text.now cells.old text.old)) }
 {
     if limit <= used.steps {
         return out_of_steps(used);
@@ -75,7 +73,7 @@ pub fn flat(
     }
 }
 
-// The same for such a record, a literal or a name.
+// The same of a literal or a name too.
 pub fn small(
     table: &[u8],
     literal: &[u8],
@@ -90,9 +88,7 @@ pub fn small(
     used: Used,
 ) -> Outcome
     requires { Sound table.now literal.now at × IsPair (small_of (expr_of table.now literal.now at)) }
-    ensures { (c : Scope) → PairHolds c (small_of (expr_of table.now literal.now at)) first.value
-        second.value → Does result literal binding_cells binding_text cells text
-        (machine table.now limit (expr_of table.now literal.now at) c used) }
+    ensures { (c : Scope) → PairHolds c (small_of (expr_of table.now literal.now at)) first.value second.value → Gives result literal.now binding_cells.now binding_text.now cells.new text.new (machine table.now limit (expr_of table.now literal.now at) c used (rooms literal.now binding_cells.now binding_text.now cells.old text.old)) }
 {
     if is_leaf(table, at) {
         return leaf(table, literal, limit, at, first, used);

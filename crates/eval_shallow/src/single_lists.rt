@@ -1,21 +1,21 @@
-// A List record of one element, without a mark and within reach, evaluated with its slots and without a scope. A turn of the append path begins
-// such a record.
+// A List record of one element without a mark, the element within reach, evaluated with its slots and no scope: what a turn of the append path
+// begins.
 ghost use Rattle.std.specs.Prelude.{◌≡◌};
 ghost use Rattle.rooms.specs.Rooms.{rooms};
 ghost use Rattle.table_check.specs.Records.{Sound, expr_of};
 ghost use Rattle.machine.specs.Machine.{machine};
+ghost use Rattle.eval_outcomes.specs.Gives.{Gives};
 ghost use Rattle.eval_shallow.specs.Slots.{IsQuad, QuadBelow, QuadHolds};
 ghost use Rattle.eval_shallow.specs.SingleLists.{single_of};
-ghost use Rattle.eval_outcomes.specs.Does.{Does};
 
 use crate::shallow::{reach, reach_at};
-use crate::slots::{Contents, Quad};
+use crate::slots::Quad;
 use eval_containers::elements::add_element;
 use eval_containers::{Begun, Ready, begin, whole_list};
 use eval_outcomes::outcomes::{out_of_cells, out_of_steps, stepped};
 use eval_shapes::leaves::is_marked;
 use machine::outcome::{Outcome, Used};
-use rooms::scope::Scope;
+use rooms::scope::{Scope, Slot};
 use table_layout::fields::count_at;
 use table_layout::kinds::LIST;
 use table_layout::outline::{first_operand, kind_at};
@@ -38,7 +38,7 @@ pub fn single_at(table: &[u8], literal: &[u8], at: usize) -> Quad
     reach_at(table, literal, element)
 }
 
-// The step, the cell, the element, then the list: its outcome in any scope that has these values in its slots.
+// The step, the cell, the element, then the list of it: what it gives in any scope that has these values in its slots.
 pub fn single(
     table: &[u8],
     literal: &[u8],
@@ -48,13 +48,14 @@ pub fn single(
     text: &mut [u8],
     limit: usize,
     at: usize,
-    slots: Contents,
+    first: Slot,
+    second: Slot,
+    third: Slot,
+    fourth: Slot,
     used: Used,
 ) -> Outcome
     requires { Sound table.now literal.now at × IsQuad (single_of (expr_of table.now literal.now at)) }
-    ensures { (c : Scope) → QuadHolds c (single_of (expr_of table.now literal.now at)) slots
-        → Does result literal binding_cells binding_text cells text
-        (machine table.now limit (expr_of table.now literal.now at) c used) }
+    ensures { (c : Scope) → QuadHolds c (single_of (expr_of table.now literal.now at)) first.value second.value third.value fourth.value → Gives result literal.now binding_cells.now binding_text.now cells.new text.new (machine table.now limit (expr_of table.now literal.now at) c used (rooms literal.now binding_cells.now binding_text.now cells.old text.old)) }
 {
     if limit <= used.steps {
         return out_of_steps(used);
@@ -72,7 +73,10 @@ pub fn single(
                 text,
                 limit,
                 first_operand(table, at),
-                slots,
+                first,
+                second,
+                third,
+                fourth,
                 taken,
             );
             let Outcome::Value(v, more) = element else {

@@ -1,11 +1,10 @@
-// Records of one operand or two whose literals and names stand at most two levels down, and the slots that they read. Such a record can be
-// evaluated with those slots alone.
+// Records of one operand or two, and the slots that they read where all that stands below them, at most two levels, are literals and names: such
+// a record can be evaluated with those slots alone.
 ghost use Rattle.std.specs.Prelude.{◌≡◌};
 ghost use Rattle.table_check.specs.Records.{Sound, expr_of};
 ghost use Rattle.eval_shallow.specs.Slots.{operands_of, call_sides, sides_seen, SoundSides, flat_of, small_of, near_of, beside, PairBelow, QuadBelow};
 
 use eval_shapes::leaves::{is_leaf, slot_at};
-use rooms::scope::Slot;
 use table_layout::fields::number_at;
 use table_layout::kinds::{BINARY, FUNCTION, HAS_VALUE, OPTIONAL_OF, SELECT, SIZE, UNARY, VALUE};
 use table_layout::outline::{end_at, first_operand, kind_at};
@@ -18,30 +17,21 @@ pub enum Sides {
     Two(usize, usize),
 }
 
-// The slots of two literals or names. A literal, and a second that is not there, have 0; the value in that slot is not used.
+// The slots of two literals or names; 0 for a literal and where there is no second, whose value is not looked at.
 #[derive(Drop)]
 pub enum Pair {
     No,
     Slots(usize, usize),
 }
 
-// The slots of two such pairs.
+// Those of two such pairs.
 #[derive(Drop)]
 pub enum Quad {
     No,
     Slots(usize, usize, usize, usize),
 }
 
-// What the four slots of a quad hold.
-#[derive(Drop)]
-pub struct Contents {
-    pub first: Slot,
-    pub second: Slot,
-    pub third: Slot,
-    pub fourth: Slot,
-}
-
-// Of a function, by its number: optional.none has no operand and orValue two; no accepted table has another number.
+// Of a function, by its number: optional.none and orValue have none and two; no accepted table has another number.
 fn call_sides(number: u8, one: usize) -> Sides
     ensures { result ≡ call_sides number one }
 {
@@ -54,11 +44,10 @@ fn call_sides(number: u8, one: usize) -> Sides
     }
 }
 
-// By the kind byte: `shape_at` would also read the operator, which is not needed here.
-fn sides_at(table: &[u8], literal: &[u8], at: usize) -> Sides
+// By the kind byte: the form that `shape_at` makes has the operator in it, which nobody looks at here.
+pub fn sides_at(table: &[u8], literal: &[u8], at: usize) -> Sides
     requires { Sound table.now literal.now at }
-    ensures { (sides_seen table.now literal.now result ≡ operands_of (expr_of table.now literal.now at))
-        × SoundSides table.now literal.now result }
+    ensures { (sides_seen table.now literal.now result ≡ operands_of (expr_of table.now literal.now at)) × SoundSides table.now literal.now result }
 {
     match kind_at(table, at) {
         UNARY => Sides::One(first_operand(table, at)),
@@ -72,8 +61,8 @@ fn sides_at(table: &[u8], literal: &[u8], at: usize) -> Sides
     }
 }
 
-// The slots of a record whose operands are all literals and names.
-fn flat_at(table: &[u8], literal: &[u8], at: usize) -> Pair
+// Of a record whose operands are all literals and names.
+pub fn flat_at(table: &[u8], literal: &[u8], at: usize) -> Pair
     requires { Sound table.now literal.now at }
     ensures { (result ≡ flat_of (expr_of table.now literal.now at)) × PairBelow result }
 {
@@ -98,8 +87,8 @@ fn flat_at(table: &[u8], literal: &[u8], at: usize) -> Pair
     }
 }
 
-// The slots of such a record, of a literal or of a name.
-fn small_at(table: &[u8], literal: &[u8], at: usize) -> Pair
+// Of such a record, or of a literal or a name.
+pub fn small_at(table: &[u8], literal: &[u8], at: usize) -> Pair
     requires { Sound table.now literal.now at }
     ensures { (result ≡ small_of (expr_of table.now literal.now at)) × PairBelow result }
 {
@@ -122,7 +111,7 @@ fn both(first: Pair, second: Pair) -> Quad
     }
 }
 
-// The slots of a record whose operands are all of those.
+// Of a record whose operands are all of those.
 pub fn near_at(table: &[u8], literal: &[u8], at: usize) -> Quad
     requires { Sound table.now literal.now at }
     ensures { (result ≡ near_of (expr_of table.now literal.now at)) × QuadBelow result }

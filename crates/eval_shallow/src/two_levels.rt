@@ -2,20 +2,19 @@
 ghost use Rattle.rooms.specs.Rooms.{rooms};
 ghost use Rattle.table_check.specs.Records.{Sound, expr_of};
 ghost use Rattle.machine.specs.Machine.{machine};
+ghost use Rattle.eval_outcomes.specs.Gives.{Gives};
 ghost use Rattle.eval_shallow.specs.Slots.{near_of, IsQuad, QuadHolds};
-ghost use Rattle.eval_outcomes.specs.Does.{Does};
 
 use crate::one_level::small;
-use crate::slots::Contents;
 use eval_operands::after_first;
 use eval_operands::both_operands::after_both;
 use eval_outcomes::outcomes::{out_of_steps, stepped};
 use eval_shapes::next::Next;
 use eval_shapes::{Shape, begun_first, shape_at};
 use machine::outcome::{Outcome, Used};
-use rooms::scope::Scope;
+use rooms::scope::{Scope, Slot};
 
-// Its outcome in any scope that has these values in its slots. The contract asks for such a record, so the last arm is never taken.
+// What it gives in any scope that has these values in its slots. No other record is asked for: there the last arm is never taken.
 pub fn near(
     table: &[u8],
     literal: &[u8],
@@ -25,13 +24,14 @@ pub fn near(
     text: &mut [u8],
     limit: usize,
     at: usize,
-    slots: Contents,
+    first: Slot,
+    second: Slot,
+    third: Slot,
+    fourth: Slot,
     used: Used,
 ) -> Outcome
     requires { Sound table.now literal.now at × IsQuad (near_of (expr_of table.now literal.now at)) }
-    ensures { (c : Scope) → QuadHolds c (near_of (expr_of table.now literal.now at)) slots
-        → Does result literal binding_cells binding_text cells text
-        (machine table.now limit (expr_of table.now literal.now at) c used) }
+    ensures { (c : Scope) → QuadHolds c (near_of (expr_of table.now literal.now at)) first.value second.value third.value fourth.value → Gives result literal.now binding_cells.now binding_text.now cells.new text.new (machine table.now limit (expr_of table.now literal.now at) c used (rooms literal.now binding_cells.now binding_text.now cells.old text.old)) }
 {
     if limit <= used.steps {
         return out_of_steps(used);
@@ -49,8 +49,8 @@ pub fn near(
                 text,
                 limit,
                 one,
-                slots.first,
-                slots.second,
+                first,
+                second,
                 begun,
             );
             match after_first(
@@ -76,8 +76,8 @@ pub fn near(
                         text,
                         limit,
                         two,
-                        slots.third,
-                        slots.fourth,
+                        third,
+                        fourth,
                         more,
                     );
                     after_both(

@@ -15,7 +15,7 @@ use Rattle.rooms.specs.declared.scope.Scope.{Scope}
 use Rattle.rooms.specs.Rooms.{Rooms}
 use Rattle.rooms.specs.Value.{parts_of}
 use Rattle.rooms.specs.Scope.{stored}
-use Rattle.table_layout.specs.Layout.{head_bytes, word_at, after, fields_at, after_number, comprehension_head}
+use Rattle.table_layout.specs.Layout.{head_bytes, word_at, after}
 use Rattle.table_check.specs.Records.{expr_of, Sound}
 use Rattle.table_check.proofs.Opened.{both_of, opened}
 use Rattle.table_check.proofs.FieldLaws.{name_below}
@@ -33,20 +33,20 @@ open_path t x limit c =
 
 module _ (t x : List ℕ) (p : ℕ) where
   pub record ComprehensionAt : Type 0 where
-    pub start : p + comprehension_head ≤ length t
-    pub first : p + head_bytes (get_or t p 0) ≡ p + comprehension_head
-    pub range : Sound t x (p + comprehension_head)
-    pub init : Sound t x (after t (p + comprehension_head))
+    pub start : p + 5 ≤ length t
+    pub first : p + head_bytes (get_or t p 0) ≡ p + 5
+    pub range : Sound t x (p + 5)
+    pub init : Sound t x (after t (p + 5))
     pub condition : Sound t x (places_at t p).condition
     pub step : Sound t x (places_at t p).step
     pub result : Sound t x (places_at t p).result
     pub accumulator-below : (places_at t p).accumulator < 128
     pub item-below : (places_at t p).item < 128
-    pub extents : comprehension_head + (word_at t (p + comprehension_head + 1) + (word_at t (after t (p + comprehension_head) + 1) + (word_at t ((places_at t p).condition + 1) + (word_at t ((places_at t p).step + 1) + word_at t ((places_at t p).result + 1))))) ≡
+    pub extents : 5 + (word_at t (p + 5 + 1) + (word_at t (after t (p + 5) + 1) + (word_at t ((places_at t p).condition + 1) + (word_at t ((places_at t p).step + 1) + word_at t ((places_at t p).result + 1))))) ≡
         word_at t (p + 1)
     pub does : (limit : ℕ) (s : Scope) (u : Used) (r : Rooms) → body t limit (expr_of t x p) s u r ≡
-        comprehends (loop_at t x limit (places_at t p)) (open_path t x limit (places_at t p)) (machine t limit (expr_of t x (after t (p + comprehension_head))))
-        (machine t limit (expr_of t x (p + comprehension_head))) s u r
+        comprehends (loop_at t x limit p (places_at t p)) (open_path t x limit (places_at t p)) (machine t limit (expr_of t x (after t (p + 5))))
+        (machine t limit (expr_of t x (p + 5))) s u r
 
   pub comprehension-at : Sound t x p → get_or t p 0 ≡ 15 → ComprehensionAt
   unfolding body
@@ -69,9 +69,9 @@ module _ (t x : List ℕ) (p : ℕ) where
       }
 
 -- as the function finds them
-pub places-are : (t : List ℕ) (p init : ℕ) → init ≡ after t (p + comprehension_head) → (a : ℕ) → a ≡ get_or t (p + fields_at) 0 → (i : ℕ) → i ≡ get_or t (p + after_number) 0 →
+pub places-are : (t : List ℕ) (p init : ℕ) → init ≡ after t (p + 5) → (a : ℕ) → a ≡ get_or t (p + 3) 0 → (i : ℕ) → i ≡ get_or t (p + 4) 0 →
     (condition : ℕ) → condition ≡ after t init → (step : ℕ) → step ≡ after t condition → (result : ℕ) → result ≡ after t step →
-    ◌≡◌ {A = Places} (record { at = p; accumulator = a; item = i; condition = condition; step = step; result = result }) (places_at t p)
+    ◌≡◌ {A = Places} (record { accumulator = a; item = i; condition = condition; step = step; result = result }) (places_at t p)
 places-are t p init e a f i g condition h step j result k = rw (k, j, h, e, f, g)
 
 -- ---- which loop is run

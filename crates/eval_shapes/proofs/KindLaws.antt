@@ -8,7 +8,6 @@ use native.Mathlib.Omega.{arith}
 use lib.ListN.{length, get_or}
 use Rattle.meaning.specs.Expr.{Expr, literal, name, unary, binary, conditional, select, list_of, map_of, comprehension, call, none_call, or_value}
 use Rattle.meaning.specs.Kinds.{ExprKind, null_kind, bool_kind, int_kind, uint_kind, double_kind, string_kind, bytes_kind, name_kind, unary_kind, binary_kind, conditional_kind, select_kind, list_kind, map_kind, comprehension_kind, function_kind, Called, to_one, to_none, to_two, numbered, functions}
-use Rattle.table_layout.specs.Layout.{fields_at}
 use Rattle.table_layout.proofs.KindLaws.{head-table}
 use Rattle.table_check.specs.Records.{expr_of, Sound, SoundPart, kind_byte, call_of, node}
 use Rattle.table_check.proofs.HeadLaws.{Here}
@@ -22,7 +21,7 @@ pub record Standing (t : List ℕ) (q : ℕ) : Type 0 where
   pub here : q < length t
   pub known : get_or t q 0 < 17
   -- its extent is there
-  pub start : q + fields_at ≤ length t
+  pub start : q + 3 ≤ length t
 
 of-here : (t : List ℕ) (q : ℕ) → Here t q (length t) → Standing t q
 of-here t q h =
@@ -100,7 +99,7 @@ module _ (t x : List ℕ) (p : ℕ) (s : Sound t x p) where
   by_kind list_kind b = of-kind list_kind b (omega arith) refl
   by_kind map_kind b = of-kind map_kind b (omega arith) refl
   by_kind comprehension_kind b = of-kind comprehension_kind b (omega arith) refl
-  by_kind function_kind b = of-kind function_kind b (omega arith) (call-kind (numbered functions (get_or t (p + fields_at) 0)))
+  by_kind function_kind b = of-kind function_kind b (omega arith) (call-kind (numbered functions (get_or t (p + 3) 0)))
 
   pub kind-here : KindOf (expr_of t x p) (get_or t p 0)
   kind-here = let k = sound-kind t x p s in by_kind k.0 k.1

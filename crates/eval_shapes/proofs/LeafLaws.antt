@@ -6,7 +6,7 @@ use mathlib.Core.List.{List, [], ◌∷◌}
 use native.Mathlib.Omega.{arith}
 use lib.Dec.{ltb, eqb}
 use borrow.Author.Tests.{lt-ltb, le-ltb, eqb-true}
-use Rattle.table_layout.proofs.WordLaws.{word_below}
+use Rattle.table_layout.proofs.WordLaws.{word-is}
 use Rattle.table_layout.proofs.KindLaws.{head-is}
 use lib.ListN.{get_or}
 use types.Run.{OneOf, miss}
@@ -19,8 +19,8 @@ use Rattle.rooms.specs.contracts.value.Value.{the_type}
 use Rattle.rooms.specs.declared.scope.Scope.{Scope}
 use Rattle.rooms.specs.Rooms.{Rooms}
 use Rattle.rooms.specs.Scope.{slot_of}
-use Rattle.table_layout.specs.Layout.{word_at, head_bytes, fields_at}
-use Rattle.table_check.specs.Records.{expr_of, Sound, mark_byte}
+use Rattle.table_layout.specs.Layout.{word_at, head_bytes}
+use Rattle.table_check.specs.Records.{expr_of, Sound}
 use Rattle.table_check.proofs.Opened.{opened}
 use Rattle.table_check.proofs.FieldLaws.{name_below}
 use Rattle.machine.specs.declared.outcome.Used.{Used}
@@ -93,14 +93,14 @@ module _ (t x : List ℕ) (p : ℕ) (s : Sound t x p) where
   pub name-gives : get_or t p 0 ≡ 7 → (v : Value) (u : Used) → leaf_out t (expr_of t x p) v u ≡ name_out p v u
   name-gives b v u = rw (here-is t x p s name_kind b)
 
-  pub name-slot : get_or t p 0 ≡ 7 → slot_in (expr_of t x p) ≡ get_or t (p + fields_at) 0
+  pub name-slot : get_or t p 0 ≡ 7 → slot_in (expr_of t x p) ≡ get_or t (p + 3) 0
   name-slot b = ap slot_in (here-is t x p s name_kind b)
 
   pub no-name-slot : (get_or t p 0 ≡ 7 → ⊥) → slot_in (expr_of t x p) ≡ 0
   no-name-slot h = slot-other (expr_of t x p) ((kind-here t x p s).other 7 (omega arith) h)
 
-  pub name-number : get_or t p 0 ≡ 7 → get_or t (p + fields_at) 0 < 128
-  name-number b = name_below (get_or t (p + fields_at) 0) (opened t x p name_kind b s).fits
+  pub name-number : get_or t p 0 ≡ 7 → get_or t (p + 3) 0 < 128
+  name-number b = name_below (get_or t (p + 3) 0) (opened t x p name_kind b s).fits
 
   -- a leaf after its step, and with it
   pub leaf-body : get_or t p 0 < leaf_kinds → (limit : ℕ) (c : Scope) (u : Used) (r : Rooms) →
@@ -121,12 +121,12 @@ pub leaf-in-steps : (t : List ℕ) (limit : ℕ) (e : Expr) (v : Value) (u : Use
 leaf-in-steps t limit e v u h = rw (lt-ltb u.steps limit h)
 
 pub word_fits : (t : List ℕ) → ((i : ℕ) → get_or t i 0 < 256) → (q : ℕ) {n : ℕ} → n ≡ word_at t q → n < 65536
-word_fits t small q e = omega (arith, e, word_below t small q)
+word_fits t small q e = omega (arith, e, word-is t q, small q, small (q + 1))
 
-pub marked-unmarked : (t : List ℕ) (q : ℕ) → eqb (get_or t q 0) mark_byte ≡ true → q + head_bytes (get_or t q 0) ≡ unmarked_at t q
-marked-unmarked t q e = rw (e, head-is mark_byte (omega arith) (eqb-true (get_or t q 0) mark_byte e))
+pub marked-unmarked : (t : List ℕ) (q : ℕ) → eqb (get_or t q 0) 14 ≡ true → q + head_bytes (get_or t q 0) ≡ unmarked_at t q
+marked-unmarked t q e = rw (e, head-is 14 (omega arith) (eqb-true (get_or t q 0) 14 e))
 
-pub bare-unmarked : (t : List ℕ) (q : ℕ) → eqb (get_or t q 0) mark_byte ≡ false → q ≡ unmarked_at t q
+pub bare-unmarked : (t : List ℕ) (q : ℕ) → eqb (get_or t q 0) 14 ≡ false → q ≡ unmarked_at t q
 bare-unmarked t q e = rw e
 
 pub only_null : (n : ℕ) → n < 7 → (n ≡ 1 → ⊥) → (n ≡ 2 → ⊥) → (n ≡ 3 → ⊥) → (n ≡ 4 → ⊥) → (n ≡ 5 → ⊥) → (n ≡ 6 → ⊥) → n ≡ 0

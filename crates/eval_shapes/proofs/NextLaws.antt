@@ -9,7 +9,7 @@ use types.Run.{OneOf, miss}
 use denote.Enum.Declared.{tag_of}
 use Rattle.rooms.specs.declared.value.Value.{Value}
 use Rattle.rooms.specs.Rooms.{Rooms}
-use Rattle.table_layout.specs.Layout.{head_bytes, after, fields_at, plain_head, number_head, select_head}
+use Rattle.table_layout.specs.Layout.{head_bytes, after}
 use Rattle.table_check.specs.Records.{expr_of, Sound}
 use Rattle.machine.specs.declared.outcome.Outcome.{Outcome}
 use Rattle.machine.specs.Outcomes.{Res, with_value}
@@ -50,7 +50,7 @@ module _ (t x : List ℕ) (p : ℕ) (s : Sound t x p) (f : Fixed) (e : shape_of 
   pub first-place : OneOf (0 ∷ 1 ∷ 2 ∷ 3 ∷ 4 ∷ []) (tag_of the_type f) → q ≡ first_at t p f
   first-place h = i ∙ ((fixed-at t x p s f e).head ∙ first_by t p f h)
 
-  pub operand-start : q + fields_at ≤ length t
+  pub operand-start : q + 3 ≤ length t
   operand-start = let a = fixed-at t x p s f e in rw (i ∙ a.head) (sound-stands t x (p + head_of f) a.operand).start
 
   pub operand-is : (g : Fixed) → f ≡ g → q ≡ p + head_of g
@@ -59,12 +59,12 @@ module _ (t x : List ℕ) (p : ℕ) (s : Sound t x p) (f : Fixed) (e : shape_of 
   pub default-place : f ≡ Fixed.OrValue → (n : ℕ) → n ≡ after t q → n ≡ first_at t p f
   default-place h n j = rw (h, j) (ap (λ (m : ℕ). after t m) (operand-is Fixed.OrValue h))
 
-  pub second-start : f ≡ Fixed.Conditional → (n : ℕ) → n ≡ after t q → n + fields_at ≤ length t
+  pub second-start : f ≡ Fixed.Conditional → (n : ℕ) → n ≡ after t q → n + 3 ≤ length t
   second-start h n j =
       let b = shape-byte t x p s (Shape.Operands Fixed.Conditional) (e ∙ ap (λ (g : Fixed). Shape.Operands g) h) (omega arith) in
-      rw (j ∙ ap (λ (m : ℕ). after t m) (operand-is Fixed.Conditional h)) (sound-stands t x (after t (p + plain_head)) (conditional-at t x p s b).then).start
+      rw (j ∙ ap (λ (m : ℕ). after t m) (operand-is Fixed.Conditional h)) (sound-stands t x (after t (p + 3)) (conditional-at t x p s b).then).start
 
-pub select-body : (t x : List ℕ) (p : ℕ) → Sound t x p → (f : Fixed) → shape_of (expr_of t x p) ≡ Shape.Operands f → (g : Bool) → f ≡ Fixed.Select g → p + select_head ≤ length t
+pub select-body : (t x : List ℕ) (p : ℕ) → Sound t x p → (f : Fixed) → shape_of (expr_of t x p) ≡ Shape.Operands f → (g : Bool) → f ≡ Fixed.Select g → p + 8 ≤ length t
 select-body t x p s f e g h = (fixed-at t x p s (Fixed.Select g) (e ∙ ap (λ (k : Fixed). Shape.Operands k) h)).body
 
 -- ---- the answer
@@ -73,11 +73,11 @@ module _ (t : List ℕ) (limit p : ℕ) (f : Fixed) (o : Outcome) (r : Rooms) wh
   pub next-unary : (g : Unary) → f ≡ Fixed.Unary g → {y : Outcome} → y ≡ unary_out p (unary_seen g) o → NextIn (Next.Stop y) r (next_of t limit p f o r)
   next-unary g e h = rw (e, h)
 
-  pub next-binary : (g : Binary) → f ≡ Fixed.Binary g → (q : ℕ) → q ≡ p + number_head → (n : ℕ) → n ≡ after t q → {y : Next} →
+  pub next-binary : (g : Binary) → f ≡ Fixed.Binary g → (q : ℕ) → q ≡ p + 4 → (n : ℕ) → n ≡ after t q → {y : Next} →
       y ≡ go_next (left_of (binary_seen g) o) n o → NextIn y r (next_of t limit p f o r)
   next-binary g e q i n j h = rw (e, h, j, i)
 
-  pub next-conditional : f ≡ Fixed.Conditional → (q : ℕ) → q ≡ p + plain_head → (n : ℕ) → n ≡ after t q → (m : ℕ) → m ≡ after t n → {y : Next} →
+  pub next-conditional : f ≡ Fixed.Conditional → (q : ℕ) → q ≡ p + 3 → (n : ℕ) → n ≡ after t q → (m : ℕ) → m ≡ after t n → {y : Next} →
       y ≡ ask_next (asked_of p o) n m → NextIn y r (next_of t limit p f o r)
   next-conditional e q i n j m k h = rw (e, h, k, j, i)
 
@@ -89,5 +89,5 @@ module _ (t : List ℕ) (limit p : ℕ) (f : Fixed) (o : Outcome) (r : Rooms) wh
       ◌≡◌ {A = Res} (y, d) (with_value o r (λ w u c. called p (function_seen g) w u c)) → NextIn (Next.Stop y) d (next_of t limit p f o r)
   next-call g e h = rw e (ap stopped h)
 
-  pub next-default : f ≡ Fixed.OrValue → (q : ℕ) → q ≡ p + number_head → {y : Next} → y ≡ value_next o q → NextIn y r (next_of t limit p f o r)
+  pub next-default : f ≡ Fixed.OrValue → (q : ℕ) → q ≡ p + 4 → {y : Next} → y ≡ value_next o q → NextIn y r (next_of t limit p f o r)
   next-default e q i h = rw (e, h, i)

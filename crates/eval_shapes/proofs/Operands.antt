@@ -12,7 +12,7 @@ use Rattle.meaning.specs.Expr as Expr
 use Rattle.meaning.specs.Kinds.{unary_kind, select_kind, function_kind, Called, to_one, to_none, to_two, numbered, functions}
 use Rattle.rooms.specs.declared.scope.Scope.{Scope}
 use Rattle.rooms.specs.Rooms.{Rooms}
-use Rattle.table_layout.specs.Layout.{head_bytes, word_at, after, fields_at, plain_head, number_head, select_head}
+use Rattle.table_layout.specs.Layout.{head_bytes, word_at, after}
 use Rattle.table_check.specs.declared.faults.Marks.TheVariants.{Nowhere}
 use Rattle.table_check.specs.Records.{expr_of, Sound, Row, unary_of, binary_of, call_of}
 use Rattle.table_check.proofs.Opened.{opened}
@@ -44,12 +44,12 @@ use Rattle.eval_shapes.proofs.SeenOfRecords.{binary-at, conditional-at}
 
 -- from the record's place to its first operand
 abbrev pub head_of : Fixed → ℕ
-head_of (Fixed.Unary o) = number_head
-head_of (Fixed.Binary o) = number_head
-head_of Fixed.Conditional = plain_head
-head_of (Fixed.Select y) = select_head
-head_of (Fixed.Call f) = number_head
-head_of Fixed.OrValue = number_head
+head_of (Fixed.Unary o) = 4
+head_of (Fixed.Binary o) = 4
+head_of Fixed.Conditional = 3
+head_of (Fixed.Select y) = 8
+head_of (Fixed.Call f) = 4
+head_of Fixed.OrValue = 4
 
 -- goes on with the other operand, or stops with an outcome
 abbrev pub on_next : Next → Rooms → (ℕ → Used → Rooms → Res) → Res
@@ -134,7 +134,7 @@ module _ (t x : List ℕ) (p : ℕ) where
   called-two (some to_none) e = let z : ◌≡◌ {A = ℕ} 0 1 = cc in absurd (omega arith)
   called-two (some to_two) e = refl
 
-  call-does : (g : Expr.Function) (f : Function) → function_shape g ≡ f → expr_of t x p ≡ Expr.call p g (expr_of t x (p + number_head)) →
+  call-does : (g : Expr.Function) (f : Function) → function_shape g ≡ f → expr_of t x p ≡ Expr.call p g (expr_of t x (p + 4)) →
       (limit : ℕ) (s : Scope) (u : Used) (r : Rooms) → Machine.body t limit (expr_of t x p) s u r ≡ fixed_does t x limit p (Fixed.Call f) s u r
   unfolding Machine.body
   call-does g f h i limit s u r = rw (i, sym h, function-back g)
@@ -147,28 +147,28 @@ module _ (t x : List ℕ) (p : ℕ) where
         join_of limit p f a.0 b.0 b.1
 
   binary-does : (m : Expr.Binary) (o : Binary) → binary_seen o ≡ m →
-      expr_of t x p ≡ Expr.binary p m (expr_of t x (p + number_head)) (expr_of t x (after t (p + number_head))) → (limit : ℕ) (s : Scope) (u : Used) (r : Rooms) →
+      expr_of t x p ≡ Expr.binary p m (expr_of t x (p + 4)) (expr_of t x (after t (p + 4))) → (limit : ℕ) (s : Scope) (u : Used) (r : Rooms) →
       Machine.body t limit (expr_of t x p) s u r ≡ fixed_does t x limit p (Fixed.Binary o) s u r
   unfolding Machine.body
   binary-does m o h i limit s u r =
-      let a : Res = machine t limit (expr_of t x (p + number_head)) s u r in
-      rw (i, sym h) (sym (go-does (left_of (binary_seen o) a.0) (after t (p + number_head)) a.0 a.1 (λ q w d. then limit s (Fixed.Binary o) a q w d)))
+      let a : Res = machine t limit (expr_of t x (p + 4)) s u r in
+      rw (i, sym h) (sym (go-does (left_of (binary_seen o) a.0) (after t (p + 4)) a.0 a.1 (λ q w d. then limit s (Fixed.Binary o) a q w d)))
 
-  conditional-does : expr_of t x p ≡ Expr.conditional p (expr_of t x (p + plain_head)) (expr_of t x (after t (p + plain_head))) (expr_of t x (after t (after t (p + plain_head)))) →
+  conditional-does : expr_of t x p ≡ Expr.conditional p (expr_of t x (p + 3)) (expr_of t x (after t (p + 3))) (expr_of t x (after t (after t (p + 3)))) →
       (limit : ℕ) (s : Scope) (u : Used) (r : Rooms) → Machine.body t limit (expr_of t x p) s u r ≡ fixed_does t x limit p Fixed.Conditional s u r
   unfolding Machine.body
   conditional-does i limit s u r =
-      let a : Res = machine t limit (expr_of t x (p + plain_head)) s u r in
+      let a : Res = machine t limit (expr_of t x (p + 3)) s u r in
       let k : ℕ → Used → Rooms → Res = λ q w d. then limit s Fixed.Conditional a q w d in
-      let q : ℕ = after t (p + plain_head) in
+      let q : ℕ = after t (p + 3) in
       rw i (asked p (λ w d. k q w d) (λ w d. k (after t q) w d) a ∙ sym (ask-does (asked_of p a.0) q (after t q) a.1 k))
 
-  or-value-does : expr_of t x p ≡ Expr.or_value p (expr_of t x (p + number_head)) (expr_of t x (after t (p + number_head))) →
+  or-value-does : expr_of t x p ≡ Expr.or_value p (expr_of t x (p + 4)) (expr_of t x (after t (p + 4))) →
       (limit : ℕ) (s : Scope) (u : Used) (r : Rooms) → Machine.body t limit (expr_of t x p) s u r ≡ fixed_does t x limit p Fixed.OrValue s u r
   unfolding Machine.body
   or-value-does i limit s u r =
-      let a : Res = machine t limit (expr_of t x (after t (p + number_head))) s u r in
-      rw i (sym (value-does a.0 limit p (p + number_head) a.1 (λ q w d. machine t limit (expr_of t x q) s w d)))
+      let a : Res = machine t limit (expr_of t x (after t (p + 4))) s u r in
+      rw i (sym (value-does a.0 limit p (p + 4) a.1 (λ q w d. machine t limit (expr_of t x q) s w d)))
 
   -- ---- each shape
 
@@ -178,7 +178,7 @@ module _ (t x : List ℕ) (p : ℕ) where
     unary-fixed o e =
         let b = shape-byte t x p s (Shape.Operands (Fixed.Unary o)) e (omega arith) in
         let k = opened t x p unary_kind b s in
-        let m : Expr.Unary = unary_of (get_or t (p + fields_at) 0) in
+        let m : Expr.Unary = unary_of (get_or t (p + 3) 0) in
         let f : Shape.Operands (Fixed.Unary (unary_shape m)) ≡ Shape.Operands (Fixed.Unary o) = rw k.is at e in
         let g : unary_shape m ≡ o = cc in
         record {
@@ -196,7 +196,7 @@ module _ (t x : List ℕ) (p : ℕ) where
     binary-fixed o e =
         let b = shape-byte t x p s (Shape.Operands (Fixed.Binary o)) e (omega arith) in
         let k = binary-at t x p s b in
-        let m : Expr.Binary = binary_of (get_or t (p + fields_at) 0) in
+        let m : Expr.Binary = binary_of (get_or t (p + 3) 0) in
         let f : Shape.Operands (Fixed.Binary (binary_shape m)) ≡ Shape.Operands (Fixed.Binary o) = rw k.is at e in
         let g : binary_shape m ≡ o = cc in
         record {
@@ -205,7 +205,7 @@ module _ (t x : List ℕ) (p : ℕ) where
           operand = k.one;
           first = k.one;
           smaller = omega (arith, k.extents);
-          next = λ limit y r q u h. go-at (λ n. Sound t x n × (word_at t (n + 1) < word_at t (p + 1))) (left_of (binary_seen o) y) (after t (p + number_head)) y (k.two, omega (arith, k.extents)) h;
+          next = λ limit y r q u h. go-at (λ n. Sound t x n × (word_at t (n + 1) < word_at t (p + 1))) (left_of (binary_seen o) y) (after t (p + 4)) y (k.two, omega (arith, k.extents)) h;
           does = binary-does m o (sym (ap binary_seen g) ∙ binary-back m) k.is;
         }
 
@@ -220,7 +220,7 @@ module _ (t x : List ℕ) (p : ℕ) where
           operand = k.condition;
           first = k.condition;
           smaller = omega (arith, k.extents);
-          next = λ limit y r q u h. ask-at (λ n. Sound t x n × (word_at t (n + 1) < word_at t (p + 1))) (asked_of p y) (after t (p + plain_head)) (after t (after t (p + plain_head)))
+          next = λ limit y r q u h. ask-at (λ n. Sound t x n × (word_at t (n + 1) < word_at t (p + 1))) (asked_of p y) (after t (p + 3)) (after t (after t (p + 3)))
               (k.then, omega (arith, k.extents)) (k.else, omega (arith, k.extents)) h;
           does = conditional-does k.is;
         }
@@ -230,7 +230,7 @@ module _ (t x : List ℕ) (p : ℕ) where
     select-fixed y e =
         let b = shape-byte t x p s (Shape.Operands (Fixed.Select y)) e (omega arith) in
         let k = opened t x p select_kind b s in
-        let m : Bool = eqb (get_or t (p + fields_at) 0) 1 in
+        let m : Bool = eqb (get_or t (p + 3) 0) 1 in
         let f : Shape.Operands (Fixed.Select m) ≡ Shape.Operands (Fixed.Select y) = rw k.is at e in
         let g : m ≡ y = cc in
         record {
@@ -248,8 +248,8 @@ module _ (t x : List ℕ) (p : ℕ) where
     call-fixed f e =
         let b = shape-byte t x p s (Shape.Operands (Fixed.Call f)) e (omega arith) in
         let k = opened t x p function_kind b s in
-        let d = called-one f (numbered functions (get_or t (p + fields_at) 0)) (rw k.is at e) in
-        let row : Row t x Nowhere (after t p) 1 (p + number_head) = rw d.1 at k.row in
+        let d = called-one f (numbered functions (get_or t (p + 3) 0)) (rw k.is at e) in
+        let row : Row t x Nowhere (after t p) 1 (p + 4) = rw d.1 at k.row in
         record {
           body = k.body;
           head = k.first;
@@ -265,15 +265,15 @@ module _ (t x : List ℕ) (p : ℕ) where
     or-value-fixed e =
         let b = shape-byte t x p s (Shape.Operands Fixed.OrValue) e (omega arith) in
         let k = opened t x p function_kind b s in
-        let d = called-two (numbered functions (get_or t (p + fields_at) 0)) (rw k.is at e) in
-        let row : Row t x Nowhere (after t p) 2 (p + number_head) = rw d at k.row in
+        let d = called-two (numbered functions (get_or t (p + 3) 0)) (rw k.is at e) in
+        let row : Row t x Nowhere (after t p) 2 (p + 4) = rw d at k.row in
         record {
           body = k.body;
           head = k.first;
           operand = row.0;
           first = row.1.0;
           smaller = omega (arith, row.1.1);
-          next = λ limit o r q u h. value-at (λ n. Sound t x n × (word_at t (n + 1) < word_at t (p + 1))) o (p + number_head) (row.0, omega (arith, row.1.1)) h;
+          next = λ limit o r q u h. value-at (λ n. Sound t x n × (word_at t (n + 1) < word_at t (p + 1))) o (p + 4) (row.0, omega (arith, row.1.1)) h;
           does = or-value-does (k.is ∙ ap (λ (c : Option Called). call_of t x p c) d);
         }
 

@@ -14,9 +14,9 @@ use Rattle.meaning.specs.Kinds.{list_kind, map_kind}
 use Rattle.meaning.specs.Table.{Part, bare, marked, add_element, add_pair}
 use Rattle.rooms.specs.declared.scope.Scope.{Scope}
 use Rattle.rooms.specs.Rooms.{Rooms}
-use Rattle.table_layout.specs.Layout.{word_at, after, fields_at, count_head}
+use Rattle.table_layout.specs.Layout.{word_at, after}
 use Rattle.table_check.specs.declared.faults.Marks.TheVariants.{Anywhere, Values}
-use Rattle.table_check.specs.Records.{expr_of, part_of, Sound, SoundPart, Row, elements_of, pairs_of, mark_byte}
+use Rattle.table_check.specs.Records.{expr_of, part_of, Sound, SoundPart, Row, elements_of, pairs_of}
 use Rattle.table_check.proofs.Opened.{opened}
 use Rattle.table_check.proofs.Parts.{part-marked, part-bare, part-extent, sound-extent, row_within, first-element, first-pair}
 use Rattle.machine.specs.declared.outcome.Used.{Used}
@@ -33,26 +33,26 @@ part_as true p e = marked p e
 part_as false p e = bare e
 
 pub record PartAt (t x : List ℕ) (q : ℕ) : Type 0 where
-  pub start : q + fields_at ≤ length t
+  pub start : q + 3 ≤ length t
   -- the record that a mark stands on, or the record itself
   pub sound : Sound t x (unmarked_at t q)
   pub within : word_at t (unmarked_at t q + 1) ≤ word_at t (q + 1)
-  pub is : part_of t x q ≡ part_as (eqb (get_or t q 0) mark_byte) q (expr_of t x (unmarked_at t q))
+  pub is : part_of t x q ≡ part_as (eqb (get_or t q 0) 14) q (expr_of t x (unmarked_at t q))
 
 module _ (t x : List ℕ) (q : ℕ) (s : SoundPart t x q) where
-  start_of : q + fields_at ≤ length t
+  start_of : q + 3 ≤ length t
   start_of = let e = part-extent t x q s in omega (arith, e.0, e.1)
 
-  by-mark : (b : Bool) → eqb (get_or t q 0) mark_byte ≡ b → PartAt t x q
+  by-mark : (b : Bool) → eqb (get_or t q 0) 14 ≡ b → PartAt t x q
   by-mark true e =
-      let m = part-marked t x q s (eqb-true (get_or t q 0) mark_byte e) in
+      let m = part-marked t x q s (eqb-true (get_or t q 0) 14 e) in
       record { start = start_of; sound = rw e m.operand; within = rw e (omega (arith, m.ends)); is = rw e m.is }
   by-mark false e =
-      let m = part-bare t x q s (eqb-false (get_or t q 0) mark_byte e) in
+      let m = part-bare t x q s (eqb-false (get_or t q 0) 14 e) in
       record { start = start_of; sound = rw e m.0; within = rw e (omega arith); is = rw e m.1 }
 
   pub part_at : PartAt t x q
-  part_at = by-mark (eqb (get_or t q 0) mark_byte) refl
+  part_at = by-mark (eqb (get_or t q 0) 14) refl
 
 -- ---- what the machine does with it
 
@@ -74,14 +74,14 @@ module _ (t : List ℕ) (limit : ℕ) (s : Scope) (base m d : ℕ) (u : Used) (r
   module _ (x : List ℕ) (q : ℕ) where
     pub element-does : SoundPart t x q → (es : Elements) →
         elements t limit (add_element (part_of t x q) es) s base m d u r ≡
-        Containers.element (eqb (get_or t q 0) mark_byte) (machine t limit (expr_of t x (unmarked_at t q))) s base m d u r (λ n k w o. elements t limit es s base n k w o)
-    element-does h es = rw (part_at t x q h).is (element-by (eqb (get_or t q 0) mark_byte) q (expr_of t x (unmarked_at t q)) es)
+        Containers.element (eqb (get_or t q 0) 14) (machine t limit (expr_of t x (unmarked_at t q))) s base m d u r (λ n k w o. elements t limit es s base n k w o)
+    element-does h es = rw (part_at t x q h).is (element-by (eqb (get_or t q 0) 14) q (expr_of t x (unmarked_at t q)) es)
 
     pub entry-does : SoundPart t x q → (at : ℕ) (k : Expr) (ps : Pairs) →
         entries t limit at (add_pair k (part_of t x q) ps) s base m d u r ≡
-        Containers.entry limit at (eqb (get_or t q 0) mark_byte) (machine t limit k) (machine t limit (expr_of t x (unmarked_at t q))) s base m d u r
+        Containers.entry limit at (eqb (get_or t q 0) 14) (machine t limit k) (machine t limit (expr_of t x (unmarked_at t q))) s base m d u r
         (λ n h w o. entries t limit at ps s base n h w o)
-    entry-does h at k ps = rw (part_at t x q h).is (entry-by (eqb (get_or t q 0) mark_byte) at q k (expr_of t x (unmarked_at t q)) ps)
+    entry-does h at k ps = rw (part_at t x q h).is (entry-by (eqb (get_or t q 0) 14) at q k (expr_of t x (unmarked_at t q)) ps)
 
 -- ---- how many
 
@@ -120,11 +120,11 @@ module _ (t x : List ℕ) where
 
   -- n elements are left from q on
   pub record ElementsLeft (p n q : ℕ) : Type 0 where
-    pub beyond : p + count_head ≤ q
+    pub beyond : p + 5 ≤ q
     pub row : Row t x Anywhere (after t p) n q
 
   pub record EntriesLeft (p n q : ℕ) : Type 0 where
-    pub beyond : p + count_head ≤ q
+    pub beyond : p + 5 ≤ q
     pub row : Row t x Values (after t p) (2 * n) q
 
   pub record ElementNext (p n q : ℕ) : Type 0 where
@@ -135,7 +135,7 @@ module _ (t x : List ℕ) where
 
   pub record EntryNext (p n q : ℕ) : Type 0 where
     pub key : Sound t x q
-    pub key-start : q + fields_at ≤ length t
+    pub key-start : q + 3 ≤ length t
     pub key-smaller : word_at t (q + 1) < word_at t (p + 1)
     pub sound : SoundPart t x (after t q)
     pub part : PartAt t x (after t q)
@@ -174,18 +174,18 @@ module _ (t x : List ℕ) where
 
 module _ (t x : List ℕ) (p : ℕ) (s : Sound t x p) where
   pub record ListAt : Type 0 where
-    pub start : p + count_head ≤ length t
-    pub left : ElementsLeft t x p (word_at t (p + fields_at)) (p + count_head)
+    pub start : p + 5 ≤ length t
+    pub left : ElementsLeft t x p (word_at t (p + 3)) (p + 5)
     pub does : (limit : ℕ) (c : Scope) (u : Used) (r : Rooms) →
         body t limit (expr_of t x p) c u r ≡
-        taking (word_at t (p + fields_at)) u r (λ w o. elements t limit (elements_of t x (word_at t (p + fields_at)) (p + count_head)) c u.cells 0 0 w o)
+        taking (word_at t (p + 3)) u r (λ w o. elements t limit (elements_of t x (word_at t (p + 3)) (p + 5)) c u.cells 0 0 w o)
 
   pub record MapAt : Type 0 where
-    pub start : p + count_head ≤ length t
-    pub left : EntriesLeft t x p (word_at t (p + fields_at)) (p + count_head)
+    pub start : p + 5 ≤ length t
+    pub left : EntriesLeft t x p (word_at t (p + 3)) (p + 5)
     pub does : (limit : ℕ) (c : Scope) (u : Used) (r : Rooms) →
         body t limit (expr_of t x p) c u r ≡
-        taking (2 * word_at t (p + fields_at)) u r (λ w o. entries t limit p (pairs_of t x (word_at t (p + fields_at)) (p + count_head)) c u.cells 0 0 w o)
+        taking (2 * word_at t (p + 3)) u r (λ w o. entries t limit p (pairs_of t x (word_at t (p + 3)) (p + 5)) c u.cells 0 0 w o)
 
   pub list_at : get_or t p 0 ≡ 12 → ListAt
   unfolding body
@@ -194,7 +194,7 @@ module _ (t x : List ℕ) (p : ℕ) (s : Sound t x p) where
       record {
         start = o.body;
         left = record { beyond = omega arith; row = o.row };
-        does = λ limit c u r. rw (o.is, count-elements t x (word_at t (p + fields_at)) (p + count_head));
+        does = λ limit c u r. rw (o.is, count-elements t x (word_at t (p + 3)) (p + 5));
       }
 
   pub map_at : get_or t p 0 ≡ 13 → MapAt
@@ -204,5 +204,5 @@ module _ (t x : List ℕ) (p : ℕ) (s : Sound t x p) where
       record {
         start = o.body;
         left = record { beyond = omega arith; row = o.row };
-        does = λ limit c u r. rw (o.is, count-pairs t x (word_at t (p + fields_at)) (p + count_head));
+        does = λ limit c u r. rw (o.is, count-pairs t x (word_at t (p + 3)) (p + 5));
       }

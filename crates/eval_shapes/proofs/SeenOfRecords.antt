@@ -12,7 +12,7 @@ use Rattle.meaning.specs.Expr.{Expr, LogicalFold, binary, conditional}
 use Rattle.meaning.specs.Kinds.{name_kind, binary_kind, conditional_kind}
 use Rattle.meaning.specs.Look.{of_name, named}
 use Rattle.meaning.specs.Meaning.{look}
-use Rattle.table_layout.specs.Layout.{head_bytes, word_at, after, fields_at, plain_head, number_head}
+use Rattle.table_layout.specs.Layout.{head_bytes, word_at, after}
 use Rattle.table_check.specs.Records.{expr_of, Sound, binary_of}
 use Rattle.table_check.proofs.Opened.{opened}
 use Rattle.machine.specs.Outcomes.{Does}
@@ -20,7 +20,6 @@ use Rattle.machine.specs.Comprehension.{empty_parts}
 use Rattle.rooms.specs.declared.value.Value.{Value}
 use Rattle.rooms.specs.Value.{parts_of}
 use Rattle.machine.specs.Machine.{body, machine, appending, sum_to, append_step, append_sum, items_list}
-use Rattle.eval_shapes.specs.declared.comprehensions.Path.{Path}
 use Rattle.eval_shapes.specs.declared.comprehensions.Path.TheVariants as Path
 use Rattle.eval_shapes.specs.declared.comprehensions.Listed.{Listed}
 use Rattle.eval_shapes.specs.declared.comprehensions.Listed.TheVariants as Listed
@@ -37,14 +36,6 @@ literal-by e n false h k =
     let l = ltb-false n 7 h in
     sym (ne_eqb (kind_in e) 0 (λ z. omega (arith, l, k.high l, z)))
 
--- ---- the append path with a guard and without
-
-abbrev guarded_by : (guard list : ℕ) → Path
-guarded_by g l = Path.By (record { guarded = true; guard = g; list = l })
-
-abbrev unguarded : ℕ → Path
-unguarded l = Path.By (record { guarded = false; guard = l; list = l })
-
 module _ (t x : List ℕ) (p : ℕ) (s : Sound t x p) where
   k : KindOf (expr_of t x p) (get_or t p 0)
   k = kind-here t x p s
@@ -52,7 +43,7 @@ module _ (t x : List ℕ) (p : ℕ) (s : Sound t x p) where
   pub literal-seen : ltb (get_or t p 0) 7 ≡ (look (expr_of t x p)).is_literal
   literal-seen = literal-by (expr_of t x p) (get_or t p 0) (ltb (get_or t p 0) 7) refl k ∙ sym (is-literal (expr_of t x p))
 
-  pub name-seen : get_or t p 0 ≡ 7 → (a : ℕ) → eqb (get_or t (p + fields_at) 0) a ≡ named a (look (expr_of t x p)).is_name
+  pub name-seen : get_or t p 0 ≡ 7 → (a : ℕ) → eqb (get_or t (p + 3) 0) a ≡ named a (look (expr_of t x p)).is_name
   unfolding named look
   name-seen b a = rw (here-is t x p s name_kind b)
 
@@ -63,12 +54,12 @@ module _ (t x : List ℕ) (p : ℕ) (s : Sound t x p) where
   -- ---- a record of two operands
 
   pub record BinaryAt : Type 0 where
-    pub body : p + number_head ≤ length t
-    pub first : p + head_bytes (get_or t p 0) ≡ p + number_head
-    pub one : Sound t x (p + number_head)
-    pub two : Sound t x (after t (p + number_head))
-    pub extents : number_head + (word_at t (p + number_head + 1) + word_at t (after t (p + number_head) + 1)) ≡ word_at t (p + 1)
-    pub is : expr_of t x p ≡ binary p (binary_of (get_or t (p + fields_at) 0)) (expr_of t x (p + number_head)) (expr_of t x (after t (p + number_head)))
+    pub body : p + 4 ≤ length t
+    pub first : p + head_bytes (get_or t p 0) ≡ p + 4
+    pub one : Sound t x (p + 4)
+    pub two : Sound t x (after t (p + 4))
+    pub extents : 4 + (word_at t (p + 4 + 1) + word_at t (after t (p + 4) + 1)) ≡ word_at t (p + 1)
+    pub is : expr_of t x p ≡ binary p (binary_of (get_or t (p + 3) 0)) (expr_of t x (p + 4)) (expr_of t x (after t (p + 4)))
 
   pub binary-at : get_or t p 0 ≡ 9 → BinaryAt
   binary-at b =
@@ -77,13 +68,13 @@ module _ (t x : List ℕ) (p : ℕ) (s : Sound t x p) where
       record { body = o.body; first = o.first; one = r.0; two = r.1.0; extents = omega (arith, r.1.1); is = o.is }
 
   pub record ConditionalAt : Type 0 where
-    pub body : p + plain_head ≤ length t
-    pub first : p + head_bytes (get_or t p 0) ≡ p + plain_head
-    pub condition : Sound t x (p + plain_head)
-    pub then : Sound t x (after t (p + plain_head))
-    pub else : Sound t x (after t (after t (p + plain_head)))
-    pub extents : plain_head + (word_at t (p + plain_head + 1) + (word_at t (after t (p + plain_head) + 1) + word_at t (after t (after t (p + plain_head)) + 1))) ≡ word_at t (p + 1)
-    pub is : expr_of t x p ≡ conditional p (expr_of t x (p + plain_head)) (expr_of t x (after t (p + plain_head))) (expr_of t x (after t (after t (p + plain_head))))
+    pub body : p + 3 ≤ length t
+    pub first : p + head_bytes (get_or t p 0) ≡ p + 3
+    pub condition : Sound t x (p + 3)
+    pub then : Sound t x (after t (p + 3))
+    pub else : Sound t x (after t (after t (p + 3)))
+    pub extents : 3 + (word_at t (p + 3 + 1) + (word_at t (after t (p + 3) + 1) + word_at t (after t (after t (p + 3)) + 1))) ≡ word_at t (p + 1)
+    pub is : expr_of t x p ≡ conditional p (expr_of t x (p + 3)) (expr_of t x (after t (p + 3))) (expr_of t x (after t (after t (p + 3))))
 
   pub conditional-at : get_or t p 0 ≡ 10 → ConditionalAt
   conditional-at b =
@@ -106,14 +97,14 @@ module _ (t x : List ℕ) (p : ℕ) (s : Sound t x p) where
 
   -- of the accumulator, by its operator
   pub fold-seen : get_or t p 0 ≡ 9 → (a : ℕ) → of_name a (look (expr_of t x p)).folds ≡
-      cond (named a (look (expr_of t x (p + number_head))).is_name) (fold_in (binary_of (get_or t (p + fields_at) 0))) none
-  fold-seen b a = rw (binary-at b).is (folds-binary a p (binary_of (get_or t (p + fields_at) 0)) (expr_of t x (p + number_head)) (expr_of t x (after t (p + number_head))))
+      cond (named a (look (expr_of t x (p + 4))).is_name) (fold_in (binary_of (get_or t (p + 3) 0))) none
+  fold-seen b a = rw (binary-at b).is (folds-binary a p (binary_of (get_or t (p + 3) 0)) (expr_of t x (p + 4)) (expr_of t x (after t (p + 4))))
 
   module _ (b : get_or t p 0 ≡ 9) (a : ℕ) (f : ℕ) (e : f ≡ p + head_bytes (get_or t p 0)) where
-    first-is : f ≡ p + number_head
+    first-is : f ≡ p + 4
     first-is = e ∙ (binary-at b).first
 
-    pub fold-taken : true ≡ named a (look (expr_of t x f)).is_name → {o : Option LogicalFold} → o ≡ fold_in (binary_of (get_or t (p + fields_at) 0)) →
+    pub fold-taken : true ≡ named a (look (expr_of t x f)).is_name → {o : Option LogicalFold} → o ≡ fold_in (binary_of (get_or t (p + 3) 0)) →
         o ≡ of_name a (look (expr_of t x p)).folds
     fold-taken h g = g ∙ sym (fold-seen b a ∙ (rw (sym (rw first-is at h))))
 
@@ -128,33 +119,33 @@ module _ (t x : List ℕ) (p : ℕ) (s : Sound t x p) where
 
     module _ (b : get_or t p 0 ≡ 9) where
       sum_is : append_sum t limit a (expr_of t x p) ≡
-          sum_to a (binary_of (get_or t (p + fields_at) 0)) (look (expr_of t x (p + number_head))).is_name (items_list t limit (expr_of t x (after t (p + number_head))))
+          sum_to a (binary_of (get_or t (p + 3) 0)) (look (expr_of t x (p + 4))).is_name (items_list t limit (expr_of t x (after t (p + 4))))
       unfolding append_sum
       sum_is = rw (binary-at b).is
 
-      pub other-sum : (get_or t (p + fields_at) 0 ≡ 8 → ⊥) → none ≡ append_sum t limit a (expr_of t x p)
+      pub other-sum : (get_or t (p + 3) 0 ≡ 8 → ⊥) → none ≡ append_sum t limit a (expr_of t x p)
       other-sum h =
-          sym (sum_is ∙ no_plus (get_or t (p + fields_at) 0) h a (look (expr_of t x (p + number_head))).is_name (items_list t limit (expr_of t x (after t (p + number_head)))))
+          sym (sum_is ∙ no_plus (get_or t (p + 3) 0) h a (look (expr_of t x (p + 4))).is_name (items_list t limit (expr_of t x (after t (p + 4)))))
 
-      module _ (n : get_or t (p + fields_at) 0 ≡ 8) where
+      module _ (n : get_or t (p + 3) 0 ≡ 8) where
         plus-is : append_sum t limit a (expr_of t x p) ≡
-            cond (named a (look (expr_of t x (p + number_head))).is_name) (items_list t limit (expr_of t x (after t (p + number_head)))) none
-        plus-is = sum_is ∙ (rw n (plus a (look (expr_of t x (p + number_head))).is_name (items_list t limit (expr_of t x (after t (p + number_head))))))
+            cond (named a (look (expr_of t x (p + 4))).is_name) (items_list t limit (expr_of t x (after t (p + 4)))) none
+        plus-is = sum_is ∙ (rw n (plus a (look (expr_of t x (p + 4))).is_name (items_list t limit (expr_of t x (after t (p + 4))))))
 
-        pub sum-to-another : false ≡ named a (look (expr_of t x (p + number_head))).is_name → none ≡ append_sum t limit a (expr_of t x p)
+        pub sum-to-another : false ≡ named a (look (expr_of t x (p + 4))).is_name → none ≡ append_sum t limit a (expr_of t x p)
         sum-to-another h = sym (plus-is ∙ (rw (sym h)))
 
-        pub sum-of-list : true ≡ named a (look (expr_of t x (p + number_head))).is_name → get_or t (after t (p + number_head)) 0 ≡ 12 →
-            some (machine t limit (expr_of t x (after t (p + number_head)))) ≡ append_sum t limit a (expr_of t x p)
+        pub sum-of-list : true ≡ named a (look (expr_of t x (p + 4))).is_name → get_or t (after t (p + 4)) 0 ≡ 12 →
+            some (machine t limit (expr_of t x (after t (p + 4)))) ≡ append_sum t limit a (expr_of t x p)
         sum-of-list h l =
-            let q = kind-here t x (after t (p + number_head)) (binary-at b).two in
-            sym (plus-is ∙ (rw (sym h) (list-items t limit (expr_of t x (after t (p + number_head))) (q.high (omega (arith, l)) ∙ l))))
+            let q = kind-here t x (after t (p + 4)) (binary-at b).two in
+            sym (plus-is ∙ (rw (sym h) (list-items t limit (expr_of t x (after t (p + 4))) (q.high (omega (arith, l)) ∙ l))))
 
-        pub sum-of-another : true ≡ named a (look (expr_of t x (p + number_head))).is_name → (get_or t (after t (p + number_head)) 0 ≡ 12 → ⊥) →
+        pub sum-of-another : true ≡ named a (look (expr_of t x (p + 4))).is_name → (get_or t (after t (p + 4)) 0 ≡ 12 → ⊥) →
             none ≡ append_sum t limit a (expr_of t x p)
         sum-of-another h l =
-            let q = kind-here t x (after t (p + number_head)) (binary-at b).two in
-            sym (plus-is ∙ (rw (sym h) (no_items t limit (expr_of t x (after t (p + number_head))) (q.other 12 (omega arith) l))))
+            let q = kind-here t x (after t (p + 4)) (binary-at b).two in
+            sym (plus-is ∙ (rw (sym h) (no_items t limit (expr_of t x (after t (p + 4))) (q.other 12 (omega arith) l))))
 
     -- ---- the append path
 
@@ -163,33 +154,33 @@ module _ (t x : List ℕ) (p : ℕ) (s : Sound t x p) where
 
     module _ (b : get_or t p 0 ≡ 10) where
       guarded-is : append_step t limit a (expr_of t x p) ≡
-          cond (named a (look (expr_of t x (after t (after t (p + plain_head))))).is_name)
-          (appending (some (machine t limit (expr_of t x (p + plain_head)))) (append_sum t limit a (expr_of t x (after t (p + plain_head))))) none
+          cond (named a (look (expr_of t x (after t (after t (p + 3))))).is_name)
+          (appending (some (machine t limit (expr_of t x (p + 3)))) (append_sum t limit a (expr_of t x (after t (p + 3))))) none
       unfolding append_step
       guarded-is = rw (conditional-at b).is
 
-      pub guard-of-another : false ≡ named a (look (expr_of t x (after t (after t (p + plain_head))))).is_name → none ≡ append_step t limit a (expr_of t x p)
+      pub guard-of-another : false ≡ named a (look (expr_of t x (after t (after t (p + 3))))).is_name → none ≡ append_step t limit a (expr_of t x p)
       guard-of-another h = sym (guarded-is ∙ (rw (sym h)))
 
-      pub guarded-here : true ≡ named a (look (expr_of t x (after t (after t (p + plain_head))))).is_name → {o : Option Does} →
-          o ≡ append_sum t limit a (expr_of t x (after t (p + plain_head))) → appending (some (machine t limit (expr_of t x (p + plain_head)))) o ≡ append_step t limit a (expr_of t x p)
+      pub guarded-here : true ≡ named a (look (expr_of t x (after t (after t (p + 3))))).is_name → {o : Option Does} →
+          o ≡ append_sum t limit a (expr_of t x (after t (p + 3))) → appending (some (machine t limit (expr_of t x (p + 3)))) o ≡ append_step t limit a (expr_of t x p)
       guarded-here h e = rw e (sym (guarded-is ∙ (rw (sym h))))
 
   -- ---- as the functions find it
 
-  module _ (b : get_or t p 0 ≡ 9) (a : ℕ) (n : get_or t (p + fields_at) 0 ≡ 8) (f : ℕ) (e : f ≡ p + head_bytes (get_or t p 0)) (q : ℕ) (g : q ≡ after t f)
+  module _ (b : get_or t p 0 ≡ 9) (a : ℕ) (n : get_or t (p + 3) 0 ≡ 8) (f : ℕ) (e : f ≡ p + head_bytes (get_or t p 0)) (q : ℕ) (g : q ≡ after t f)
       (h : true ≡ named a (look (expr_of t x f)).is_name) where
-    list-is : q ≡ after t (p + number_head)
+    list-is : q ≡ after t (p + 4)
     list-is = g ∙ ap (λ (m : ℕ). after t m) (e ∙ (binary-at b).first)
 
-    to-name : true ≡ named a (look (expr_of t x (p + number_head))).is_name
+    to-name : true ≡ named a (look (expr_of t x (p + 4))).is_name
     to-name = rw (e ∙ (binary-at b).first) at h
 
     pub items-found : get_or t q 0 ≡ 12 → ((limit : ℕ) → some (machine t limit (expr_of t x q)) ≡ append_sum t limit a (expr_of t x p)) ×
         (Sound t x q × (word_at t (q + 1) < word_at t (p + 1)))
     items-found l =
         let o = binary-at b in
-        let m : get_or t (after t (p + number_head)) 0 ≡ 12 = rw list-is at l in
+        let m : get_or t (after t (p + 4)) 0 ≡ 12 = rw list-is at l in
         rw list-is ((λ limit. sum-of-list a limit b n to-name m, (o.two, omega (arith, o.extents))))
 
     pub items-missing : (get_or t q 0 ≡ 12 → ⊥) → (limit : ℕ) → none ≡ append_sum t limit a (expr_of t x p)
@@ -199,13 +190,13 @@ module _ (t x : List ℕ) (p : ℕ) (s : Sound t x p) where
   then-sound b a f e q g = let o = conditional-at b in rw (g ∙ ap (λ (m : ℕ). after t m) (e ∙ o.first)) o.then
 
   module _ (b : get_or t p 0 ≡ 10) (a : ℕ) (f : ℕ) (e : f ≡ p + head_bytes (get_or t p 0)) (q : ℕ) (g : q ≡ after t f) (r : ℕ) (i : r ≡ after t q) where
-    guard-is : f ≡ p + plain_head
+    guard-is : f ≡ p + 3
     guard-is = e ∙ (conditional-at b).first
 
-    then_is : q ≡ after t (p + plain_head)
+    then_is : q ≡ after t (p + 3)
     then_is = g ∙ ap (λ (m : ℕ). after t m) guard-is
 
-    else_is : r ≡ after t (after t (p + plain_head))
+    else_is : r ≡ after t (after t (p + 3))
     else_is = i ∙ ap (λ (m : ℕ). after t m) then_is
 
     pub guard-sound : Sound t x f × (Sound t x q × Sound t x r)
@@ -218,8 +209,8 @@ module _ (t x : List ℕ) (p : ℕ) (s : Sound t x p) where
       guarded-by : (limit : ℕ) {o : Option Does} → o ≡ append_sum t limit a (expr_of t x q) →
           appending (some (machine t limit (expr_of t x f))) o ≡ append_step t limit a (expr_of t x p)
       guarded-by limit {o} j =
-          let k : true ≡ named a (look (expr_of t x (after t (after t (p + plain_head))))).is_name = rw else_is at h in
-          let l : o ≡ append_sum t limit a (expr_of t x (after t (p + plain_head))) = rw then_is at j in
+          let k : true ≡ named a (look (expr_of t x (after t (after t (p + 3))))).is_name = rw else_is at h in
+          let l : o ≡ append_sum t limit a (expr_of t x (after t (p + 3))) = rw then_is at j in
           rw guard-is (guarded-here a limit b k l)
 
       pub guard-unlisted : (l : Listed) → l ≡ Listed.No → ((limit : ℕ) → items_seen t x limit l ≡ append_sum t limit a (expr_of t x q)) →
@@ -228,12 +219,12 @@ module _ (t x : List ℕ) (p : ℕ) (s : Sound t x p) where
 
       pub guard-found : (l : Listed) (m : ℕ) → l ≡ Listed.At m →
           ((limit : ℕ) → items_seen t x limit l ≡ append_sum t limit a (expr_of t x q)) × ItemsIn t x q l →
-          ((limit : ℕ) → path_seen t x limit (guarded_by f m) ≡ append_step t limit a (expr_of t x p)) × PathIn t x p (guarded_by f m)
+          ((limit : ℕ) → path_seen t x limit (Path.Guarded f m) ≡ append_step t limit a (expr_of t x p)) × PathIn t x p (Path.Guarded f m)
       guard-found l m j k =
           let v : ((limit : ℕ) → items_seen t x limit (Listed.At m) ≡ append_sum t limit a (expr_of t x q)) × ItemsIn t x q (Listed.At m) = rw j at k in
           let o = conditional-at b in
-          let n : word_at t (m + 1) < word_at t (after t (p + plain_head) + 1) = rw then_is at v.1.1 in
-          (λ limit. guarded-by limit (v.0 limit), (guard-sound.0, v.1.0, rw guard-is (omega (arith, n, o.extents)), omega (arith, n, o.extents)))
+          let n : word_at t (m + 1) < word_at t (after t (p + 3) + 1) = rw then_is at v.1.1 in
+          (λ limit. guarded-by limit (v.0 limit), (guard-sound.0, v.1.0, rw guard-is (omega (arith, n, o.extents))))
 
   module _ (b : get_or t p 0 ≡ 10 → ⊥) (a : ℕ) where
     pub step-unlisted : (l : Listed) → l ≡ Listed.No → ((limit : ℕ) → items_seen t x limit l ≡ append_sum t limit a (expr_of t x p)) →
@@ -242,10 +233,10 @@ module _ (t x : List ℕ) (p : ℕ) (s : Sound t x p) where
 
     pub step-found : (l : Listed) (m : ℕ) → l ≡ Listed.At m →
         ((limit : ℕ) → items_seen t x limit l ≡ append_sum t limit a (expr_of t x p)) × ItemsIn t x p l →
-        ((limit : ℕ) → path_seen t x limit (unguarded m) ≡ append_step t limit a (expr_of t x p)) × PathIn t x p (unguarded m)
+        ((limit : ℕ) → path_seen t x limit (Path.Plain m) ≡ append_step t limit a (expr_of t x p)) × PathIn t x p (Path.Plain m)
     step-found l m j e =
         let v : ((limit : ℕ) → items_seen t x limit (Listed.At m) ≡ append_sum t limit a (expr_of t x p)) × ItemsIn t x p (Listed.At m) = rw j at e in
-        (λ limit. plain_here a limit b (v.0 limit), (v.1.0, v.1.0, v.1.1, v.1.1))
+        (λ limit. plain_here a limit b (v.0 limit), v.1)
 
 -- ---- from an empty list, with a literal for a condition and the accumulator for a result
 

@@ -8,7 +8,6 @@ use lib.ListN.{get_or}
 use Rattle.meaning.specs.Expr as Expr
 use Rattle.meaning.specs.Expr.{Expr, literal, name, unary, binary, conditional, select, list_of, map_of, comprehension, call, none_call, or_value, LogicalFold}
 use Rattle.meaning.specs.Kinds.{unary_kind, binary_kind, function_kind, Called, to_one, to_none, to_two, numbered, unaries, binaries, functions}
-use Rattle.table_layout.specs.Layout.{fields_at}
 use Rattle.rooms.specs.declared.value.Value.TheVariants as Value
 use Rattle.rooms.specs.declared.scope.Scope.{Scope}
 use Rattle.rooms.specs.Rooms.{Rooms}
@@ -224,13 +223,13 @@ module _ (t x : List ℕ) (p : ℕ) where
   called-shape (some to_two) = refl
 
   module _ (s : Sound t x p) where
-    pub call-here : get_or t p 0 ≡ 16 → call_shape (get_or t (p + fields_at) 0) ≡ shape_of (expr_of t x p)
-    call-here b = rw (here-is t x p s function_kind b) (called-shape (numbered functions (get_or t (p + fields_at) 0)))
+    pub call-here : get_or t p 0 ≡ 16 → call_shape (get_or t (p + 3) 0) ≡ shape_of (expr_of t x p)
+    call-here b = rw (here-is t x p s function_kind b) (called-shape (numbered functions (get_or t (p + 3) 0)))
 
-    pub unary-here : get_or t p 0 ≡ 8 → (o : Unary) → unary_seen o ≡ unary_of (get_or t (p + fields_at) 0) → Shape.Operands (Fixed.Unary o) ≡ shape_of (expr_of t x p)
+    pub unary-here : get_or t p 0 ≡ 8 → (o : Unary) → unary_seen o ≡ unary_of (get_or t (p + 3) 0) → Shape.Operands (Fixed.Unary o) ≡ shape_of (expr_of t x p)
     unary-here b o e = rw (here-is t x p s unary_kind b) (ap (λ (q : Unary). Shape.Operands (Fixed.Unary q)) (sym (unary-shape o) ∙ ap unary_shape e))
 
-    pub binary-here : get_or t p 0 ≡ 9 → (o : Binary) → binary_seen o ≡ binary_of (get_or t (p + fields_at) 0) → Shape.Operands (Fixed.Binary o) ≡ shape_of (expr_of t x p)
+    pub binary-here : get_or t p 0 ≡ 9 → (o : Binary) → binary_seen o ≡ binary_of (get_or t (p + 3) 0) → Shape.Operands (Fixed.Binary o) ≡ shape_of (expr_of t x p)
     binary-here b o e = rw (here-is t x p s binary_kind b) (ap (λ (q : Binary). Shape.Operands (Fixed.Binary q)) (sym (binary-shape o) ∙ ap binary_shape e))
 
     pub leaf-shape-here : get_or t p 0 < 8 → Shape.Leaf ≡ shape_of (expr_of t x p)

@@ -6,7 +6,7 @@ use Rattle.meaning.specs.Look.{of_name, named}
 use Rattle.meaning.specs.Meaning.{look}
 use Rattle.rooms.specs.declared.value.Value.{Value}
 use Rattle.rooms.specs.Value.{parts_of}
-use Rattle.table_layout.specs.Layout.{word_at, after, fields_at, after_number, comprehension_head}
+use Rattle.table_layout.specs.Layout.{word_at, after}
 use Rattle.table_check.specs.Records.{Sound, expr_of}
 use Rattle.machine.specs.Outcomes.{Does}
 use Rattle.machine.specs.Comprehension as Machine
@@ -14,7 +14,6 @@ use Rattle.machine.specs.Comprehension.{AppendStep, empty_parts}
 use Rattle.machine.specs.Machine.{machine, append_step}
 use Rattle.eval_shapes.specs.declared.comprehensions.Path.{Path}
 use Rattle.eval_shapes.specs.declared.comprehensions.Path.TheVariants as Path
-use Rattle.eval_shapes.specs.declared.comprehensions.Appending.{Appending}
 use Rattle.eval_shapes.specs.declared.comprehensions.Listed.{Listed}
 use Rattle.eval_shapes.specs.declared.comprehensions.Listed.TheVariants as Listed
 use Rattle.eval_shapes.specs.declared.comprehensions.Places.{Places}
@@ -24,13 +23,13 @@ use Rattle.eval_shapes.specs.declared.comprehensions.Places.{Places}
 -- of the comprehension at p
 abbrev pub places_at : List ℕ → ℕ → Places
 places_at t p =
-    let c : ℕ = after t (after t (p + comprehension_head)) in
-    record { at = p; accumulator = get_or t (p + fields_at) 0; item = get_or t (p + after_number) 0; condition = c; step = after t c; result = after t (after t c) }
+    let c : ℕ = after t (after t (p + 5)) in
+    record { accumulator = get_or t (p + 3) 0; item = get_or t (p + 4) 0; condition = c; step = after t c; result = after t (after t c) }
 
-abbrev pub loop_at : (t x : List ℕ) (limit : ℕ) → Places → Machine.Loop
-loop_at t x limit c =
+abbrev pub loop_at : (t x : List ℕ) (limit p : ℕ) → Places → Machine.Loop
+loop_at t x limit p c =
     record {
-      place = c.at;
+      place = p;
       accumulator = c.accumulator;
       item = c.item;
       fold = of_name c.accumulator (look (expr_of t x c.step)).folds;
@@ -60,22 +59,23 @@ path_of t x limit c start =
     (append_step t limit c.accumulator (expr_of t x c.step)) none)
     none
 
+-- the places of a guard and an items list
+abbrev pub path_seen : (t x : List ℕ) (limit : ℕ) → Path → Option AppendStep
+path_seen t x limit (Path.Plain l) = some (record { guard = none; items = machine t limit (expr_of t x l) })
+path_seen t x limit (Path.Guarded g l) = some (record { guard = some (machine t limit (expr_of t x g)); items = machine t limit (expr_of t x l) })
+path_seen t x limit Path.No = none
+
 abbrev pub guard_at : Bool → Does → Option Does
 guard_at true guard = some guard
 guard_at false guard = none
 
-abbrev pub append_at : (t x : List ℕ) (limit : ℕ) → Appending → AppendStep
-append_at t x limit a = record { guard = guard_at a.guarded (machine t limit (expr_of t x a.guard)); items = machine t limit (expr_of t x a.list) }
+abbrev pub append_at : (t x : List ℕ) (limit : ℕ) → Bool → (guard list : ℕ) → AppendStep
+append_at t x limit guarded g l = record { guard = guard_at guarded (machine t limit (expr_of t x g)); items = machine t limit (expr_of t x l) }
 
--- the places of a guard and an items list
-abbrev pub path_seen : (t x : List ℕ) (limit : ℕ) → Path → Option AppendStep
-path_seen t x limit (Path.By a) = some (append_at t x limit a)
-path_seen t x limit Path.No = none
-
--- accepted records, each shorter than the step
+-- accepted records, together shorter than the step
 abbrev pub PathIn : (t x : List ℕ) → (step : ℕ) → Path → Type 0
-PathIn t x p (Path.By a) =
-    Sound t x a.guard × Sound t x a.list × (word_at t (a.guard + 1) < word_at t (p + 1)) × (word_at t (a.list + 1) < word_at t (p + 1))
+PathIn t x p (Path.Plain l) = Sound t x l × (word_at t (l + 1) < word_at t (p + 1))
+PathIn t x p (Path.Guarded g l) = Sound t x g × Sound t x l × (word_at t (g + 1) + word_at t (l + 1) < word_at t (p + 1))
 PathIn t x p Path.No = Unit {0}
 
 -- ---- the items list of `accumulator + [..]`

@@ -1,10 +1,8 @@
--- Records as the code evaluates them: a literal or a name without a scope; marks.
+-- Records as the code goes about them: a literal or a name without a scope; marks.
 use Rattle.std.specs.Prelude.{ℕ, ◌+◌, cond, List, ltb, eqb, get_or}
 use Rattle.meaning.specs.Expr.{Expr, literal, name, unary, binary, conditional, select, list_of, map_of, comprehension, call, none_call, or_value}
 use Rattle.rooms.specs.declared.value.Value.{Value}
 use Rattle.rooms.specs.declared.value.Value.TheVariants as Value
-use Rattle.table_layout.specs.Layout.{plain_head}
-use Rattle.table_check.specs.Records.{mark_byte}
 use Rattle.machine.specs.declared.outcome.Used.{Used}
 use Rattle.machine.specs.declared.outcome.Limit.TheVariants as Limit
 use Rattle.machine.specs.declared.outcome.Outcome.{Outcome}
@@ -18,7 +16,7 @@ use Rattle.machine.specs.Literals.{literal_value, name_out}
 abbrev pub leaf_kinds : ℕ
 leaf_kinds = 8
 
--- the name of a name's record; 0 for any other
+-- the name of a name's record; 0 of any other
 abbrev pub slot_in : Expr → ℕ
 slot_in (literal p x) = 0
 slot_in (name p n) = n
@@ -33,7 +31,7 @@ slot_in (call p f e) = 0
 slot_in (none_call p) = 0
 slot_in (or_value p e f) = 0
 
--- the value of a literal's record; Null for any other, which is never asked for
+-- the value of a literal's record; Null of any other, which nobody asks for
 abbrev pub literal_of : List ℕ → Expr → Value
 literal_of t (literal p x) = literal_value t p x
 literal_of t (name p n) = Value.Null
@@ -48,7 +46,7 @@ literal_of t (call p f e) = Value.Null
 literal_of t (none_call p) = Value.Null
 literal_of t (or_value p e f) = Value.Null
 
--- what a leaf gives after its step, with v in its slot; Null for any other record, which is never asked for
+-- what a leaf gives after its step, with v in its slot; Null of any other record, which nobody asks for
 abbrev pub leaf_out : List ℕ → Expr → Value → Used → Outcome
 leaf_out t (literal p x) v u = Outcome.Value (literal_value t p x) u
 leaf_out t (name p n) v u = name_out p v u
@@ -70,4 +68,4 @@ leaf_step t limit e v u = cond (ltb u.steps limit) (leaf_out t e v (stepped u)) 
 
 -- the record that a mark stands on, or the record itself
 abbrev pub unmarked_at : List ℕ → ℕ → ℕ
-unmarked_at t p = cond (eqb (get_or t p 0) mark_byte) (p + plain_head) p
+unmarked_at t p = cond (eqb (get_or t p 0) 14) (p + 3) p

@@ -1,11 +1,11 @@
--- Records as the code evaluates them: how a record is evaluated, what follows its first operand.
+-- Records as the code goes about them: how a record is evaluated, what follows its first operand.
 use Rattle.std.specs.Prelude.{ℕ, ◌+◌, ◌≡◌, List}
 use Rattle.std.proofs.Math.Option.{Option, none, some}
 use Rattle.meaning.specs.Expr as Expr
 use Rattle.meaning.specs.Expr.{Expr, literal, name, unary, binary, conditional, select, list_of, map_of, comprehension, call, none_call, or_value, LogicalFold}
 use Rattle.meaning.specs.Kinds.{Called, to_one, to_none, to_two, numbered, functions}
 use Rattle.rooms.specs.Rooms.{Rooms}
-use Rattle.table_layout.specs.Layout.{after, plain_head, number_head, select_head}
+use Rattle.table_layout.specs.Layout.{after}
 use Rattle.machine.specs.declared.outcome.Outcome.{Outcome}
 use Rattle.machine.specs.Outcomes.{Res, with_value}
 use Rattle.machine.specs.Literals.{field_value}
@@ -103,12 +103,12 @@ shape_of (or_value p e f) = Shape.Operands Fixed.OrValue
 
 -- where the operand that is begun first stands
 abbrev pub first_at : List ℕ → ℕ → Fixed → ℕ
-first_at t p (Fixed.Unary o) = p + number_head
-first_at t p (Fixed.Binary o) = p + number_head
-first_at t p Fixed.Conditional = p + plain_head
-first_at t p (Fixed.Select y) = p + select_head
-first_at t p (Fixed.Call f) = p + number_head
-first_at t p Fixed.OrValue = after t (p + number_head)
+first_at t p (Fixed.Unary o) = p + 4
+first_at t p (Fixed.Binary o) = p + 4
+first_at t p Fixed.Conditional = p + 3
+first_at t p (Fixed.Select y) = p + 8
+first_at t p (Fixed.Call f) = p + 4
+first_at t p Fixed.OrValue = after t (p + 4)
 
 abbrev pub stopped : Res → Next × Rooms
 stopped x = (Next.Stop x.0, x.1)
@@ -116,11 +116,11 @@ stopped x = (Next.Stop x.0, x.1)
 -- after the operand that is begun first
 abbrev pub next_of : List ℕ → ℕ → ℕ → Fixed → Outcome → Rooms → Next × Rooms
 next_of t limit p (Fixed.Unary o) x r = (Next.Stop (unary_out p (unary_seen o) x), r)
-next_of t limit p (Fixed.Binary o) x r = (go_next (left_of (binary_seen o) x) (after t (p + number_head)) x, r)
-next_of t limit p Fixed.Conditional x r = (ask_next (asked_of p x) (after t (p + plain_head)) (after t (after t (p + plain_head))), r)
+next_of t limit p (Fixed.Binary o) x r = (go_next (left_of (binary_seen o) x) (after t (p + 4)) x, r)
+next_of t limit p Fixed.Conditional x r = (ask_next (asked_of p x) (after t (p + 3)) (after t (after t (p + 3))), r)
 next_of t limit p (Fixed.Select y) x r = stopped (with_value x r (λ v u q. select_field limit p y (field_value t p) v u q))
 next_of t limit p (Fixed.Call f) x r = stopped (with_value x r (λ v u q. called p (function_seen f) v u q))
-next_of t limit p Fixed.OrValue x r = (value_next x (p + number_head), r)
+next_of t limit p Fixed.OrValue x r = (value_next x (p + 4), r)
 
 abbrev pub NextIn : Next → Rooms → Next × Rooms → Type 0
 NextIn n r m = ◌≡◌ {A = Next × Rooms} (n, r) m

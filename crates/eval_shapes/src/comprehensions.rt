@@ -3,7 +3,7 @@ ghost use Rattle.std.specs.Prelude.{◌≡◌, ℕ, ◌+◌, get_or};
 ghost use Rattle.meaning.specs.Kinds.{comprehension_kind, conditional_kind};
 ghost use Rattle.meaning.specs.Look.{of_name, named};
 ghost use Rattle.meaning.specs.Meaning.{look};
-ghost use Rattle.table_layout.specs.Layout.{after, comprehension_head};
+ghost use Rattle.table_layout.specs.Layout.{after};
 ghost use Rattle.table_check.specs.Records.{Sound, expr_of, kind_byte, binary_of};
 ghost use Rattle.machine.specs.Machine.{append_sum, append_step};
 ghost use Rattle.eval_comprehension.specs.Steps.{folds_seen};
@@ -17,10 +17,9 @@ use table_layout::fields::{number_at, second_at};
 use table_layout::kinds::{ADD, AND, BINARY, CONDITIONAL, LIST, NAME, OR};
 use table_layout::outline::{end_at, first_operand, kind_at};
 
-// The place of a comprehension, with the names and the operands that its loop needs.
+// The names and the operands of a comprehension that its loop needs.
 #[derive(Drop)]
 pub struct Places {
-    pub at: usize,
     pub accumulator: usize,
     pub item: usize,
     pub condition: usize,
@@ -29,14 +28,12 @@ pub struct Places {
 }
 
 pub fn places_at(table: &[u8], literal: &[u8], at: usize, init: usize) -> Places
-    requires { Sound table.now literal.now at × (get_or table.now at 0 ≡ kind_byte comprehension_kind)
-        × (init ≡ after table.now (at + comprehension_head)) }
+    requires { Sound table.now literal.now at × (get_or table.now at 0 ≡ kind_byte comprehension_kind) × (init ≡ after table.now (at + 5)) }
     ensures { result ≡ places_at table.now at }
 {
     let condition = end_at(table, init);
     let step = end_at(table, condition);
     Places {
-        at,
         accumulator: number_at(table, at) as usize,
         item: second_at(table, at) as usize,
         condition,
@@ -83,17 +80,11 @@ pub fn folds_at(table: &[u8], literal: &[u8], step: usize, accumulator: usize) -
 
 // ---- the append path
 
-// What a turn of the append path begins: the guard, if there is one, and the items list. Without a guard, `guard` is the place of the list.
-#[derive(Drop)]
-pub struct Appending {
-    pub guarded: bool,
-    pub guard: usize,
-    pub list: usize,
-}
-
+// Where the items list stands; the place of a guard comes before it.
 #[derive(Drop)]
 pub enum Path {
-    By(Appending),
+    Plain(usize),
+    Guarded(usize, usize),
     No,
 }
 
@@ -107,9 +98,7 @@ pub enum Listed {
 // `accumulator + [..]`.
 fn items_of(table: &[u8], literal: &[u8], at: usize, accumulator: usize) -> Listed
     requires { Sound table.now literal.now at }
-    ensures { ((limit : ℕ) → items_seen table.now literal.now limit result ≡ append_sum table.now limit accumulator
-        (expr_of table.now literal.now at))
-        × ItemsIn table.now literal.now at result }
+    ensures { ((limit : ℕ) → items_seen table.now literal.now limit result ≡ append_sum table.now limit accumulator (expr_of table.now literal.now at)) × ItemsIn table.now literal.now at result }
 {
     if kind_at(table, at) != BINARY {
         return Listed::No;
@@ -132,9 +121,7 @@ fn items_of(table: &[u8], literal: &[u8], at: usize, accumulator: usize) -> List
 // `guard ? accumulator + [..] : accumulator`.
 fn guarded_step(table: &[u8], literal: &[u8], step: usize, accumulator: usize) -> Path
     requires { Sound table.now literal.now step × (get_or table.now step 0 ≡ kind_byte conditional_kind) }
-    ensures { ((limit : ℕ) → path_seen table.now literal.now limit result ≡ append_step table.now limit accumulator
-        (expr_of table.now literal.now step))
-        × PathIn table.now literal.now step result }
+    ensures { ((limit : ℕ) → path_seen table.now literal.now limit result ≡ append_step table.now limit accumulator (expr_of table.now literal.now step)) × PathIn table.now literal.now step result }
 {
     let guard = first_operand(table, step);
     let then = end_at(table, guard);
@@ -142,34 +129,20 @@ fn guarded_step(table: &[u8], literal: &[u8], step: usize, accumulator: usize) -
         return Path::No;
     }
     match items_of(table, literal, then, accumulator) {
-        Listed::At(list) => {
-            Path::By(Appending {
-                guarded: true,
-                guard,
-                list,
-            })
-        }
+        Listed::At(list) => Path::Guarded(guard, list),
         Listed::No => Path::No,
     }
 }
 
 fn append_step(table: &[u8], literal: &[u8], step: usize, accumulator: usize) -> Path
     requires { Sound table.now literal.now step }
-    ensures { ((limit : ℕ) → path_seen table.now literal.now limit result ≡ append_step table.now limit accumulator
-        (expr_of table.now literal.now step))
-        × PathIn table.now literal.now step result }
+    ensures { ((limit : ℕ) → path_seen table.now literal.now limit result ≡ append_step table.now limit accumulator (expr_of table.now literal.now step)) × PathIn table.now literal.now step result }
 {
     if kind_at(table, step) == CONDITIONAL {
         return guarded_step(table, literal, step, accumulator);
     }
     match items_of(table, literal, step, accumulator) {
-        Listed::At(list) => {
-            Path::By(Appending {
-                guarded: false,
-                guard: list,
-                list,
-            })
-        }
+        Listed::At(list) => Path::Plain(list),
         Listed::No => Path::No,
     }
 }
@@ -183,11 +156,8 @@ fn is_literal(table: &[u8], literal: &[u8], at: usize) -> bool
 
 // From an empty list, with a literal for a condition and the accumulator for a result.
 pub fn append_path(table: &[u8], literal: &[u8], places: Places, start: Value) -> Path
-    requires { Sound table.now literal.now places.condition × Sound table.now literal.now places.step
-        × Sound table.now literal.now places.result }
-    ensures { ((limit : ℕ) → path_seen table.now literal.now limit result ≡ path_of table.now literal.now
-        limit places start)
-        × PathIn table.now literal.now places.step result }
+    requires { Sound table.now literal.now places.condition × Sound table.now literal.now places.step × Sound table.now literal.now places.result }
+    ensures { ((limit : ℕ) → path_seen table.now literal.now limit result ≡ path_of table.now literal.now limit places start) × PathIn table.now literal.now places.step result }
 {
     if !is_empty_list(start) {
         return Path::No;

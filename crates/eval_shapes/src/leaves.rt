@@ -2,8 +2,8 @@
 ghost use Rattle.std.specs.Prelude.{◌≡◌, ◌+◌, ◌<◌, ◌≤◌, length, get_or, eqb, ltb};
 ghost use Rattle.meaning.specs.Kinds.{name_kind};
 ghost use Rattle.meaning.specs.Limits.{names};
-ghost use Rattle.table_layout.specs.Layout.{word_at, fields_at, span_size_at, span_head};
-ghost use Rattle.table_check.specs.Records.{Sound, SoundPart, expr_of, kind_byte, mark_byte};
+ghost use Rattle.table_layout.specs.Layout.{word_at};
+ghost use Rattle.table_check.specs.Records.{Sound, SoundPart, expr_of, kind_byte};
 ghost use Rattle.machine.specs.Literals.{name_out};
 ghost use Rattle.eval_shapes.specs.Leaves.{leaf_kinds, literal_of, slot_in, leaf_out, leaf_step, unmarked_at};
 
@@ -21,16 +21,16 @@ pub const LEAF_KINDS: u8 = 8;
 
 // What is kept of a part of the literal text: both numbers are words of the table.
 fn string_at(table: &[u8], at: usize) -> Value
-    requires { at + span_head ≤ length table.now }
-    ensures { result ≡ Value.String TextSpace.Literal (word_at table.now (at + fields_at)) (word_at table.now (at + span_size_at)) }
+    requires { at + 7 ≤ length table.now }
+    ensures { result ≡ Value.String TextSpace.Literal (word_at table.now (at + 3)) (word_at table.now (at + 5)) }
 {
     let span = span_at(table, at);
     Value::String(TextSpace::Literal, span.offset as u16, span.size as u16)
 }
 
 fn bytes_at(table: &[u8], at: usize) -> Value
-    requires { at + span_head ≤ length table.now }
-    ensures { result ≡ Value.Bytes TextSpace.Literal (word_at table.now (at + fields_at)) (word_at table.now (at + span_size_at)) }
+    requires { at + 7 ≤ length table.now }
+    ensures { result ≡ Value.Bytes TextSpace.Literal (word_at table.now (at + 3)) (word_at table.now (at + 5)) }
 {
     let span = span_at(table, at);
     Value::Bytes(TextSpace::Literal, span.offset as u16, span.size as u16)
@@ -68,7 +68,7 @@ pub fn is_leaf(table: &[u8], at: usize) -> bool
     kind_at(table, at) < LEAF_KINDS
 }
 
-// The slot of a name's record. Any other record has 0, and the value in that slot is not used.
+// The slot of a name's record; of any other 0, whose value is not looked at.
 pub fn slot_at(table: &[u8], literal: &[u8], at: usize) -> usize
     requires { Sound table.now literal.now at }
     ensures { (result ≡ slot_in (expr_of table.now literal.now at)) × (result < names) }
@@ -114,7 +114,7 @@ pub fn leaf(
 
 pub fn is_marked(table: &[u8], at: usize) -> bool
     requires { at < length table.now }
-    ensures { result ≡ eqb (get_or table.now at 0) mark_byte }
+    ensures { result ≡ eqb (get_or table.now at 0) 14 }
 {
     kind_at(table, at) == MARK
 }

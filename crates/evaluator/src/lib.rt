@@ -2,12 +2,11 @@
 ghost use Rattle.std.specs.Prelude.{◌≡◌, min};
 ghost use Rattle.meaning.specs.Limits.{most_steps};
 ghost use Rattle.table_check.specs.Records.{Sound, expr_of};
-ghost use Rattle.rooms.specs.Rooms.{Rooms};
+ghost use Rattle.rooms.specs.Rooms.{Rooms, rooms};
 ghost use Rattle.machine.specs.Answer.{answered};
 ghost use Rattle.answer.specs.declared.Answer.{Answer};
 ghost use Rattle.answer.specs.Evaluated.{ended};
 ghost use Rattle.answer.specs.Meant.{Evaluates};
-ghost use Rattle.rooms.specs.Lent.{rooms_at_entry, rooms_at_exit};
 
 use answer::Answer;
 use bindings_sound::{Bindings, Soundness};
@@ -17,7 +16,7 @@ use rooms::scope::Scope;
 use table_check::Checked;
 use table_check::refusals::UNSOUND_BINDING;
 
-// An accepted table, run with no charges made yet, and ended. `evaluate` judges the binding room before; the contract here does not need that.
+// An accepted table, run from nothing and ended. `evaluate` has judged the binding room before; nothing here asks that it did.
 fn run(
     table: &[u8],
     literal: &[u8],
@@ -29,9 +28,7 @@ fn run(
     scope: Scope,
 ) -> Answer
     requires { Sound table.now literal.now 0 }
-    ensures { ◌≡◌ {A = Answer × Rooms} (result, rooms_at_exit literal binding_cells binding_text cells text)
-        (ended (answered table.now (min steps most_steps) (expr_of table.now literal.now 0) scope
-        (rooms_at_entry literal binding_cells binding_text cells text))) }
+    ensures { ◌≡◌ {A = Answer × Rooms} (result, rooms literal.now binding_cells.now binding_text.now cells.new text.new) (ended (answered table.now (min steps most_steps) (expr_of table.now literal.now 0) scope (rooms literal.now binding_cells.now binding_text.now cells.old text.old))) }
 {
     let nothing = Used {
         steps: 0,
@@ -54,8 +51,8 @@ fn run(
     answer::answered(cells, text, outcome)
 }
 
-// There is an answer for any table, literal text, bindings with their lent cells and text, evaluation rooms and step limit. A table is refused
-// first, then a binding room that is not sound.
+// Any table, literal text, bindings with their lent cells and text, evaluation rooms and step limit have an answer. Refused is first what the table
+// is refused for, then a binding room that is not sound.
 pub fn evaluate(
     table: &[u8],
     literal: &[u8],
@@ -66,8 +63,7 @@ pub fn evaluate(
     text: &mut [u8],
     steps: usize,
 ) -> Answer
-    ensures { Evaluates table.now bindings steps (rooms_at_entry literal binding_cells binding_text cells text) result
-        (rooms_at_exit literal binding_cells binding_text cells text) }
+    ensures { Evaluates table.now bindings steps (rooms literal.now binding_cells.now binding_text.now cells.old text.old) result (rooms literal.now binding_cells.now binding_text.now cells.new text.new) }
 {
     let checked = table_check::check(table, literal);
     if let Checked::Refused(number, place) = checked {

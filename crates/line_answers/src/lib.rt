@@ -1,12 +1,12 @@
 // The line of an answer, put into lent memory.
 // Here: the whole line. `phrases` puts its counts, places and limits, and `shortening` cuts a value that is too long.
-mod phrases;
-mod shortening;
+pub mod phrases;
+pub mod shortening;
 
 ghost use Rattle.std.specs.Prelude.{◌≡◌};
+ghost use Rattle.rooms.specs.Rooms.{rooms};
 ghost use Rattle.line_pieces.specs.Page.{Page, puts};
 ghost use Rattle.line_answers.specs.Shown.{shown_answer};
-ghost use Rattle.rooms.specs.Lent.{rooms_at_entry};
 
 use crate::phrases::{put_counts, put_limit, put_placed};
 use crate::shortening::put_cut;
@@ -14,10 +14,10 @@ use answer::Answer;
 use answer::reasons::error_number;
 use line_pieces::put_word;
 
-// The longest text of a value that is shown.
+// So much of a value is shown.
 pub const LONGEST_VALUE: usize = 1000000;
 
-// A value that is cut, the mark that it goes on, and the counts.
+// A value that is cut, that it goes on, and the counts.
 pub const LONGEST_LINE: usize = 1000128;
 
 // The answer at the start of `out`, without the end of the line; says how long it is.
@@ -30,8 +30,7 @@ pub fn put_answer(
     answer: Answer,
     out: &mut [u8],
 ) -> usize
-    ensures { ◌≡◌ {A = Page} (result, out.new)
-        (puts (shown_answer (rooms_at_entry literal binding_cells binding_text cells text) answer) (0, out.old)) }
+    ensures { ◌≡◌ {A = Page} (result, out.new) (puts (shown_answer (rooms literal.now binding_cells.now binding_text.now cells.now text.now) answer) (0, out.old)) }
 {
     match answer {
         Answer::Refused(number, place) => {

@@ -4,13 +4,12 @@ ghost use Rattle.rooms.specs.Rooms.{rooms};
 ghost use Rattle.line_pieces.specs.Page.{Page, puts};
 ghost use Rattle.line_values.specs.Shown.{shown_in};
 ghost use Rattle.line_answers.specs.Written.{shortened};
-ghost use Rattle.rooms.specs.Lent.{rooms_at_entry};
 
 use line_pieces::put_word;
 use line_values::put_value;
 use rooms::value::Value;
 
-// The value at the start of `out`, or its first `most` bytes and a mark that it goes on. One byte more is put, to see whether it is longer.
+// The value at the start of `out`, or its first `most` bytes and that it goes on. It is put one byte further, by which a longer one is seen.
 pub fn put_cut(
     literal: &[u8],
     binding_cells: &[u64],
@@ -21,8 +20,7 @@ pub fn put_cut(
     most: usize,
     out: &mut [u8],
 ) -> usize
-    ensures { ◌≡◌ {A = Page} (result, out.new)
-        (puts (shortened most (shown_in (rooms_at_entry literal binding_cells binding_text cells text) value)) (0, out.old)) }
+    ensures { ◌≡◌ {A = Page} (result, out.new) (puts (shortened most (shown_in (rooms literal.now binding_cells.now binding_text.now cells.now text.now) value)) (0, out.old)) }
 {
     if out.len() <= most {
         return put_value(

@@ -3,14 +3,13 @@ ghost use Rattle.std.specs.Prelude.{◌≡◌};
 ghost use Rattle.rooms.specs.Rooms.{rooms};
 ghost use Rattle.line_pieces.specs.Page.{Page, puts};
 ghost use Rattle.line_values.specs.Shown.{elements_shown, entries_shown, shown_to};
-ghost use Rattle.rooms.specs.Lent.{rooms_at_entry};
 
 use crate::plain::{put_plain, put_separator};
 use line_pieces::put_word;
 use rooms::value::{CellSpace, Parts, Value, parts_of, plain_of};
 use rooms_cells::cell_at;
 
-// `length` elements, a cell each, with `levels` levels left.
+// So many elements, a cell each, with so many levels left.
 #[cycle(put_elements_put_entries_put_nested)]
 fn put_elements(
     literal: &[u8],
@@ -25,9 +24,7 @@ fn put_elements(
     out: &mut [u8],
     at: usize,
 ) -> usize
-    ensures { ◌≡◌ {A = Page} (result, out.new)
-        (puts (elements_shown (λ v. shown_to levels (rooms_at_entry literal binding_cells binding_text cells text) v)
-        (rooms_at_entry literal binding_cells binding_text cells text) space first length) (at, out.old)) }
+    ensures { ◌≡◌ {A = Page} (result, out.new) (puts (elements_shown (λ v. shown_to levels (rooms literal.now binding_cells.now binding_text.now cells.now text.now) v) (rooms literal.now binding_cells.now binding_text.now cells.now text.now) space first length) (at, out.old)) }
 {
     let mut next = at;
     let mut place = first as usize;
@@ -52,7 +49,7 @@ fn put_elements(
     next
 }
 
-// `length` entries, two cells each.
+// So many entries, two cells each.
 #[cycle(put_elements_put_entries_put_nested)]
 fn put_entries(
     literal: &[u8],
@@ -67,9 +64,7 @@ fn put_entries(
     out: &mut [u8],
     at: usize,
 ) -> usize
-    ensures { ◌≡◌ {A = Page} (result, out.new)
-        (puts (entries_shown (λ v. shown_to levels (rooms_at_entry literal binding_cells binding_text cells text) v)
-        (rooms_at_entry literal binding_cells binding_text cells text) space first length) (at, out.old)) }
+    ensures { ◌≡◌ {A = Page} (result, out.new) (puts (entries_shown (λ v. shown_to levels (rooms literal.now binding_cells.now binding_text.now cells.now text.now) v) (rooms literal.now binding_cells.now binding_text.now cells.now text.now) space first length) (at, out.old)) }
 {
     let mut next = at;
     let mut place = first as usize;
@@ -107,7 +102,7 @@ fn put_entries(
     next
 }
 
-// A value and its parts, with `levels` levels left. Where the memory is full nothing more is looked at.
+// A value and its parts, with so many levels left. Where the memory is full nothing more is looked at.
 #[cycle(put_elements_put_entries_put_nested)]
 pub fn put_nested(
     literal: &[u8],
@@ -120,8 +115,7 @@ pub fn put_nested(
     out: &mut [u8],
     at: usize,
 ) -> usize
-    ensures { ◌≡◌ {A = Page} (result, out.new)
-        (puts (shown_to levels (rooms_at_entry literal binding_cells binding_text cells text) value) (at, out.old)) }
+    ensures { ◌≡◌ {A = Page} (result, out.new) (puts (shown_to levels (rooms literal.now binding_cells.now binding_text.now cells.now text.now) value) (at, out.old)) }
 {
     if levels == 0 {
         return at;

@@ -1,9 +1,9 @@
 // A value without parts, and what stands between parts, put into lent memory.
 ghost use Rattle.std.specs.Prelude.{◌≡◌};
+ghost use Rattle.rooms_comparison.specs.Seen.{seen_of};
 ghost use Rattle.line_pieces.specs.Page.{Page, puts};
 ghost use Rattle.line_values.specs.Written.{separator};
 ghost use Rattle.line_values.specs.Shown.{shown_seen};
-ghost use Rattle.rooms_comparison.specs.Lent.{seen_at_entry};
 
 use crate::scalars::{put_bool, put_numeral, put_text};
 use line_pieces::put_word;
@@ -18,7 +18,7 @@ pub fn put_plain(
     out: &mut [u8],
     at: usize,
 ) -> usize
-    ensures { ◌≡◌ {A = Page} (result, out.new) (puts (shown_seen (seen_at_entry literal binding_text text plain)) (at, out.old)) }
+    ensures { ◌≡◌ {A = Page} (result, out.new) (puts (shown_seen (seen_of literal.now binding_text.now text.now plain)) (at, out.old)) }
 {
     match plain {
         Plain::Null => put_word(out, at, b"Null"),

@@ -1,12 +1,11 @@
 // A Bool, a number and a text of a value, put into lent memory.
 ghost use Rattle.std.specs.Prelude.{◌≡◌};
-ghost use Rattle.rooms.specs.Rooms.{part};
+ghost use Rattle.rooms.specs.Rooms.{part, text_of};
 ghost use Rattle.meaning.specs.Value.{bool};
 ghost use Rattle.rooms_comparison.specs.Seen.{number_scalar};
 ghost use Rattle.line_pieces.specs.Page.{Page, puts};
 ghost use Rattle.line_pieces.specs.Spelled.{quoted};
 ghost use Rattle.line_values.specs.Written.{written_scalar};
-ghost use Rattle.rooms.specs.Lent.{span_at_entry};
 
 use line_pieces::decimals::{put_number, put_signed};
 use line_pieces::hexadecimal::put_digits;
@@ -30,7 +29,7 @@ pub fn put_text(
     out: &mut [u8],
     at: usize,
 ) -> usize
-    ensures { ◌≡◌ {A = Page} (result, out.new) (puts (quoted (span_at_entry literal binding_text text space first length)) (at, out.old)) }
+    ensures { ◌≡◌ {A = Page} (result, out.new) (puts (quoted (part (text_of literal.now binding_text.now text.now space) first length)) (at, out.old)) }
 {
     match space {
         TextSpace::Literal => put_quoted(out, at, part(literal, first as usize, length as usize)),

@@ -9,13 +9,14 @@ use native.Mathlib.Omega.{arith}
 use lib.ListN.{length, take, drop, get_elem?, length-take, length-drop}
 use lib.Dec.{leb}
 use borrow.Author.Tests.{leb-true}
-use Rattle.numbers.proofs.IntWords.{signed-small}
+use mir.Syntax.{w64}
+use mir.ValLaws.{to_z-Fits}
 use Rattle.text.specs.Utf8.{well_formed}
 use Rattle.meaning.specs.Limits.{deepest_record}
 use Rattle.meaning.specs.Errors.{WrongField, WrongExtent, UnknownKind}
 use Rattle.meaning.specs.Expr.{Expr, Elements, Pairs}
 use Rattle.meaning.specs.Kinds.{ExprKind, null_kind, bool_kind, int_kind, uint_kind, double_kind, string_kind, bytes_kind, name_kind, unary_kind, binary_kind, conditional_kind, select_kind, list_kind, map_kind, comprehension_kind, function_kind, Kind, mark, expr, Called, to_one, to_none, to_two, Row, kinds}
-use Rattle.meaning.specs.Heads.{Got, got, refused, or_refuse, Head, first, second, third, field_bytes, fields_bytes, numbers_at, row_at, head_at}
+use Rattle.meaning.specs.Heads.{Got, got, refused, or_refuse, Head, first, second, third, field_bytes, fields_bytes, little_endian, numbers_at, row_at, head_at}
 use Rattle.meaning.specs.Table.{Part, bare, marked, add_element, add_pair, Reader, elements_from, pairs_from, span, utf8, filled, called_at, body_at, as_expr, as_part, expr_at, part_at, root_at, word_bytes, read_table}
 use Rattle.meaning.specs.WellFormed.{AllBytes}
 use Rattle.meaning_laws.specs.Each.{Each, Only, Reads}
@@ -23,22 +24,22 @@ use Rattle.meaning_laws.proofs.Fine.{Perhaps}
 use Rattle.meaning_laws.proofs.Reading.{reads-got, reads-refused, reads-bind, reads-bind-any, reads_then, reads-demand, reads-or_refuse, was_read}
 use Rattle.meaning_laws.proofs.TableNumbers.{byte_at, get_elem-each, NumbersFit, head-fits}
 use Rattle.meaning_laws.proofs.TableFormed.{ReadsOnly, filled-formed, reads-name}
-use Rattle.table_layout.proofs.WordLaws as Words
-use Rattle.table_layout.specs.Layout.{word_at, fields_at, after_number, span_size_at, field_size_at}
+use Rattle.table_layout.specs.Layout.{word_at}
 use Rattle.machine.specs.Accepted.{Spells, Accepted, AcceptedElements, AcceptedPairs}
 
 -- ---- words of a table
 
 pub word_below : (table : List ℕ) → AllBytes table → (p : ℕ) → word_at table p < 2 ^ 16
-word_below table h p = Words.word_below table (λ i. byte_at table i h) p
+unfolding word_at little_endian
+word_below table h p = omega (arith, byte_at table p h, byte_at table (suc p) h)
 
 -- ---- heads: the numbers of a record are the table's words, at the places that the machine reads
 
 module _ (table : List ℕ) where
   abbrev Told : ℕ → List ℕ → ExprKind → Type 0
-  Told p ns string_kind = (first ns ≡ word_at table (p + fields_at)) × (second ns ≡ word_at table (p + span_size_at))
-  Told p ns bytes_kind = (first ns ≡ word_at table (p + fields_at)) × (second ns ≡ word_at table (p + span_size_at))
-  Told p ns select_kind = (second ns ≡ word_at table (p + after_number)) × (third ns ≡ word_at table (p + field_size_at))
+  Told p ns string_kind = (first ns ≡ word_at table (p + 3)) × (second ns ≡ word_at table (p + 5))
+  Told p ns bytes_kind = (first ns ≡ word_at table (p + 3)) × (second ns ≡ word_at table (p + 5))
+  Told p ns select_kind = (second ns ≡ word_at table (p + 4)) × (third ns ≡ word_at table (p + 6))
   Told p ns null_kind = Unit {0}
   Told p ns bool_kind = Unit {0}
   Told p ns int_kind = Unit {0}
@@ -58,12 +59,12 @@ module _ (table : List ℕ) where
   ToldKind p (expr k) ns = Told p ns k
 
   RowTells : ℕ → Row → Type 0
-  RowTells p r = ToldKind p r.kind (numbers_at word_bytes table r.fields (p + fields_at))
+  RowTells p r = ToldKind p r.kind (numbers_at word_bytes table r.fields (p + 3))
 
-  words-tell : (p : ℕ) → (word_at table (p + fields_at) ≡ word_at table (p + fields_at)) × (word_at table (p + fields_at + word_bytes) ≡ word_at table (p + span_size_at))
+  words-tell : (p : ℕ) → (word_at table (p + 3) ≡ word_at table (p + 3)) × (word_at table (p + 3 + 2) ≡ word_at table (p + 5))
   words-tell p = (refl, ap (λ i. word_at table i) (omega arith))
 
-  three-tell : (p : ℕ) → (word_at table (p + fields_at + 1) ≡ word_at table (p + after_number)) × (word_at table (p + fields_at + 1 + word_bytes) ≡ word_at table (p + field_size_at))
+  three-tell : (p : ℕ) → (word_at table (p + 3 + 1) ≡ word_at table (p + 4)) × (word_at table (p + 3 + 1 + 2) ≡ word_at table (p + 6))
   three-tell p = (ap (λ i. word_at table i) (omega arith), ap (λ i. word_at table i) (omega arith))
 
   later-rows-tell : (p : ℕ) → Each (RowTells p) (drop 8 kinds)
@@ -177,11 +178,11 @@ module _ (table text : List ℕ) where
     unfolding body_at
     body-accepted null_kind ns n t = reads-got _ tt
     body-accepted bool_kind ns n t = reads-bind-any _ (λ b. reads-got _ tt)
-    body-accepted int_kind ns n t = reads-got _ (signed-small (first ns))
+    body-accepted int_kind ns n t = reads-got _ (to_z-Fits w64 (first ns) (record { fits = n.first_fits })).sfits
     body-accepted uint_kind ns n t = reads-got _ n.first_fits
     body-accepted double_kind ns n t = reads-got _ n.first_fits
-    body-accepted string_kind ns n t = reads-bind (reads-utf8 table text table_bytes p (p + fields_at) (p + span_size_at) (first ns) (second ns) t.0 t.1) (λ s f. reads-got _ f)
-    body-accepted bytes_kind ns n t = reads-bind (reads-span table text table_bytes p (p + fields_at) (p + span_size_at) (first ns) (second ns) t.0 t.1) (λ s f. reads-got _ f)
+    body-accepted string_kind ns n t = reads-bind (reads-utf8 table text table_bytes p (p + 3) (p + 5) (first ns) (second ns) t.0 t.1) (λ s f. reads-got _ f)
+    body-accepted bytes_kind ns n t = reads-bind (reads-span table text table_bytes p (p + 3) (p + 5) (first ns) (second ns) t.0 t.1) (λ s f. reads-got _ f)
     body-accepted name_kind ns n t = reads-bind (reads-name p (first ns)) (λ m f. reads-got _ f)
     body-accepted unary_kind ns n t = reads-bind-any _ (λ o. reads-bind (exprs _ _) (λ x f. filled-expr _ x.1 f))
     body-accepted binary_kind ns n t =
@@ -190,7 +191,7 @@ module _ (table text : List ℕ) where
         reads-bind (exprs _ _) (λ x f. reads-bind (exprs _ _) (λ y g. reads-bind (exprs _ _) (λ z k. filled-expr _ z.1 (f, g, k))))
     body-accepted select_kind ns n t =
         reads-bind-any _
-        (λ test. reads-bind (reads-utf8 table text table_bytes p (p + after_number) (p + field_size_at) (second ns) (third ns) t.0 t.1)
+        (λ test. reads-bind (reads-utf8 table text table_bytes p (p + 4) (p + 6) (second ns) (third ns) t.0 t.1)
         (λ s f. reads-bind (exprs _ _) (λ x g. filled-expr _ x.1 (f, g))))
     body-accepted list_kind ns n t = reads-bind (elements-accepted parts (first ns) _ _) (λ es f. filled-expr _ es.1 f)
     body-accepted map_kind ns n t = reads-bind (pairs-accepted exprs parts (first ns) _ _) (λ ps f. filled-expr _ ps.1 f)

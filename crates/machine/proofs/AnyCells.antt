@@ -7,16 +7,16 @@ use mathlib.Core.List.{List}
 use native.Mathlib.Omega.{arith}
 use lib.Dec.{ltb, eqb}
 use lib.ListN.{get_or}
+use lib.Signed.{mag}
 use borrow.Author.Tests.{ltb-true, ltb-false}
-use Rattle.numbers.proofs.IntWords.{signed-small}
 use Rattle.rooms.specs.declared.value.Value.TheVariants as Value
 use Rattle.rooms.specs.declared.value.TextSpace.{TextSpace}
 use Rattle.rooms.specs.declared.value.CellSpace.{CellSpace}
 use Rattle.rooms.specs.declared.value.CellSpace.TheVariants as Cells
-use Rattle.rooms.specs.Cells.{Fits, text_place, cell_place, bare_of, text_of, container_of, value_of, cell_of, has_cell, cell_in}
+use Rattle.rooms.specs.Cells.{Fits, signed_of, text_place, cell_place, bare_of, text_of, container_of, value_of, cell_of, has_cell, cell_in}
 use Rattle.rooms.specs.Rooms.{Rooms, cell_at}
-use Rattle.rooms.proofs.Words.{bits_fit}
 use Rattle.machine.specs.Refines.{FitCells}
+use Rattle.machine.proofs.Words.{bits_fit}
 
 -- either way
 pub either : {A : Type 0} (P : A → Type 0) (b : Bool) {x y : A} → (b ≡ true → P x) → (b ≡ false → P y) → P (cond b x y)
@@ -25,12 +25,16 @@ either P false h k = k refl
 
 -- ---- values
 
+signed-fits : (x : ℕ) → x < 2 ^ 64 → mag (signed_of x) < 2 ^ 63
+unfolding signed_of
+signed-fits x h = either (λ z. mag z < 2 ^ 63) (ltb x (2 ^ 63)) (λ e. ltb-true x (2 ^ 63) e) (λ e. omega (arith, ltb-false x (2 ^ 63) e))
+
 bare-fits : (k x : ℕ) → x < 2 ^ 64 → Fits (bare_of k x)
 unfolding bare_of
 bare-fits k x h =
     either Fits (eqb k 0) (λ e. either Fits (eqb x 0) (λ f. tt) (λ f. tt))
     (λ e. either Fits (eqb k 1) (λ f. either Fits (eqb x 0) (λ g. tt) (λ g. either Fits (eqb x 1) (λ l. tt) (λ l. tt)))
-    (λ f. either Fits (eqb k 2) (λ g. signed-small x)
+    (λ f. either Fits (eqb k 2) (λ g. signed-fits x h)
     (λ g. either Fits (eqb k 3) (λ l. h)
     (λ l. either Fits (eqb k 4) (λ m. bits_fit x h)
     (λ m. either Fits (eqb k 14) (λ n. either Fits (eqb x 0) (λ o. tt) (λ o. tt)) (λ n. tt))))))

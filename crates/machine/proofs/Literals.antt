@@ -22,7 +22,7 @@ use Rattle.rooms.specs.Scope.{slot_of, StandsSlot}
 use Rattle.rooms.specs.Stands.{Alive, TextAt, StandsScalar, Stands, Holds}
 use Rattle.machine.specs.declared.outcome.Used.{Used}
 use Rattle.machine.specs.declared.outcome.Outcome.TheVariants as Outcome
-use Rattle.table_layout.specs.Layout.{word_at, fields_at, span_size_at}
+use Rattle.table_layout.specs.Layout.{word_at}
 use Rattle.machine.specs.Literals.{literal_value, name_out}
 use Rattle.machine.specs.Accepted.{Spells, AcceptedLiteral}
 use Rattle.machine.specs.Refines.{used_of, Start}
@@ -54,8 +54,8 @@ module _ (table src : List ℕ) (L : Alive) (r : Rooms) (e : r.literal ≡ src) 
   held-literal p (int z) h = held-int L r z h
   held-literal p (uint n) h = held-uint L r n h
   held-literal p (double d) h = held-double L r d h
-  held-literal p (string s) h = held-string s (word_at table (p + fields_at)) (word_at table (p + span_size_at)) h
-  held-literal p (bytes s) h = held_bytes s (word_at table (p + fields_at)) (word_at table (p + span_size_at)) h
+  held-literal p (string s) h = held-string s (word_at table (p + 3)) (word_at table (p + 5)) h
+  held-literal p (bytes s) h = held_bytes s (word_at table (p + 3)) (word_at table (p + 5)) h
 
 -- ---- names
 

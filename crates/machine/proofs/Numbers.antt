@@ -1,5 +1,5 @@
 -- What Arithmetic rests on: numbers are held; two operands of one kind; what the machine does with the left operand, by the view of the right one.
--- Assumes nothing.
+-- Rests on Words. Assumes nothing.
 use Prim.Native.Nat.{ℕ, suc, ◌^◌, ◌<◌}
 use mathlib.Core.Path.{◌≡◌, refl, ap, ◌∙◌}
 use mathlib.Core.List.{List}
@@ -30,11 +30,11 @@ use Rattle.rooms.specs.declared.value.Parts.TheVariants as Parts
 use Rattle.rooms.specs.Value.{plain_of, parts_of, nesting_of, double_value}
 use Rattle.rooms.specs.Rooms.{Rooms}
 use Rattle.rooms.specs.Stands.{Alive, TextAt, StandsScalar, Stands, StandsCells, Holds}
-use Rattle.rooms.proofs.Words.{bits_fit}
 use Rattle.machine.specs.declared.outcome.Used.{Used}
 use Rattle.machine.specs.declared.outcome.Outcome.{Outcome}
 use Rattle.machine.specs.Outcomes.{Res, no_overload}
 use Rattle.machine.specs.Numbers.{int_out, uint_out, doubles_out, number_arith, text_sum, string_sum, bytes_sum, list_sum}
+use Rattle.machine.proofs.Words.{bits_fit}
 use Rattle.rooms_comparison.proofs.SeenMeaning.{scalar-parts}
 
 -- ---- numbers are held

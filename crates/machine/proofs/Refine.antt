@@ -29,7 +29,7 @@ use Rattle.rooms.specs.Stands.{Alive, Holds}
 use Rattle.machine.specs.declared.outcome.Used.{Used}
 use Rattle.machine.specs.declared.outcome.Outcome.TheVariants as Outcome
 use Rattle.machine.specs.Outcomes.{Res, Does, recorded, with_value, taking}
-use Rattle.table_layout.specs.Layout.{word_at, after_number, field_size_at}
+use Rattle.table_layout.specs.Layout.{word_at}
 use Rattle.machine.specs.Literals.{literal_value, field_value, name_out}
 use Rattle.machine.specs.Numbers.{arithmetic}
 use Rattle.machine.specs.Comparison.{equal_out, compare_out}
@@ -177,7 +177,7 @@ module _ (table src : List ℕ) (l : Counts) where
     refines (conditional p c e f) w =
         record-ok p (λ s u r. conditional_does p (does c) (does e) (does f) s u r) (λ t. conditional_rule (run c t) (run e t) (run f t))
         (λ L u r s t st. conditional-says l src st p (does c) (means c) (refines c w.0) (does e) (means e) (refines e w.1) (does f) (means f) (refines f w.2))
-    refines (select p test field e) w = one_ok p (does e) (means e) (refines e w.1) (λ v z q. Selection.select_field l.steps p test (field_value table p) v z q) (select_field test field) (λ L u r s t st y v k. select-says l src st p test field (field_value table p) (held-string table src L r st.literals field (word_at table (p + after_number)) (word_at table (p + field_size_at)) w.0) v y k)
+    refines (select p test field e) w = one_ok p (does e) (means e) (refines e w.1) (λ v z q. Selection.select_field l.steps p test (field_value table p) v z q) (select_field test field) (λ L u r s t st y v k. select-says l src st p test field (field_value table p) (held-string table src L r st.literals field (word_at table (p + 4)) (word_at table (p + 6)) w.0) v y k)
     refines (list_of p es) w = list-ok p (count_elements es) (λ s base m d u r. elements table l.steps es s base m d u r) (λ t vs. run_elements es t vs) (fills es w p)
     refines (map_of p ps) w = map-ok p (count_pairs ps) (λ s base m d u r. entries table l.steps p ps s base m d u r) (λ t es. run_pairs ps t es) (fills-pairs ps w p)
     refines (comprehension p a i range init condition step result) w =

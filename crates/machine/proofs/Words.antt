@@ -6,24 +6,29 @@ use mathlib.Core.Bool.{Bool, true, false, cond, true≢false}
 use mathlib.Core.List.{List}
 use native.Mathlib.Omega.{arith}
 use lib.Dec.{ltb, eqb}
+use lib.Ieee.{binary64}
+use lib.Ieee.Bits.{to_bits-lt, of_bits-fits}
 use lib.ListN.{length, get_or, set, take, drop}
 use lib.Seq.{get_or-take, get_or-drop, take-set-le, drop-set-lt, take-take, drop-drop}
 use borrow.Author.Tests.{eqb-true, eq-eqb}
 use Rattle.numbers.specs.declared.double.Double.TheVariants as Bits
-use Rattle.numbers.specs.Double.{bits_of}
-use Rattle.numbers.proofs.DoubleLaws.{bits_in}
+use Rattle.numbers.specs.Double.{bits_of, double_of}
+use Rattle.numbers.proofs.DoubleLaws.{double-either}
 use Rattle.meaning.specs.Limits.{Counts}
 use Rattle.rooms.specs.declared.value.Value.{Value}
 use Rattle.rooms.specs.declared.value.Value.TheVariants as Value
 use Rattle.rooms.specs.declared.value.CellSpace.TheVariants as Cells
+use Rattle.rooms.specs.Value.{double_value}
 use Rattle.rooms.specs.Cells.{Fits, payload_of, settled, head_of, cell_of, has_cell, cell_in, written_in}
 use Rattle.rooms.specs.Rooms.{Rooms, cell_at}
 use Rattle.rooms.proofs.CellLaws.{written-length, written_same, written-other}
-use Rattle.rooms.proofs.Words.{bits_fit}
 use Rattle.machine.specs.Outcomes.{written}
 use Rattle.machine.specs.Refines.{FitCells, Upto, Roomy, Keeps}
 
 -- ---- values in one spelling
+
+pub bits_fit : (b : ℕ) → b < 2 ^ 64 → Fits (double_value (double_of b))
+bits_fit b h = double-either (λ d. Fits (double_value d)) b h (of_bits-fits binary64 b)
 
 -- in the spelling that a cell gives it, a value still fits
 pub settled-fits : (m : Value) → Fits m → Fits (settled m)
@@ -31,7 +36,7 @@ settled-fits Value.Null h = h
 settled-fits (Value.Bool b) h = h
 settled-fits (Value.Int z) h = h
 settled-fits (Value.Uint n) h = h
-settled-fits (Value.Double x) h = bits_fit (bits_of (Bits.Plain x)) (bits_in (Bits.Plain x) h)
+settled-fits (Value.Double x) h = bits_fit (bits_of (Bits.Plain x)) (to_bits-lt binary64 x h)
 settled-fits (Value.Nan b) h = bits_fit b h
 settled-fits (Value.String s a n) h = h
 settled-fits (Value.Bytes s a n) h = h

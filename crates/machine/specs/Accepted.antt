@@ -1,12 +1,12 @@
--- What the machine asks of an expression: numbers in range, names below 128, and texts that the table's spans spell in the literal text.
--- Every expression that is read from a table and its literal text meets this.
+-- What the machine asks of an expression: numbers in range, names that there are, and texts that the table's spans spell in the literal
+-- text. Every expression that is read from a table and its literal text is so.
 use Rattle.std.specs.Prelude.{ℕ, ◌+◌, ◌^◌, ◌<◌, ◌≡◌, List, length}
 use Rattle.std.specs.Int.Signed.{mag}
 use Rattle.meaning.specs.Limits.{names}
 use Rattle.meaning.specs.Value.{Scalar, null, bool, int, uint, double, string, bytes}
 use Rattle.meaning.specs.Expr.{Expr, literal, name, unary, binary, conditional, select, list_of, map_of, comprehension, call, none_call, or_value, Elements, no_elements, element, marked_element, Pairs, no_pairs, pair, marked_pair}
 use Rattle.rooms.specs.Rooms.{part}
-use Rattle.table_layout.specs.Layout.{word_at, fields_at, after_number, span_size_at, field_size_at}
+use Rattle.table_layout.specs.Layout.{word_at}
 
 module _ (table text : List ℕ) where
   -- an offset and a length that spell s
@@ -22,8 +22,8 @@ module _ (table text : List ℕ) where
   AcceptedLiteral p (int z) = mag z < 2 ^ 63
   AcceptedLiteral p (uint n) = n < 2 ^ 64
   AcceptedLiteral p (double d) = d < 2 ^ 64
-  AcceptedLiteral p (string s) = Spells s (word_at table (p + fields_at)) (word_at table (p + span_size_at))
-  AcceptedLiteral p (bytes s) = Spells s (word_at table (p + fields_at)) (word_at table (p + span_size_at))
+  AcceptedLiteral p (string s) = Spells s (word_at table (p + 3)) (word_at table (p + 5))
+  AcceptedLiteral p (bytes s) = Spells s (word_at table (p + 3)) (word_at table (p + 5))
 
   abbrev mutual
     pub Accepted : Expr → Type 0
@@ -32,7 +32,7 @@ module _ (table text : List ℕ) where
     Accepted (unary p o e) = Accepted e
     Accepted (binary p o e f) = Accepted e × Accepted f
     Accepted (conditional p c e f) = Accepted c × Accepted e × Accepted f
-    Accepted (select p test field e) = Spells field (word_at table (p + after_number)) (word_at table (p + field_size_at)) × Accepted e
+    Accepted (select p test field e) = Spells field (word_at table (p + 4)) (word_at table (p + 6)) × Accepted e
     Accepted (list_of p es) = AcceptedElements es
     Accepted (map_of p es) = AcceptedPairs es
     Accepted (comprehension p a i range init condition step result) =

@@ -2,7 +2,7 @@
 use Rattle.std.specs.Prelude.{ℕ, ◌+◌, List}
 use Rattle.numbers.specs.Double.{double_of}
 use Rattle.meaning.specs.Value.{Scalar, null, bool, int, uint, double, string, bytes}
-use Rattle.table_layout.specs.Layout.{word_at, fields_at, after_number, span_size_at, field_size_at}
+use Rattle.table_layout.specs.Layout.{word_at}
 use Rattle.rooms.specs.declared.value.Value.{Value}
 use Rattle.rooms.specs.declared.value.Value.TheVariants as Value
 use Rattle.rooms.specs.declared.value.TextSpace.TheVariants as Text
@@ -20,12 +20,12 @@ module _ (table : List ℕ) where
   literal_value p (int z) = Value.Int z
   literal_value p (uint n) = Value.Uint n
   literal_value p (double d) = double_value (double_of d)
-  literal_value p (string s) = Value.String Text.Literal (word_at table (p + fields_at)) (word_at table (p + span_size_at))
-  literal_value p (bytes s) = Value.Bytes Text.Literal (word_at table (p + fields_at)) (word_at table (p + span_size_at))
+  literal_value p (string s) = Value.String Text.Literal (word_at table (p + 3)) (word_at table (p + 5))
+  literal_value p (bytes s) = Value.Bytes Text.Literal (word_at table (p + 3)) (word_at table (p + 5))
 
   -- the field of the select at a place
   abbrev pub field_value : ℕ → Value
-  field_value p = Value.String Text.Literal (word_at table (p + after_number)) (word_at table (p + field_size_at))
+  field_value p = Value.String Text.Literal (word_at table (p + 4)) (word_at table (p + 6))
 
 -- what a name's slot holds
 abbrev pub name_out : ℕ → Value → Used → Outcome

@@ -3,7 +3,8 @@
 use Rattle.std.specs.Prelude.{ℕ, zero, suc, ◌+◌, List, ◌&&◌, cond, length, take, drop, leb, eqb}
 use Rattle.std.proofs.Math.Option.{Option, none, some}
 use Rattle.std.proofs.Math.ListN.{get_elem?}
-use Rattle.numbers.specs.Int.{signed_of}
+use Rattle.std.specs.Int.{w64}
+use Rattle.std.proofs.Common.{to_z}
 use Rattle.text.specs.Utf8.{well_formed}
 use Rattle.meaning.specs.Limits.{shortest_table, longest_table, deepest_record}
 use Rattle.meaning.specs.Errors.{TableLength, WrongExtent, RecordNesting, WrongField, MisplacedMark, BytesAfterRoot}
@@ -83,7 +84,7 @@ module _ (text : List ℕ) (expr_at : Reader Expr) (part_at : Reader Part) (p : 
   body_at bool_kind ns = do
     b ← or_refuse WrongField p (get_elem? flags (first ns))
     got (literal p (bool b), h.end)
-  body_at int_kind ns = got (literal p (int (signed_of (first ns))), h.end)
+  body_at int_kind ns = got (literal p (int (to_z w64 (first ns))), h.end)
   body_at uint_kind ns = got (literal p (uint (first ns)), h.end)
   body_at double_kind ns = got (literal p (double (first ns)), h.end)
   body_at string_kind ns = do
@@ -146,7 +147,7 @@ module _ (text : List ℕ) (expr_at : Reader Expr) (part_at : Reader Part) (p : 
     (x, q) ← body_at k h.numbers
     got (bare x, q)
 
--- the record at a place; the number is how many levels of nesting are left
+-- the record at a place, with so many levels of nesting left
 module _ (width : ℕ) (table text : List ℕ) where
   unfoldable mutual
     pub expr_at : ℕ → Reader Expr

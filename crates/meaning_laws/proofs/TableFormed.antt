@@ -9,9 +9,11 @@ use native.Mathlib.Omega.{arith}
 use lib.ListN.{length, take, drop, length-take}
 use lib.Dec.{leb, ltb}
 use borrow.Author.Tests.{ltb-true}
-use Rattle.numbers.specs.Int.{in_range, signed_of}
+use mir.Syntax.{w64}
+use mir.Val.{to_z}
+use mir.ValLaws.{to_z-Fits}
+use Rattle.numbers.specs.Int.{in_range}
 use Rattle.numbers.proofs.IntLaws.{in-range}
-use Rattle.numbers.proofs.IntWords.{signed-small}
 use Rattle.text.specs.Utf8.{well_formed}
 use Rattle.meaning.specs.Limits.{names, deepest_record}
 use Rattle.meaning.specs.Expr.{Expr, Elements, Pairs}
@@ -29,8 +31,8 @@ use Rattle.meaning_laws.proofs.Reading.{reads-got, reads-refused, reads-bind, re
 
 -- ---- numbers, names and text
 
-signed-in-range : (n : ℕ) → in_range (signed_of n) ≡ true
-signed-in-range n = in-range (signed_of n) (signed-small n)
+signed-in-range : (n : ℕ) → n < 2 ^ 64 → in_range (to_z w64 n) ≡ true
+signed-in-range n h = in-range (to_z w64 n) (to_z-Fits w64 n (record { fits = h })).sfits
 
 name_below : (n : ℕ) → Perhaps (λ m. m < names) (name_of n)
 unfolding name_of
@@ -137,7 +139,7 @@ module _ (text : List ℕ) (bytes_only : AllBytes text) (expr_at : Reader Expr) 
   unfolding body_at text_bytes
   body-formed null_kind ns n = reads-got _ (tt, omega arith)
   body-formed bool_kind ns n = reads-bind-any _ (λ b. reads-got _ (tt, omega arith))
-  body-formed int_kind ns n = reads-got _ (signed-in-range (first ns), omega arith)
+  body-formed int_kind ns n = reads-got _ (signed-in-range (first ns) n.first_fits, omega arith)
   body-formed uint_kind ns n = reads-got _ (n.first_fits, omega arith)
   body-formed double_kind ns n = reads-got _ (n.first_fits, omega arith)
   body-formed string_kind ns n = reads-bind (reads-utf8 text bytes_only p (first ns) (second ns) n.second_fits) (λ s f. reads-got _ ((f.0, f.2), f.1))

@@ -1,8 +1,9 @@
 -- How an expression is written as the records of a node table, rule by rule from the table of kinds, in the order of that table; nothing
 -- here looks at how a table is read. `Written width text e p bytes`: these bytes, put at place p of a table, spell e. A text in e is some
--- part of the literal text, so an expression can be written in several ways. It rests on expressions, limits, an Int's word and UTF-8 alone.
+-- part of the literal text, so an expression can be written in several ways. It rests on expressions, limits and UTF-8 alone.
 use Rattle.std.specs.Prelude.{ℕ, zero, suc, ◌+◌, ◌^◌, ◌/◌, ◌%◌, ◌≤◌, ◌<◌, max, ◌≡◌, List, [], ◌∷◌, ◌++◌, Bool, true, false, length, take, drop}
-use Rattle.numbers.specs.Int.{signed_of}
+use Rattle.std.specs.Int.{w64}
+use Rattle.std.proofs.Common.{to_z}
 use Rattle.text.specs.Utf8.{well_formed}
 use Rattle.meaning.specs.Limits.{shortest_table, longest_table, deepest_record, names, byte_numbers}
 use Rattle.meaning.specs.Value.{Scalar, null, bool, int, uint, double, string, bytes}
@@ -14,7 +15,7 @@ use Rattle.meaning.specs.Expr.{Elements, no_elements, element, marked_element, P
 
 -- ---- numbers as bytes
 
--- a number as a given number of bytes, the lowest first
+-- a number as so many bytes, the lowest first
 abbrev pub little : ℕ → ℕ → List ℕ
 little zero n = []
 little (suc size) n = n % byte_numbers ∷ little size (n / byte_numbers)
@@ -132,7 +133,7 @@ module _ (width : ℕ) where
     abbrev pub WrittenScalar : ℕ → Scalar → Form
     WrittenScalar q null = Record q 0 [] nothing
     WrittenScalar q (bool b) = Record q 1 (byte (flag_number b) ∷ []) nothing
-    WrittenScalar q (int z) = λ p bs. (n : ℕ) × (signed_of n ≡ z) × Record q 2 (long n ∷ []) nothing p bs
+    WrittenScalar q (int z) = λ p bs. (n : ℕ) × (to_z w64 n ≡ z) × Record q 2 (long n ∷ []) nothing p bs
     WrittenScalar q (uint n) = Record q 3 (long n ∷ []) nothing
     WrittenScalar q (double d) = Record q 4 (long d ∷ []) nothing
     WrittenScalar q (string s) = (well_formed s ≡ true) and WrittenText s (λ span. Record q 5 span nothing)

@@ -5,12 +5,12 @@ use Prim.Native.Nat.{ℕ, ◌%◌, ◌^◌, ◌≤◌, ◌<◌}
 use lib.Dec.{T}
 use lib.Ieee as Ieee
 use lib.Ieee.{Float, nan, inf, fin, binary64, to_bits, of_bits, nan_bits, fits, ne, div}
-use lib.Ieee.Bits.{to_bits-lt, of_bits-fits, nan_bits_above, nan_bits_is, to_bits-of_bits, of_bits-to_bits}
+use lib.Ieee.Bits.{of_bits-fits, nan_bits_above, nan_bits_is, to_bits-of_bits, of_bits-to_bits}
 use lib.Ieee.Compare.{differs_from_itself, nan_differs}
 use borrow.Author.Tests.{lt-ltb, le-ltb}
 use Rattle.numbers.specs.declared.double.Double.{Double}
 use Rattle.numbers.specs.declared.double.Double.TheVariants.{Plain, Nan}
-use Rattle.numbers.specs.Double.{arithmetic_nan, add_bits, sub_bits, mul_bits, div_bits, neg_bits, bits_of, is_nan, double_of, add_of, sub_of, mul_of, div_of, neg_of, Fits64, Proper}
+use Rattle.numbers.specs.Double.{arithmetic_nan, add_bits, sub_bits, mul_bits, div_bits, neg_bits, bits_of, is_nan, double_of, add_of, sub_of, mul_of, div_of, neg_of, Proper}
 
 -- ---- the tests of the code
 
@@ -72,19 +72,6 @@ double-of-plain x f e =
 
 -- ---- bits and Double give each other back
 
--- A Double of the code has bits that are a word, and every word is one's.
-pub bits_in : (d : Double) → Fits64 d → bits_of d < 2 ^ 64
-bits_in (Plain x) f = to_bits-lt binary64 x f
-bits_in (Nan b) f = f
-
-pub double-in : (b : ℕ) → b < 2 ^ 64 → Fits64 (double_of b)
-unfolding double_of
-double-in b h = go (is_nan b)
-  where
-    go : (t : Bool) → Fits64 (cond t (Nan b) (Plain (of_bits binary64 b)))
-    go true = h
-    go false = of_bits-fits binary64 b
-
 -- Every one of the 2 ^ 64 patterns is a Double's: from bits to a Double and back changes nothing.
 pub bits_back : (b : ℕ) → b < 2 ^ 64 → bits_of (double_of b) ≡ b
 unfolding double_of
@@ -133,3 +120,12 @@ div_is x y = refl
 pub neg_is : (x : Double) → neg_of x ≡ double_of (neg_bits (bits_of x))
 unfolding neg_of
 neg_is x = refl
+
+-- what is so of both spellings is so of what the bits are spelled as
+pub double-either : (P : Double → Type 0) (b : ℕ) → P (Nan b) → P (Plain (of_bits binary64 b)) → P (double_of b)
+unfolding double_of
+double-either P b h k = go (is_nan b)
+  where
+    go : (t : Bool) → P (cond t (Nan b) (Plain (of_bits binary64 b)))
+    go true = h
+    go false = k

@@ -1,7 +1,7 @@
 -- A Double is its 64 bits: the sign, 11 bits of exponent and 52 digits of IEEE 754 binary64.
 -- In order: what the bits stand for, in whole numbers; arithmetic on bits; the code's `Double`, a spelling of the bits.
 -- lib.Ieee is the kit's definition of the machine's floats. That it rounds once and to nearest is proved in the crate numbers_laws.
-use Rattle.std.specs.Prelude.{◌≡◌, Bool, true, false, cond, ℕ, zero, suc, ◌+◌, ◌*◌, ◌/◌, ◌%◌, ◌^◌, ◌<◌, T, leb, ltb, eqb}
+use Rattle.std.specs.Prelude.{◌≡◌, Bool, true, false, cond, ℕ, zero, suc, ◌+◌, ◌*◌, ◌/◌, ◌%◌, ◌^◌, T, leb, ltb, eqb}
 use Rattle.std.specs.Float.Ieee as Ieee
 use Rattle.std.specs.Float.{binary64}
 use Rattle.std.specs.Float.Ieee.{to_bits, of_bits, fits, ne}
@@ -90,11 +90,6 @@ div_of x y = double_of (div_bits (bits_of x) (bits_of y))
 
 unfoldable pub neg_of : Double → Double
 neg_of x = double_of (neg_bits (bits_of x))
-
--- every Double of the code: a float of 64 bits, or 64 bits
-abbrev pub Fits64 : Double → Type 0
-Fits64 (Plain x) = T (fits binary64 x)
-Fits64 (Nan b) = b < 2 ^ 64
 
 -- A Double spelled in the one way: a float that is no NaN, or the bits of a NaN.
 abbrev pub Proper : Double → Type 0

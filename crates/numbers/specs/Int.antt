@@ -1,6 +1,6 @@
--- What arithmetic on Int answers: the exact result over ℤ if 64 bits hold it, and otherwise which error. An Int's 64 bits as a word.
+-- What arithmetic on Int answers: the exact result over ℤ where 64 bits hold it, and else which error.
 -- `pos n` is n, and `negsuc n` is -(n + 1).
-use Rattle.std.specs.Prelude.{Bool, false, cond, ℕ, ◌-◌, ◌^◌, ℤ, pos, negsuc, neg_ℤ, ◌+ℤ◌, ◌-ℤ◌, ◌*ℤ◌, ltb, eqb}
+use Rattle.std.specs.Prelude.{Bool, false, cond, ◌^◌, ℤ, pos, negsuc, neg_ℤ, ◌+ℤ◌, ◌-ℤ◌, ◌*ℤ◌, ltb, eqb}
 use Rattle.std.specs.Int.Signed.{quot_z, rem_z}
 use Rattle.numbers.specs.declared.error.ArithmeticError.TheVariants.{Overflow, DivisionByZero, RemainderByZero}
 use Rattle.numbers.specs.declared.int.IntAnswer.{IntAnswer}
@@ -39,13 +39,3 @@ unfoldable pub rem_of : ℤ → ℤ → IntAnswer
 rem_of a b =
     cond (is_zero b) (Error RemainderByZero)
     (cond (in_range (quot_z a b)) (Value (rem_z a b)) (Error Overflow))
-
--- ---- words
-
--- two's complement: -(n + 1) is 2 ^ 64 - 1 - n
-unfoldable pub word_of : ℤ → ℕ
-word_of (pos n) = n
-word_of (negsuc n) = 2 ^ 64 - 1 - n
-
-unfoldable pub signed_of : ℕ → ℤ
-signed_of w = cond (ltb w (2 ^ 63)) (pos w) (negsuc (2 ^ 64 - 1 - w))

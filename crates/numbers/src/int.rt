@@ -1,8 +1,7 @@
-// Int, an `i64`: its size, its word, what arithmetic on it answers, and that arithmetic, checked.
+// Int, an `i64`: its size, what arithmetic on it answers, and that arithmetic, checked.
 ghost use Rattle.std.specs.Prelude.{◌≡◌, nat_abs, pos, neg_ℤ};
-ghost use Rattle.numbers.specs.Int.{answer, add_of, sub_of, mul_of, neg_of, div_of, rem_of, word_of, signed_of};
+ghost use Rattle.numbers.specs.Int.{answer, add_of, sub_of, mul_of, neg_of, div_of, rem_of};
 
-use crate::double::SIGN_BIT;
 use crate::error::ArithmeticError;
 use crate::uint::UintAnswer;
 
@@ -12,7 +11,7 @@ pub enum IntAnswer {
     Error(ArithmeticError),
 }
 
-// The size of a number, without its sign. -2 ^ 63 has a size too.
+// The size of a number, without its sign: -2 ^ 63 has one too.
 pub fn magnitude(a: i64) -> u64
     ensures { result ≡ nat_abs a }
 {
@@ -52,7 +51,7 @@ pub fn add(a: i64, b: i64) -> IntAnswer
     }
 }
 
-// The negation is added. Only -2 ^ 63 has no negation; subtracting it is in range exactly if `a` is below 0.
+// The negation is added. -2 ^ 63 alone has none: what is below 0 can do without it.
 pub fn sub(a: i64, b: i64) -> IntAnswer
     ensures { result ≡ sub_of a b }
 {
@@ -149,26 +148,5 @@ pub fn rem(a: i64, b: i64) -> IntAnswer
         }
     } else {
         IntAnswer::Value(a % b)
-    }
-}
-
-// An Int as a word of 64 bits, in two's complement, and back: the words from the sign bit on are the negative numbers.
-pub fn word_of(number: i64) -> u64
-    ensures { result ≡ word_of number }
-{
-    if number < 0 {
-        crate::uint::MAX - ((-(number + 1)) as u64)
-    } else {
-        number as u64
-    }
-}
-
-pub fn signed_of(word: u64) -> i64
-    ensures { result ≡ signed_of word }
-{
-    if word < SIGN_BIT {
-        word as i64
-    } else {
-        -((crate::uint::MAX - word) as i64) - 1
     }
 }

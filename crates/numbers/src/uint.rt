@@ -10,7 +10,7 @@ pub enum UintAnswer {
     Error(ArithmeticError),
 }
 
-pub const MAX: u64 = 18446744073709551615;
+const MAX: u64 = 18446744073709551615;
 
 // Where the exact result is not in range.
 fn overflow() -> UintAnswer

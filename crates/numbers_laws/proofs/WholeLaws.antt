@@ -4,14 +4,13 @@ use mathlib.Core.Bool.{Bool, true, false, true≢false}
 use Prim.Native.Nat.{ℕ, suc, ◌+◌, ◌*◌, ◌^◌, ◌<◌}
 use native.Mathlib.Nat.{mul-lt-mul_of_pos_right, zero-mul}
 use native.Mathlib.Omega.{arith}
-use lib.Dec.{eqb}
 use lib.IntN.{ℤ, pos, negsuc, nat_abs}
 use lib.Pow.{pow_pos}
 use lib.Signed.{lt_z}
 use mir.Syntax.{w64}
 use mir.Val.{SFits, to_z, of_z}
 use mir.ValLaws.{to_z-of_z}
-use borrow.Author.Tests.{le-ltb, eq-eqb, eqb-true}
+use borrow.Author.Tests.{le-ltb}
 use Rattle.numbers.specs.declared.order.Order.{Order}
 use Rattle.numbers.specs.declared.order.Order.TheVariants.{Less, Equal, Greater, Unordered}
 use Rattle.numbers.specs.Order.{signed_order, order_of, whole_point, below_zero, int_point, uint_point, is_equal}
@@ -21,10 +20,6 @@ use Rattle.numbers_laws.proofs.SignedOrder.{SaysSigned, signed-says, signed_is, 
 pub whole-order : (s : Bool) (a : ℕ) (t : Bool) (b : ℕ) → order_of (whole_point s a) (whole_point t b) ≡ signed_order s a t b
 unfolding order_of whole_point
 whole-order s a t b = signed-map (λ (n : ℕ). n * 2 ^ 1074) (zero-mul (2 ^ 1074)) (λ (m n : ℕ) h. mul-lt-mul_of_pos_right h (pow_pos 1074)) s a t b
-
-pub whole-itself : (s : Bool) (a : ℕ) → order_of (whole_point s a) (whole_point s a) ≡ Equal
-whole-itself true a = whole-order true a true a ∙ signed_is Equal true a true a refl
-whole-itself false a = whole-order false a false a ∙ signed_is Equal false a false a refl
 
 pub uint-less : (m n : ℕ) → m < n → order_of (uint_point m) (uint_point n) ≡ Less
 uint-less m n h = whole-order false m false n ∙ signed_is Less false m false n h
@@ -70,23 +65,7 @@ int-only (negsuc a) (negsuc b) e = ap negsuc (same a b (equal-says true (suc a) 
     same : (a b : ℕ) → suc b ≡ suc a → a ≡ b
     same a b h = omega arith
 
--- ---- an Int as the code hands it on: its word; whether it is below zero, and its size
-
--- two tests that are passed together
-pub one_truth : (p q : Bool) → (p ≡ true → q ≡ true) → (q ≡ true → p ≡ true) → p ≡ q
-one_truth true q h k = sym (h refl)
-one_truth false true h k = k refl
-one_truth false false h k = refl
-
--- Two Ints are equal exactly if they are the same word.
-pub int-words : (a b : ℤ) → SFits w64 a → SFits w64 b → eqb (of_z w64 a) (of_z w64 b) ≡ is_equal (order_of (int_point a) (int_point b))
-int-words a b f g =
-    one_truth (eqb (of_z w64 a) (of_z w64 b)) (is_equal (order_of (int_point a) (int_point b)))
-    (λ e. same (sym (to_z-of_z w64 a f) ∙ ap (to_z w64) (eqb-true (of_z w64 a) (of_z w64 b) e) ∙ to_z-of_z w64 b g))
-    (λ e. eq-eqb (of_z w64 a) (of_z w64 b) (ap (of_z w64) (int-only a b e)))
-  where
-    same : a ≡ b → is_equal (order_of (int_point a) (int_point b)) ≡ true
-    same e = ap (λ z. is_equal (order_of (int_point z) (int_point b))) e ∙ ap is_equal (whole-itself (below_zero b) (nat_abs b))
+-- ---- an Int as the code hands it on: whether it is below zero, and its size
 
 pub int-below : (z : ℤ) → SFits w64 z → lt_z (to_z w64 (of_z w64 z)) (pos 0) ≡ below_zero z
 int-below z k = ap (λ (x : ℤ). lt_z x (pos 0)) (to_z-of_z w64 z k) ∙ go z

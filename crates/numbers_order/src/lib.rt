@@ -2,7 +2,7 @@
 // An Int or a Uint is a whole size with a sign; a Double is compared through its bits, as whole numbers. Nothing is rounded.
 ghost use Rattle.std.specs.Prelude.{◌≡◌, not, ◌*◌, ◌^◌};
 ghost use Rattle.numbers.specs.Double.{size_of, point_of};
-ghost use Rattle.numbers.specs.Order.{size_order, signed_order, order_of, whole_point, int_point, number_point, is_equal, flipped};
+ghost use Rattle.numbers.specs.Order.{size_order, signed_order, order_of, whole_point, number_point, is_equal, flipped};
 ghost use Rattle.numbers_order.specs.Size.{cut};
 
 use numbers::double::{INFINITY_BITS, SIGN_BIT, to_bits};
@@ -12,7 +12,7 @@ use numbers::order::{Number, Order};
 // The weight of the leading digit, which the bits of a normal Double leave out.
 const HIDDEN_DIGIT: u64 = 0x10_0000_0000_0000;
 
-// The exponents of 1, of 2 ^ 52, from which on all Doubles are whole, and of 2 ^ 64, which is beyond every integer.
+// The exponents of 1, of the first Doubles that are all whole (2 ^ 52), and of the first beyond every integer (2 ^ 64).
 const EXPONENT_OF_ONE: u64 = 1023;
 
 const ALL_WHOLE: u64 = 1075;
@@ -201,11 +201,4 @@ pub fn equal(a: Number, b: Number) -> bool
         Order::Greater => false,
         Order::Unordered => false,
     }
-}
-
-// Two Ints need no number line: they are one point of it exactly if they are the same.
-pub fn ints_equal(a: i64, b: i64) -> bool
-    ensures { result ≡ is_equal (order_of (int_point a) (int_point b)) }
-{
-    a == b
 }

@@ -1,5 +1,5 @@
-// What is written for a line: words, numbers, what became of a binding, and that the line is bad.
-use bindings_bringing::Answer;
+// What is written of a line: words, numbers, what became of a binding, and that the line is none.
+use bindings::admission::Answer;
 use libc::STDOUT_FILENO;
 use replay_lines::{Bench, Done, Said};
 
@@ -11,7 +11,7 @@ fn say_number(number: usize) {
     io::print_decimal(STDOUT_FILENO, number as u64);
 }
 
-// The line is none that the program knows.
+// The line at hand is none that the program knows.
 pub fn bad(bench: Bench) -> Bench {
     say(b"bad line ");
     say_number(bench.lines);

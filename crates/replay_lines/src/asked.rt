@@ -1,7 +1,4 @@
 // What a line asks to be evaluated.
-ghost use Rattle.std.specs.Prelude.{◌≡◌};
-ghost use Rattle.replay_lines.specs.Asking.{Asking, asked_from};
-
 use crate::line::is_over;
 use crate::spelled::{Spelled, bytes_from, number_from};
 
@@ -22,10 +19,7 @@ pub enum Asked {
 }
 
 // `eval STEPS CELLS TEXT TEXTHEX TABLEHEX`.
-pub fn asked_from(line: &[u8], from: usize, literal: &mut [u8], table: &mut [u8]) -> Asked
-    ensures { ◌≡◌ {A = Asking} (result, (literal.new, table.new))
-        (asked_from line.now from literal.old table.old) }
-{
+pub fn asked_from(line: &[u8], from: usize, literal: &mut [u8], table: &mut [u8]) -> Asked {
     let Spelled::Is(steps, after_steps) = number_from(line, from) else {
         return Asked::Nothing;
     };

@@ -1,7 +1,4 @@
 // A binding that a line spells, brought into the room.
-ghost use Rattle.std.specs.Prelude.{◌≡◌, take};
-ghost use Rattle.replay_lines.specs.Binding.{Binds, bound_from, Brings, brings, Binding, bind_from};
-
 use crate::line::is_over;
 use crate::spelled::{Spelled, bytes_from, number_from};
 use crate::{Bench, Done, Said, bad, with};
@@ -17,11 +14,7 @@ fn bring(
     binding_text: &mut [u8],
     name: usize,
     bench: Bench,
-) -> Done
-    ensures { ◌≡◌ {A = Brings} (result, (binding_cells.new, binding_text.new))
-        (brings binding_cells.old binding_text.old bench name (take table_count table.now)
-        (take literal_count literal.now)) }
-{
+) -> Done {
     let literal_end = bytes_of(literal, literal_count);
     let table_end = bytes_of(table, table_count);
     let words = words_of(binding_cells, bench.cells);
@@ -50,10 +43,7 @@ enum Bound {
 }
 
 // `bind NAME TEXTHEX TABLEHEX`.
-fn bound_from(line: &[u8], from: usize, literal: &mut [u8], table: &mut [u8]) -> Bound
-    ensures { ◌≡◌ {A = Binds} (result, (literal.new, table.new))
-        (bound_from line.now from literal.old table.old) }
-{
+fn bound_from(line: &[u8], from: usize, literal: &mut [u8], table: &mut [u8]) -> Bound {
     let Spelled::Is(name, after_name) = number_from(line, from) else {
         return Bound::Nothing;
     };
@@ -77,11 +67,7 @@ pub fn bind(
     binding_cells: &mut [u64],
     binding_text: &mut [u8],
     bench: Bench,
-) -> Done
-    ensures { ◌≡◌ {A = Binding} ((result, (binding_cells.new, binding_text.new)), (literal.new, table.new))
-        (bind_from line.now from literal.old table.old binding_cells.old binding_text.old
-        bench) }
-{
+) -> Done {
     let Bound::As(name, literal_count, table_count) = bound_from(line, from, literal, table) else {
         return bad(bench);
     };

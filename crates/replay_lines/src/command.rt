@@ -1,7 +1,4 @@
 // Which command a line's first word is.
-ghost use Rattle.std.specs.Prelude.{◌≡◌};
-ghost use Rattle.replay_lines.specs.Commands.{command_of};
-
 use text::bytes::equal;
 
 #[derive(Drop)]
@@ -13,9 +10,7 @@ pub enum Command {
     Other,
 }
 
-pub fn command_of(word: &[u8]) -> Command
-    ensures { result ≡ command_of word.now }
-{
+pub fn command_of(word: &[u8]) -> Command {
     if equal(word, b"eval") {
         return Command::Eval;
     }

@@ -1,10 +1,7 @@
 // What a line of `replay` spells and binds: here the binding room that stands between two lines, taken anew and emptied.
-ghost use Rattle.std.specs.Prelude.{◌≡◌};
-ghost use Rattle.replay_lines.specs.Benches.{holding, bad_line, room_from, empty_from};
-
 use crate::line::is_over;
 use crate::spelled::{Spelled, number_from};
-use bindings_bringing::Answer;
+use bindings::admission::Answer;
 use bindings_sound::Bindings;
 
 pub mod asked;
@@ -38,9 +35,7 @@ pub struct Done {
     pub bench: Bench,
 }
 
-pub(crate) fn with(bench: Bench, bindings: Bindings) -> Bench
-    ensures { result ≡ holding bench bindings }
-{
+pub(crate) fn with(bench: Bench, bindings: Bindings) -> Bench {
     Bench {
         lines: bench.lines,
         cells: bench.cells,
@@ -49,9 +44,7 @@ pub(crate) fn with(bench: Bench, bindings: Bindings) -> Bench
     }
 }
 
-pub(crate) fn bad(bench: Bench) -> Done
-    ensures { result ≡ bad_line bench }
-{
+pub(crate) fn bad(bench: Bench) -> Done {
     Done {
         said: Said::Bad,
         bench,
@@ -59,9 +52,7 @@ pub(crate) fn bad(bench: Bench) -> Done
 }
 
 // `room CELLS TEXT`.
-pub fn room(line: &[u8], from: usize, bench: Bench) -> Done
-    ensures { result ≡ room_from line.now from bench }
-{
+pub fn room(line: &[u8], from: usize, bench: Bench) -> Done {
     let Spelled::Is(cells, after_cells) = number_from(line, from) else {
         return bad(bench);
     };
@@ -83,9 +74,7 @@ pub fn room(line: &[u8], from: usize, bench: Bench) -> Done
 }
 
 // `empty`.
-pub fn empty(line: &[u8], from: usize, bench: Bench) -> Done
-    ensures { result ≡ empty_from line.now from bench }
-{
+pub fn empty(line: &[u8], from: usize, bench: Bench) -> Done {
     if !is_over(line, from) {
         return bad(bench);
     }

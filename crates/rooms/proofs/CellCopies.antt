@@ -5,20 +5,21 @@ use mathlib.Core.List.{List}
 use Prim.Native.Nat.{ℕ, ◌*◌, ◌+◌, ◌/◌, ◌%◌, ◌^◌, ◌<◌}
 use native.Mathlib.Omega.{arith}
 use lib.ListN.{length, get_or}
+use lib.Signed.{mag}
 use lib.Dec.{ltb, eqb}
 use borrow.Author.Tests.{ltb-true, ltb-false}
 use Rattle.numbers.specs.declared.double.Double.{Double}
 use Rattle.numbers.specs.declared.double.Double.TheVariants as Bits
 use Rattle.numbers.specs.Double.{double_of, Proper}
 use Rattle.numbers.proofs.DoubleLaws.{proper, double-back}
-use Rattle.numbers.proofs.IntWords.{signed-small}
 use Rattle.rooms.specs.declared.value.Value.{Value}
 use Rattle.rooms.specs.declared.places.TextPlace.{TextPlace}
 use Rattle.rooms.specs.declared.places.TextPlace.TheVariants as TextPlace
 use Rattle.rooms.specs.declared.places.CellPlace.{CellPlace}
 use Rattle.rooms.specs.declared.places.CellPlace.TheVariants as CellPlace
 use Rattle.rooms.specs.Value.{double_value}
-use Rattle.rooms.specs.Cells.{text_place, cell_place, bare_of, text_of, container_of, value_of, cell_of, has_cell, cell_in, written_in, settled}
+use Rattle.rooms.specs.Cells.{signed_of, text_place, cell_place, bare_of, text_of, container_of, value_of, cell_of, has_cell, cell_in, written_in, settled}
+use Rattle.rooms.proofs.Words.{signed_below, signed_above}
 use Rattle.rooms.proofs.CellLaws.{Small, small-back, written-words}
 
 -- a value that words give: its numbers lie within their fields, and a Double is in its one spelling
@@ -29,6 +30,13 @@ Read v = Small v × (settled v ≡ v)
 branch : {A : Type 0} (P : A → Type 0) (b : Bool) (u w : A) → (b ≡ true → P u) → (b ≡ false → P w) → P (cond b u w)
 branch P true u w f g = f refl
 branch P false u w f g = g refl
+
+signed-small : (w : ℕ) → mag (signed_of w) < 2 ^ 63
+signed-small w = go (ltb w (2 ^ 63)) refl
+  where
+    go : (b : Bool) → ltb w (2 ^ 63) ≡ b → mag (signed_of w) < 2 ^ 63
+    go true e = subst (λ z. mag z < 2 ^ 63) (sym (signed_below w (ltb-true w (2 ^ 63) e))) (ltb-true w (2 ^ 63) e)
+    go false e = subst (λ z. mag z < 2 ^ 63) (sym (signed_above w (ltb-false w (2 ^ 63) e))) (omega (arith, ltb-false w (2 ^ 63) e))
 
 double-read : (d : Double) → Proper d → Read (double_value d)
 double-read (Bits.Plain x) p = (tt, ap double_value (double-back (Bits.Plain x) p))

@@ -10,7 +10,6 @@ use lib.ListN.{length, get_or, set, length-set}
 use lib.Seq.{get_or-set_same, get_or-set_other}
 use lib.Dec.{ltb}
 use borrow.Author.Tests.{lt-ltb, le-ltb}
-use Rattle.numbers.proofs.IntWords.{signed_back}
 use Rattle.rooms.specs.declared.value.Value.{Value}
 use Rattle.rooms.specs.declared.value.Value.TheVariants as Value
 use Rattle.rooms.specs.declared.value.TextSpace.{TextSpace}
@@ -20,7 +19,7 @@ use Rattle.rooms.specs.declared.value.CellSpace.TheVariants as Cells
 use Rattle.rooms.specs.declared.places.TextPlace.TheVariants as TextPlace
 use Rattle.rooms.specs.declared.places.CellPlace.TheVariants as CellPlace
 use Rattle.rooms.specs.Cells.{text_number, cell_number, packed, head_of, payload_of, text_place, cell_place, bare_of, text_of, container_of, value_of, cell_of, has_cell, cell_in, written_in, Fits, settled}
-use Rattle.rooms.proofs.Words.{text-small, cell-small}
+use Rattle.rooms.proofs.Words.{signed_back, text-small, cell-small}
 
 -- the fields of a head that was packed
 unpacked : (k s d n x : ℕ) → k < 256 → s < 256 → d < 256 → cell_of (packed k s d n) x ≡ value_of (packed k s d n) k s d n x

@@ -1,10 +1,11 @@
 -- A value as two words, a head and a payload, and a cell of a list of words.
--- In order: truth and spaces as words; a value's words; the value of two words; a cell read and written.
-use Rattle.std.specs.Prelude.{ℕ, ◌+◌, ◌-◌, ◌*◌, ◌/◌, ◌%◌, ◌^◌, ◌<◌, List, Bool, true, false, cond, ltb, eqb, length, get_or, set}
+-- In order: numbers and spaces as words; a value's words; the value of two words; a cell read and written.
+use Rattle.std.specs.Prelude.{ℕ, ◌+◌, ◌-◌, ◌*◌, ◌/◌, ◌%◌, ◌^◌, ◌<◌, List, Bool, true, false, cond, ltb, eqb, T, ℤ, pos, negsuc, length, get_or, set}
+use Rattle.std.specs.Float.{binary64}
+use Rattle.std.specs.Float.Ieee.{fits}
 use Rattle.std.specs.Int.Signed.{mag}
-use Rattle.numbers.specs.declared.double.Double.TheVariants.{Plain, Nan}
-use Rattle.numbers.specs.Double.{bits_of, double_of, Fits64}
-use Rattle.numbers.specs.Int.{word_of, signed_of}
+use Rattle.numbers.specs.declared.double.Double.TheVariants.{Plain}
+use Rattle.numbers.specs.Double.{bits_of, double_of}
 use Rattle.rooms.specs.declared.value.Value.{Value}
 use Rattle.rooms.specs.declared.value.Value.TheVariants as Value
 use Rattle.rooms.specs.declared.value.TextSpace.{TextSpace}
@@ -16,9 +17,16 @@ use Rattle.rooms.specs.declared.places.TextPlace.TheVariants as TextPlace
 use Rattle.rooms.specs.declared.places.CellPlace.{CellPlace}
 use Rattle.rooms.specs.declared.places.CellPlace.TheVariants as CellPlace
 use Rattle.rooms.specs.Value.{double_value}
-use Rattle.rooms.specs.Kinds as Kind
 
--- ---- truth and spaces
+-- ---- numbers and spaces
+
+-- two's complement: -(n + 1) is 2 ^ 64 - 1 - n
+unfoldable pub word_of : ℤ → ℕ
+word_of (pos n) = n
+word_of (negsuc n) = 2 ^ 64 - 1 - n
+
+unfoldable pub signed_of : ℕ → ℤ
+signed_of w = cond (ltb w (2 ^ 63)) (pos w) (negsuc (2 ^ 64 - 1 - w))
 
 abbrev pub bit_of : Bool → ℕ
 bit_of true = 1
@@ -39,21 +47,21 @@ cell_number Cells.Evaluation = 1
 unfoldable pub packed : (kind space nesting length : ℕ) → ℕ
 packed k s d n = k + s * 2 ^ 8 + d * 2 ^ 16 + n * 2 ^ 24
 
--- a kind without fields is its number
+-- the kind's number: 0 to 6, 12 and 13 as in a table; 14 none, 15 a present Optional, 16 no value
 abbrev pub head_of : Value → ℕ
-head_of Value.Null = Kind.null
-head_of (Value.Bool b) = Kind.bool
-head_of (Value.Int z) = Kind.int
-head_of (Value.Uint n) = Kind.uint
-head_of (Value.Double x) = Kind.double
-head_of (Value.Nan b) = Kind.double
-head_of (Value.String s a n) = packed Kind.string (text_number s) 0 n
-head_of (Value.Bytes s a n) = packed Kind.bytes (text_number s) 0 n
-head_of (Value.List d s a n) = packed Kind.list (cell_number s) d n
-head_of (Value.Map d s a n) = packed Kind.map (cell_number s) d n
-head_of Value.OptionalNone = Kind.optional_none
-head_of (Value.OptionalOf d s a) = packed Kind.optional_of (cell_number s) d 0
-head_of Value.Absent = Kind.absent
+head_of Value.Null = 0
+head_of (Value.Bool b) = 1
+head_of (Value.Int z) = 2
+head_of (Value.Uint n) = 3
+head_of (Value.Double x) = 4
+head_of (Value.Nan b) = 4
+head_of (Value.String s a n) = packed 5 (text_number s) 0 n
+head_of (Value.Bytes s a n) = packed 6 (text_number s) 0 n
+head_of (Value.List d s a n) = packed 12 (cell_number s) d n
+head_of (Value.Map d s a n) = packed 13 (cell_number s) d n
+head_of Value.OptionalNone = 14
+head_of (Value.OptionalOf d s a) = packed 15 (cell_number s) d 0
+head_of Value.Absent = 16
 
 abbrev pub payload_of : Value → ℕ
 payload_of Value.Null = 0
@@ -76,8 +84,8 @@ Fits Value.Null = Unit {0}
 Fits (Value.Bool b) = Unit {0}
 Fits (Value.Int z) = mag z < 2 ^ 63
 Fits (Value.Uint n) = n < 2 ^ 64
-Fits (Value.Double x) = Fits64 (Plain x)
-Fits (Value.Nan b) = Fits64 (Nan b)
+Fits (Value.Double x) = T (fits binary64 x)
+Fits (Value.Nan b) = b < 2 ^ 64
 Fits (Value.String s a n) = (a < 2 ^ 16) × (n < 2 ^ 16)
 Fits (Value.Bytes s a n) = (a < 2 ^ 16) × (n < 2 ^ 16)
 Fits (Value.List d s a n) = (d < 2 ^ 8) × (a < 2 ^ 16) × (n < 2 ^ 16)
@@ -119,39 +127,39 @@ cell_place s a n =
     (cond (eqb s 0) (CellPlace.At Cells.Binding a n)
     (cond (eqb s 1) (CellPlace.At Cells.Evaluation a n) CellPlace.Nowhere)))
 
--- where only a few payloads are allowed
+-- where a payload is one of few
 abbrev pub only : ℕ → Value → ℕ → Value
 only n v x = cond (eqb x n) v Value.Absent
 
 unfoldable pub bare_of : (kind payload : ℕ) → Value
 bare_of k x =
-    cond (eqb k Kind.null) (only 0 Value.Null x)
-    (cond (eqb k Kind.bool) (cond (eqb x 0) (Value.Bool false) (only 1 (Value.Bool true) x))
-    (cond (eqb k Kind.int) (Value.Int (signed_of x))
-    (cond (eqb k Kind.uint) (Value.Uint x)
-    (cond (eqb k Kind.double) (double_value (double_of x))
-    (cond (eqb k Kind.optional_none) (only 0 Value.OptionalNone x) Value.Absent)))))
+    cond (eqb k 0) (only 0 Value.Null x)
+    (cond (eqb k 1) (cond (eqb x 0) (Value.Bool false) (only 1 (Value.Bool true) x))
+    (cond (eqb k 2) (Value.Int (signed_of x))
+    (cond (eqb k 3) (Value.Uint x)
+    (cond (eqb k 4) (double_value (double_of x))
+    (cond (eqb k 14) (only 0 Value.OptionalNone x) Value.Absent)))))
 
 unfoldable pub text_of : (kind nesting : ℕ) → TextPlace → Value
-text_of k d (TextPlace.At s a n) = cond (eqb d 0) (cond (eqb k Kind.string) (Value.String s a n) (Value.Bytes s a n)) Value.Absent
+text_of k d (TextPlace.At s a n) = cond (eqb d 0) (cond (eqb k 5) (Value.String s a n) (Value.Bytes s a n)) Value.Absent
 text_of k d TextPlace.Nowhere = Value.Absent
 
 unfoldable pub container_of : (kind nesting : ℕ) → CellPlace → Value
 container_of k d (CellPlace.At s a n) =
     cond (ltb 255 d) Value.Absent
-    (cond (eqb k Kind.list) (Value.List d s a n)
-    (cond (eqb k Kind.map) (Value.Map d s a n)
+    (cond (eqb k 12) (Value.List d s a n)
+    (cond (eqb k 13) (Value.Map d s a n)
     (cond (eqb n 0) (Value.OptionalOf d s a) Value.Absent)))
 container_of k d CellPlace.Nowhere = Value.Absent
 
 -- a head's fields with a payload
 unfoldable pub value_of : (head kind space nesting length payload : ℕ) → Value
 value_of h k s d n x =
-    cond (eqb k Kind.string) (text_of k d (text_place s x n))
-    (cond (eqb k Kind.bytes) (text_of k d (text_place s x n))
-    (cond (eqb k Kind.list) (container_of k d (cell_place s x n))
-    (cond (eqb k Kind.map) (container_of k d (cell_place s x n))
-    (cond (eqb k Kind.optional_of) (container_of k d (cell_place s x n))
+    cond (eqb k 5) (text_of k d (text_place s x n))
+    (cond (eqb k 6) (text_of k d (text_place s x n))
+    (cond (eqb k 12) (container_of k d (cell_place s x n))
+    (cond (eqb k 13) (container_of k d (cell_place s x n))
+    (cond (eqb k 15) (container_of k d (cell_place s x n))
     (cond (eqb k h) (bare_of k x) Value.Absent)))))
 
 -- of any two words: a value, or `Absent`

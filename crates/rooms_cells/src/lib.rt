@@ -1,5 +1,5 @@
 // A cell is two words of a lent slice: a head, with the kind, space, nesting and length, and a payload. Values are written and read here alone.
-// Two words are a value, or none: `Value::Absent`. Two zeros are Null, so cleared cells hold Null.
+// For every pair of words there is a value, or none: `Value::Absent`. Two zeros are Null, so cells are cleared to Null.
 // `packing` makes the two words of a value, and takes them apart.
 pub mod packing;
 
@@ -8,9 +8,9 @@ ghost use Rattle.rooms.specs.Cells.{cell_of, cell_in, written_in};
 ghost use Rattle.rooms.specs.Rooms.{words_of};
 
 use crate::packing::{
-    LENGTH_UNIT, NESTING_UNIT, SPACE_UNIT, bare_value, container, head_of, payload_of, text_value,
+    BYTES, LENGTH_UNIT, LIST, MAP, NESTING_UNIT, OPTIONAL_OF, SPACE_UNIT, STRING, bare_value,
+    container, head_of, payload_of, text_value,
 };
-use rooms::kinds::{BYTES, LIST, MAP, OPTIONAL_OF, STRING};
 use rooms::value::{CellSpace, Value};
 
 fn value_of(head: u64, payload: u64) -> Value

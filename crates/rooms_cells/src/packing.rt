@@ -1,12 +1,35 @@
 // A cell is two words: a head, with the kind, space, nesting and length, and a payload. A value is packed into them, and they are taken apart.
 ghost use Rattle.std.specs.Prelude.{◌≡◌, ◌<◌};
-ghost use Rattle.rooms.specs.Cells.{text_number, cell_number, bit_of, packed, head_of, payload_of, text_place, cell_place, bare_of, text_of, container_of};
+ghost use Rattle.rooms.specs.Cells.{signed_of, word_of, text_number, cell_number, bit_of, packed, head_of, payload_of, text_place, cell_place, bare_of, text_of, container_of};
 
-use rooms::kinds::{
-    ABSENT, BOOL, BYTES, DOUBLE, INT, LIST, MAP, NULL, OPTIONAL_NONE, OPTIONAL_OF, STRING, UINT,
-};
 use rooms::places::{CellPlace, TextPlace};
 use rooms::value::{CellSpace, TextSpace, Value};
+
+// The kinds, numbered as in a table; what no table spells has numbers of its own.
+const NULL: u64 = 0;
+
+const BOOL: u64 = 1;
+
+const INT: u64 = 2;
+
+const UINT: u64 = 3;
+
+const DOUBLE: u64 = 4;
+
+pub const STRING: u64 = 5;
+
+pub const BYTES: u64 = 6;
+
+pub const LIST: u64 = 12;
+
+pub const MAP: u64 = 13;
+
+const OPTIONAL_NONE: u64 = 14;
+
+pub const OPTIONAL_OF: u64 = 15;
+
+// Of no value.
+const ABSENT: u64 = 16;
 
 // Where the fields of a head begin: below the first of these the kind, then the space, the nesting and the length.
 pub const SPACE_UNIT: u64 = 0x100;
@@ -16,6 +39,31 @@ pub const NESTING_UNIT: u64 = 0x1_0000;
 pub const LENGTH_UNIT: u64 = 0x100_0000;
 
 const WIDEST: u64 = 0xFFFF;
+
+const SIGN_BIT: u64 = 0x8000_0000_0000_0000;
+
+const ALL_ONES: u64 = 0xFFFF_FFFF_FFFF_FFFF;
+
+// An Int as a word, in two's complement, and back.
+fn word_of(number: i64) -> u64
+    ensures { result ≡ word_of number }
+{
+    if number < 0 {
+        ALL_ONES - ((-(number + 1)) as u64)
+    } else {
+        number as u64
+    }
+}
+
+fn signed_of(word: u64) -> i64
+    ensures { result ≡ signed_of word }
+{
+    if word < SIGN_BIT {
+        word as i64
+    } else {
+        -((ALL_ONES - word) as i64) - 1
+    }
+}
 
 // The number of a text space in a cell, and where a value is shown as words.
 pub fn text_number(space: TextSpace) -> u64
@@ -76,7 +124,7 @@ pub fn payload_of(value: Value) -> u64
     match value {
         Value::Null => 0,
         Value::Bool(truth) => bit(truth),
-        Value::Int(number) => numbers::int::word_of(number),
+        Value::Int(number) => word_of(number),
         Value::Uint(number) => number,
         Value::Double(float) => numbers::double::to_bits(numbers::double::Double::Plain(float)),
         Value::Nan(bits) => bits,
@@ -141,7 +189,7 @@ pub fn bare_value(kind: u64, payload: u64) -> Value
             1 => Value::Bool(true),
             _ => Value::Absent,
         },
-        INT => Value::Int(numbers::int::signed_of(payload)),
+        INT => Value::Int(signed_of(payload)),
         UINT => Value::Uint(payload),
         DOUBLE => rooms::value::double_value(payload),
         OPTIONAL_NONE => match payload {

@@ -1,25 +1,32 @@
 -- Pairs that are asked for before all others: what decides them at once says what is seen of them. Assumes nothing.
-use mathlib.Core.Path.{◌≡◌, ◌∙◌}
-use mathlib.Core.Bool.{Bool}
+use mathlib.Core.Path.{◌≡◌, refl, sym, ap, ◌∙◌}
+use mathlib.Core.Bool.{Bool, true, false}
 use mathlib.Core.List.{List}
 use Prim.Native.Nat.{ℕ}
+use lib.Dec.{eqb}
 use lib.IntN.{ℤ}
 use mir.Syntax.{w64}
 use mir.Val.{SFits, to_z, of_z}
 use mir.ValLaws.{to_z-of_z}
-use Rattle.numbers.specs.declared.order.Number.TheVariants as Number
-use Rattle.numbers.specs.Order.{order_of, is_equal, int_point}
-use Rattle.numbers_laws.proofs.WholeLaws.{one_truth}
+use borrow.Author.Tests.{eq-eqb, eqb-true}
 use Rattle.text.specs.Bytes.{equal_of}
 use Rattle.text.proofs.BytesLaws.{equal-decides}
-use Rattle.meaning.specs.Value.{int, string, string_key, key_scalar}
+use Rattle.meaning.specs.Value.{int, string, int_key, string_key, key_scalar}
 use Rattle.meaning.specs.Comparison.{scalar_equal}
 use Rattle.rooms_comparison.proofs.KeyMatches.{found-matches, matches-found}
-use Rattle.rooms_comparison.proofs.ScalarLaws.{number_same}
 
--- Two Ints, as the numbers' crate compares them.
-pub int_same : (a b : ℤ) (r : Bool) → SFits w64 a → SFits w64 b → r ≡ is_equal (order_of (int_point (to_z w64 (of_z w64 a))) (int_point (to_z w64 (of_z w64 b)))) → r ≡ scalar_equal (int a) (int b)
-int_same a b r f g e = (rw (to_z-of_z w64 a f, to_z-of_z w64 b g) at e) ∙ number_same (Number.Int a) (Number.Int b)
+one_truth : (p q : Bool) → (p ≡ true → q ≡ true) → (q ≡ true → p ≡ true) → p ≡ q
+one_truth true q h k = sym (h refl)
+one_truth false true h k = k refl
+one_truth false false h k = refl
+
+-- Two Ints are one point of the number line exactly if they are the same word.
+pub int_same : (a b : ℤ) → SFits w64 a → SFits w64 b → eqb (of_z w64 a) (of_z w64 b) ≡ scalar_equal (int a) (int b)
+unfolding key_scalar
+int_same a b f g =
+    one_truth (eqb (of_z w64 a) (of_z w64 b)) (scalar_equal (int a) (int b))
+    (λ e. matches-found (int_key a) (int_key b) (sym (to_z-of_z w64 a f) ∙ ap (to_z w64) (eqb-true (of_z w64 a) (of_z w64 b) e) ∙ to_z-of_z w64 b g))
+    (λ e. eq-eqb (of_z w64 a) (of_z w64 b) (ap (of_z w64) (found-matches (int_key a) (int_key b) e)))
 
 -- Two Strings are equal exactly if they are the same bytes.
 pub text_same : (s t : List ℕ) → equal_of s t ≡ scalar_equal (string s) (string t)

@@ -7,9 +7,10 @@ use lib.IntN.{ℤ, nat_abs}
 use Rattle.numbers.specs.declared.order.Order.{Order}
 use Rattle.numbers.specs.declared.order.Order.TheVariants as Order
 use Rattle.numbers.specs.declared.order.Number.TheVariants as Number
-use Rattle.numbers.specs.Order.{order_of, is_equal, flipped, below_zero, int_point, uint_point}
+use Rattle.numbers.specs.Order.{order_of, is_equal, flipped, below_zero, whole_point, int_point, uint_point}
 use Rattle.numbers_laws.proofs.OrderLaws.{order-swap}
-use Rattle.numbers_laws.proofs.WholeLaws.{whole-itself, int-uint-equal, int-uint-only, int-only, uint-only}
+use Rattle.numbers_laws.proofs.SignedOrder.{signed_is}
+use Rattle.numbers_laws.proofs.WholeLaws.{whole-order, int-uint-equal, int-uint-only, int-only, uint-only}
 use Rattle.text.specs.declared.bytes.TextOrder.{TextOrder}
 use Rattle.text.specs.declared.bytes.TextOrder.TheVariants as TextOrder
 use Rattle.text.specs.Bytes as Bytes
@@ -21,6 +22,10 @@ use Rattle.rooms_comparison.proofs.ScalarLaws.{apart, number_same, bool_same, st
 
 never : (x y : Scalar) → eqb (rank x).class (rank y).class ≡ false → scalar_equal x y ≡ true → ⊥
 never x y e h = true≢false (sym h ∙ sym (apart x y e))
+
+itself : (s : Bool) (a : ℕ) → order_of (whole_point s a) (whole_point s a) ≡ Order.Equal
+itself true a = whole-order true a true a ∙ signed_is Order.Equal true a true a refl
+itself false a = whole-order false a false a ∙ signed_is Order.Equal false a false a refl
 
 -- which side is which does not matter
 turned : (n : ℕ) (z : ℤ) → is_equal (order_of (uint_point n) (int_point z)) ≡ is_equal (order_of (int_point z) (uint_point n))
@@ -66,12 +71,12 @@ found-matches (string_key s) (string_key t) h = (order-equal s t).0 (is-equal (B
 -- Every key that matches is.
 pub matches-found : (j k : Key) → Matches j k → scalar_equal (key_scalar j) (key_scalar k) ≡ true
 unfolding key_scalar text_order
-matches-found (int_key y) (int_key z) h = sym (number_same (Number.Int y) (Number.Int z)) ∙ ap (λ x. is_equal (order_of (int_point x) (int_point z))) h ∙ ap is_equal (whole-itself (below_zero z) (nat_abs z))
+matches-found (int_key y) (int_key z) h = sym (number_same (Number.Int y) (Number.Int z)) ∙ ap (λ x. is_equal (order_of (int_point x) (int_point z))) h ∙ ap is_equal (itself (below_zero z) (nat_abs z))
 matches-found (int_key z) (uint_key n) h = sym (number_same (Number.Int z) (Number.Uint n)) ∙ ap (λ y. is_equal (order_of (int_point y) (uint_point n))) h ∙ ap is_equal (int-uint-equal n)
 matches-found (int_key z) (bool_key b) h = absurd h
 matches-found (int_key z) (string_key s) h = absurd h
 matches-found (uint_key n) (int_key z) h = sym (number_same (Number.Uint n) (Number.Int z)) ∙ turned n z ∙ ap (λ y. is_equal (order_of (int_point y) (uint_point n))) h ∙ ap is_equal (int-uint-equal n)
-matches-found (uint_key m) (uint_key n) h = sym (number_same (Number.Uint m) (Number.Uint n)) ∙ ap (λ x. is_equal (order_of (uint_point x) (uint_point n))) h ∙ ap is_equal (whole-itself false n)
+matches-found (uint_key m) (uint_key n) h = sym (number_same (Number.Uint m) (Number.Uint n)) ∙ ap (λ x. is_equal (order_of (uint_point x) (uint_point n))) h ∙ ap is_equal (itself false n)
 matches-found (uint_key n) (bool_key b) h = absurd h
 matches-found (uint_key n) (string_key s) h = absurd h
 matches-found (bool_key b) (int_key z) h = absurd h

@@ -64,8 +64,8 @@ module _ (d limit : ℕ) (r : Rooms) (x y : Value) (k : ℕ) where
     pub maps-uneven : (t : CellSpace) (b m : ℕ) → parts_of y ≡ Parts.Entries t b m → (n ≡ m → ⊥) → Pairs.Unlike (k + 1) ≡ equal_in d limit r x y k
     maps-uneven t b m g w = maps-unlike (Parts.Entries t b m) g (rw (ne_eqb n m w) refl)
 
-    pub maps-even : (t : CellSpace) (b m : ℕ) (p : Pairs) → parts_of y ≡ Parts.Entries t b m → n ≡ m → p ≡ entries_equal inner limit r s a t b m n (k + 1) → p ≡ equal_in d limit r x y k
-    maps-even t b m p g w z = z ∙ sym (maps (Parts.Entries t b m) g ∙ rw (eq-eqb n m w) refl)
+    pub maps-even : (t : CellSpace) (b m : ℕ) (p : Pairs) → parts_of y ≡ Parts.Entries t b m → n ≡ m → p ≡ entries_equal inner limit r s a t b n n (k + 1) → p ≡ equal_in d limit r x y k
+    maps-even t b m p g w z = z ∙ ap (λ i. entries_equal inner limit r s a t b i n (k + 1)) w ∙ sym (maps (Parts.Entries t b m) g ∙ rw (eq-eqb n m w) refl)
 
   -- two present Optionals
   module _ (h : d ≡ 0 → ⊥) (l : k < limit) (s : CellSpace) (a : ℕ) (e : parts_of x ≡ Parts.Present s a) where

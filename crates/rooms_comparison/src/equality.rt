@@ -2,13 +2,11 @@
 ghost use Rattle.std.specs.Prelude.{◌≡◌};
 ghost use Rattle.rooms.specs.Rooms.{rooms};
 ghost use Rattle.rooms_comparison.specs.Equality.{decided, elements_equal, entries_equal, equal_in, equal_pairs};
-ghost use Rattle.rooms.specs.Lent.{rooms_at_entry};
 
 use crate::lookup::{Found, find};
 use crate::pairs::Pairs;
 use crate::plain::plain_equal;
-use crate::runs::Run;
-use rooms::value::{Parts, Value, nesting_of, parts_of};
+use rooms::value::{CellSpace, Parts, Value, nesting_of, parts_of};
 use rooms_cells::cell_at;
 
 fn verdict(same: bool, steps: usize) -> Pairs
@@ -21,7 +19,7 @@ fn verdict(same: bool, steps: usize) -> Pairs
     }
 }
 
-// One pair, and the pairs inside it. The depth falls by one for each part.
+// One pair, and the pairs inside it. The depth falls with each part gone into.
 #[cycle(elements_entries_pair)]
 fn pair(
     literal: &[u8],
@@ -35,7 +33,7 @@ fn pair(
     right: Value,
     steps: usize,
 ) -> Pairs
-    ensures { result ≡ equal_in depth limit (rooms_at_entry literal binding_cells binding_text cells text) left right steps }
+    ensures { result ≡ equal_in depth limit (rooms literal.now binding_cells.now binding_text.now cells.now text.now) left right steps }
 {
     if depth == 0 {
         return Pairs::Unlike(steps);
@@ -51,16 +49,6 @@ fn pair(
                 if length != count {
                     return Pairs::Unlike(pairs);
                 }
-                let these = Run {
-                    space,
-                    first,
-                    length,
-                };
-                let those = Run {
-                    space: there,
-                    first: from,
-                    length: count,
-                };
                 elements(
                     literal,
                     binding_cells,
@@ -69,8 +57,11 @@ fn pair(
                     text,
                     limit,
                     within,
-                    these,
-                    those,
+                    space,
+                    first,
+                    there,
+                    from,
+                    length,
                     pairs,
                 )
             }
@@ -84,16 +75,6 @@ fn pair(
                 if length != count {
                     return Pairs::Unlike(pairs);
                 }
-                let these = Run {
-                    space,
-                    first,
-                    length,
-                };
-                let those = Run {
-                    space: there,
-                    first: from,
-                    length: count,
-                };
                 entries(
                     literal,
                     binding_cells,
@@ -102,8 +83,11 @@ fn pair(
                     text,
                     limit,
                     within,
-                    these,
-                    those,
+                    space,
+                    first,
+                    there,
+                    from,
+                    length,
                     pairs,
                 )
             }
@@ -145,19 +129,18 @@ fn elements(
     text: &[u8],
     limit: usize,
     depth: usize,
-    these: Run,
-    those: Run,
+    space: CellSpace,
+    first: u16,
+    there: CellSpace,
+    from: u16,
+    length: u16,
     steps: usize,
 ) -> Pairs
-    ensures { result ≡ elements_equal (λ v w j. equal_in depth limit (rooms_at_entry literal binding_cells binding_text cells text) v w j)
-        (rooms_at_entry literal binding_cells binding_text cells text) these.space these.first those.space those.first
-        these.length steps }
+    ensures { result ≡ elements_equal (λ v w j. equal_in depth limit (rooms literal.now binding_cells.now binding_text.now cells.now text.now) v w j) (rooms literal.now binding_cells.now binding_text.now cells.now text.now) space first there from length steps }
 {
-    let space = these.space;
-    let there = those.space;
-    let mut at = these.first as usize;
-    let mut other = those.first as usize;
-    let mut left = these.length as usize;
+    let mut at = first as usize;
+    let mut other = from as usize;
+    let mut left = length as usize;
     let mut pairs = steps;
     while 0 < left {
         let part = cell_at(binding_cells, cells, space, at);
@@ -201,18 +184,17 @@ fn entries(
     text: &[u8],
     limit: usize,
     depth: usize,
-    these: Run,
-    those: Run,
+    space: CellSpace,
+    first: u16,
+    there: CellSpace,
+    from: u16,
+    length: u16,
     steps: usize,
 ) -> Pairs
-    ensures { result ≡ entries_equal (λ v w j. equal_in depth limit (rooms_at_entry literal binding_cells binding_text cells text) v w j) limit
-        (rooms_at_entry literal binding_cells binding_text cells text) these.space these.first those.space those.first
-        those.length these.length steps }
+    ensures { result ≡ entries_equal (λ v w j. equal_in depth limit (rooms literal.now binding_cells.now binding_text.now cells.now text.now) v w j) limit (rooms literal.now binding_cells.now binding_text.now cells.now text.now) space first there from length length steps }
 {
-    let space = these.space;
-    let there = those.space;
-    let mut at = these.first as usize;
-    let mut left = these.length as usize;
+    let mut at = first as usize;
+    let mut left = length as usize;
     let mut pairs = steps;
     while 0 < left {
         let key = cell_at(binding_cells, cells, space, at);
@@ -224,7 +206,9 @@ fn entries(
             text,
             limit,
             key,
-            those,
+            there,
+            from,
+            length,
             pairs,
         ) {
             Found::At(cell, looked) => {
@@ -278,7 +262,7 @@ pub fn equal(
     right: Value,
     steps: usize,
 ) -> Pairs
-    ensures { result ≡ equal_pairs limit (rooms_at_entry literal binding_cells binding_text cells text) left right steps }
+    ensures { result ≡ equal_pairs limit (rooms literal.now binding_cells.now binding_text.now cells.now text.now) left right steps }
 {
     let depth = nesting_of(left) as usize;
     pair(

@@ -4,13 +4,11 @@ ghost use Rattle.rooms.specs.declared.value.Parts.TheVariants.{Nothing};
 ghost use Rattle.rooms.specs.Value.{parts_of};
 ghost use Rattle.rooms.specs.Rooms.{rooms};
 ghost use Rattle.rooms_comparison.specs.Equality.{among_in};
-ghost use Rattle.rooms.specs.Lent.{rooms_at_entry};
 
 use crate::equality::equal;
 use crate::pairs::Pairs;
 use crate::plain::plain_equal;
-use crate::runs::Run;
-use rooms::value::{Parts, Value, parts_of};
+use rooms::value::{CellSpace, Parts, Value, parts_of};
 use rooms_cells::cell_at;
 
 fn has_no_parts(value: Value) -> bool
@@ -33,15 +31,16 @@ fn among_plain(
     text: &[u8],
     limit: usize,
     value: Value,
-    run: Run,
+    space: CellSpace,
+    first: u16,
+    length: u16,
     steps: usize,
 ) -> Pairs
     requires { parts_of value ≡ Nothing }
-    ensures { result ≡ among_in limit (rooms_at_entry literal binding_cells binding_text cells text) value run.space run.first run.length steps }
+    ensures { result ≡ among_in limit (rooms literal.now binding_cells.now binding_text.now cells.now text.now) value space first length steps }
 {
-    let space = run.space;
-    let mut at = run.first as usize;
-    let mut left = run.length as usize;
+    let mut at = first as usize;
+    let mut left = length as usize;
     let mut pairs = steps;
     while 0 < left {
         if limit <= pairs {
@@ -67,14 +66,15 @@ fn among_nested(
     text: &[u8],
     limit: usize,
     value: Value,
-    run: Run,
+    space: CellSpace,
+    first: u16,
+    length: u16,
     steps: usize,
 ) -> Pairs
-    ensures { result ≡ among_in limit (rooms_at_entry literal binding_cells binding_text cells text) value run.space run.first run.length steps }
+    ensures { result ≡ among_in limit (rooms literal.now binding_cells.now binding_text.now cells.now text.now) value space first length steps }
 {
-    let space = run.space;
-    let mut at = run.first as usize;
-    let mut left = run.length as usize;
+    let mut at = first as usize;
+    let mut left = length as usize;
     let mut pairs = steps;
     while 0 < left {
         let element = cell_at(binding_cells, cells, space, at);
@@ -105,7 +105,7 @@ fn among_nested(
     Pairs::Unlike(pairs)
 }
 
-// `in`: up to the first element of a run that is equal.
+// `in`: up to the first of `length` elements from cell `first` on that is equal.
 pub fn among(
     literal: &[u8],
     binding_cells: &[u64],
@@ -114,10 +114,12 @@ pub fn among(
     text: &[u8],
     limit: usize,
     value: Value,
-    run: Run,
+    space: CellSpace,
+    first: u16,
+    length: u16,
     steps: usize,
 ) -> Pairs
-    ensures { result ≡ among_in limit (rooms_at_entry literal binding_cells binding_text cells text) value run.space run.first run.length steps }
+    ensures { result ≡ among_in limit (rooms literal.now binding_cells.now binding_text.now cells.now text.now) value space first length steps }
 {
     if has_no_parts(value) {
         among_plain(
@@ -128,7 +130,9 @@ pub fn among(
             text,
             limit,
             value,
-            run,
+            space,
+            first,
+            length,
             steps,
         )
     } else {
@@ -140,7 +144,9 @@ pub fn among(
             text,
             limit,
             value,
-            run,
+            space,
+            first,
+            length,
             steps,
         )
     }

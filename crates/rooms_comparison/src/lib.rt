@@ -12,5 +12,3 @@ pub mod ordering;
 pub mod pairs;
 // Two values without parts.
 pub mod plain;
-// Elements or entries in cells.
-pub mod runs;

@@ -2,11 +2,9 @@
 ghost use Rattle.std.specs.Prelude.{◌≡◌};
 ghost use Rattle.rooms.specs.Rooms.{rooms};
 ghost use Rattle.rooms_comparison.specs.LookUp.{find_in};
-ghost use Rattle.rooms.specs.Lent.{rooms_at_entry};
 
 use crate::plain::key_equal;
-use crate::runs::Run;
-use rooms::value::Value;
+use rooms::value::{CellSpace, Value};
 use rooms_cells::cell_at;
 
 // What a look-up came to, with the pairs counted so far: the cell of the entry's value, no entry, or the limit.
@@ -17,7 +15,7 @@ pub enum Found {
     Out(usize),
 }
 
-// Of a run of entries the first whose key is equal to the probe: a pair for each key looked at.
+// Of `length` entries from cell `first` on, the first whose key is equal to the probe: a pair for each key looked at.
 pub fn find(
     literal: &[u8],
     binding_cells: &[u64],
@@ -26,14 +24,15 @@ pub fn find(
     text: &[u8],
     limit: usize,
     probe: Value,
-    run: Run,
+    space: CellSpace,
+    first: u16,
+    length: u16,
     steps: usize,
 ) -> Found
-    ensures { result ≡ find_in limit (rooms_at_entry literal binding_cells binding_text cells text) probe run.space run.first run.length steps }
+    ensures { result ≡ find_in limit (rooms literal.now binding_cells.now binding_text.now cells.now text.now) probe space first length steps }
 {
-    let space = run.space;
-    let mut at = run.first as usize;
-    let mut left = run.length as usize;
+    let mut at = first as usize;
+    let mut left = length as usize;
     let mut pairs = steps;
     while 0 < left {
         if limit <= pairs {

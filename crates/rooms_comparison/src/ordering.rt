@@ -3,10 +3,9 @@ ghost use Rattle.std.specs.Prelude.{◌≡◌, List, ℕ};
 ghost use Rattle.meaning.specs.Value.{bool, string, bytes};
 ghost use Rattle.meaning.specs.Comparison.{text_order};
 ghost use Rattle.rooms.specs.Value.{plain_of};
+ghost use Rattle.rooms.specs.Rooms.{part, text_of};
 ghost use Rattle.rooms_comparison.specs.Seen.{seen_scalar, number_scalar, seen_of};
 ghost use Rattle.rooms_comparison.specs.Order.{bool_order, order_seen, compared_of};
-ghost use Rattle.rooms.specs.Lent.{span_at_entry};
-ghost use Rattle.rooms_comparison.specs.Lent.{seen_at_entry};
 
 use numbers::order::{Number, Order};
 use rooms::value::{Plain, TextSpace, Value, plain_of};
@@ -68,8 +67,7 @@ fn compare_string(
     length: u16,
     other: Plain,
 ) -> Compared
-    ensures { result ≡ compared_of (order_seen (seen_scalar (string (span_at_entry literal binding_text text space first length)))
-        (seen_at_entry literal binding_text text other)) }
+    ensures { result ≡ compared_of (order_seen (seen_scalar (string (part (text_of literal.now binding_text.now text.now space) first length))) (seen_of literal.now binding_text.now text.now other)) }
 {
     let Plain::String(there, from, count) = other else {
         return Compared::Unlike;
@@ -96,8 +94,7 @@ fn compare_bytes(
     length: u16,
     other: Plain,
 ) -> Compared
-    ensures { result ≡ compared_of (order_seen (seen_scalar (bytes (span_at_entry literal binding_text text space first length)))
-        (seen_at_entry literal binding_text text other)) }
+    ensures { result ≡ compared_of (order_seen (seen_scalar (bytes (part (text_of literal.now binding_text.now text.now space) first length))) (seen_of literal.now binding_text.now text.now other)) }
 {
     let Plain::Bytes(there, from, count) = other else {
         return Compared::Unlike;
@@ -123,8 +120,7 @@ pub fn compare(
     first: Value,
     second: Value,
 ) -> Compared
-    ensures { result ≡ compared_of (order_seen (seen_at_entry literal binding_text text (plain_of first))
-        (seen_at_entry literal binding_text text (plain_of second))) }
+    ensures { result ≡ compared_of (order_seen (seen_of literal.now binding_text.now text.now (plain_of first)) (seen_of literal.now binding_text.now text.now (plain_of second))) }
 {
     let left = plain_of(first);
     let right = plain_of(second);

@@ -4,9 +4,8 @@ ghost use Rattle.numbers.specs.Order.{is_equal};
 ghost use Rattle.meaning.specs.Value.{null, bool, string, bytes};
 ghost use Rattle.meaning.specs.Comparison.{text_order};
 ghost use Rattle.rooms.specs.Value.{plain_of};
+ghost use Rattle.rooms.specs.Rooms.{part, text_of};
 ghost use Rattle.rooms_comparison.specs.Seen.{seen_scalar, seen_none, number_scalar, seen_of, same_seen};
-ghost use Rattle.rooms.specs.Lent.{span_at_entry};
-ghost use Rattle.rooms_comparison.specs.Lent.{seen_at_entry};
 
 use numbers::order::Number;
 use rooms::value::{Plain, TextSpace, Value, plain_of};
@@ -69,8 +68,7 @@ fn same_string(
     length: u16,
     other: Plain,
 ) -> bool
-    ensures { result ≡ same_seen (seen_scalar (string (span_at_entry literal binding_text text space first length)))
-        (seen_at_entry literal binding_text text other) }
+    ensures { result ≡ same_seen (seen_scalar (string (part (text_of literal.now binding_text.now text.now space) first length))) (seen_of literal.now binding_text.now text.now other) }
 {
     let Plain::String(there, from, count) = other else {
         return false;
@@ -97,8 +95,7 @@ fn same_bytes(
     length: u16,
     other: Plain,
 ) -> bool
-    ensures { result ≡ same_seen (seen_scalar (bytes (span_at_entry literal binding_text text space first length)))
-        (seen_at_entry literal binding_text text other) }
+    ensures { result ≡ same_seen (seen_scalar (bytes (part (text_of literal.now binding_text.now text.now space) first length))) (seen_of literal.now binding_text.now text.now other) }
 {
     let Plain::Bytes(there, from, count) = other else {
         return false;
@@ -124,7 +121,7 @@ fn equal_by_kind(
     first: Value,
     second: Value,
 ) -> bool
-    ensures { result ≡ same_seen (seen_at_entry literal binding_text text (plain_of first)) (seen_at_entry literal binding_text text (plain_of second)) }
+    ensures { result ≡ same_seen (seen_of literal.now binding_text.now text.now (plain_of first)) (seen_of literal.now binding_text.now text.now (plain_of second)) }
 {
     let left = plain_of(first);
     let right = plain_of(second);
@@ -143,7 +140,7 @@ fn equal_by_kind(
     }
 }
 
-// Whether two values without parts are equal. Two Strings are tested for first: most keys are Strings, and their equality needs no order.
+// Whether two values without parts are equal. Two Strings, which most keys are, are asked for first: they need no order.
 pub fn key_equal(
     literal: &[u8],
     binding_text: &[u8],
@@ -151,7 +148,7 @@ pub fn key_equal(
     first: Value,
     second: Value,
 ) -> bool
-    ensures { result ≡ same_seen (seen_at_entry literal binding_text text (plain_of first)) (seen_at_entry literal binding_text text (plain_of second)) }
+    ensures { result ≡ same_seen (seen_of literal.now binding_text.now text.now (plain_of first)) (seen_of literal.now binding_text.now text.now (plain_of second)) }
 {
     if let Value::String(space, at, length) = first {
         if let Value::String(there, from, count) = second {
@@ -171,7 +168,7 @@ pub fn key_equal(
     equal_by_kind(literal, binding_text, text, first, second)
 }
 
-// The same; two Ints are tested for first.
+// The same; two Ints are asked for first: they need no number line.
 pub fn plain_equal(
     literal: &[u8],
     binding_text: &[u8],
@@ -179,11 +176,11 @@ pub fn plain_equal(
     first: Value,
     second: Value,
 ) -> bool
-    ensures { result ≡ same_seen (seen_at_entry literal binding_text text (plain_of first)) (seen_at_entry literal binding_text text (plain_of second)) }
+    ensures { result ≡ same_seen (seen_of literal.now binding_text.now text.now (plain_of first)) (seen_of literal.now binding_text.now text.now (plain_of second)) }
 {
     if let Value::Int(one) = first {
         if let Value::Int(other) = second {
-            return numbers_order::ints_equal(one, other);
+            return one == other;
         }
     }
     key_equal(literal, binding_text, text, first, second)

@@ -6,6 +6,8 @@ use mathlib.Core.Bool.{Bool, true, false, cond}
 use mathlib.Core.List.{List}
 use native.Mathlib.Omega.{arith}
 use lib.Dec.{leb}
+use lib.Ieee.{binary64}
+use lib.Ieee.Bits.{to_bits-lt}
 use lib.ListN.{length, get_or}
 use borrow.Author.Tests.{lt-ltb}
 use Rattle.numbers.specs.declared.double.Double.{Double}
@@ -27,7 +29,6 @@ use Rattle.rooms_taking.proofs.TakingSteps.{cells-taken}
 use Rattle.rooms.proofs.CellLaws.{written_same, written-other, cell_same}
 use Rattle.rooms_taking.proofs.Zeroed.{zeroed-length, zeroed-below, zeroed-at}
 use Rattle.rooms.proofs.Frame.{frame}
-use Rattle.rooms.proofs.Words.{bits_small}
 
 -- ---- rooms with other cells of the evaluation
 
@@ -75,8 +76,8 @@ pub written-agrees : (L : Alive) (r : Rooms) (i : ℕ) (m : Value) → (L.cells 
 written-agrees L r i m free = words-agree L r (written_in r.cells i m) (λ j l. written-other r.cells i j m (λ e. free (subst (λ k. L.cells Cells.Evaluation k) e l)))
 
 settled-double : (x : Double) → Fits (double_value x) → (settled (double_value x) ≡ double_value (double_of (bits_of x))) × (bits_of (double_of (bits_of x)) ≡ bits_of x)
-settled-double (Bits.Plain x) f = (refl, bits_back (bits_of (Bits.Plain x)) (bits_small (Bits.Plain x) f))
-settled-double (Bits.Nan b) f = (refl, bits_back b (bits_small (Bits.Nan b) f))
+settled-double (Bits.Plain x) f = (refl, bits_back (bits_of (Bits.Plain x)) (to_bits-lt binary64 x f))
+settled-double (Bits.Nan b) f = (refl, bits_back b f)
 
 -- a value stands for the same in the spelling that words give it
 pub settled-stands : (L : Alive) (r : Rooms) (v : Meaning.Value) (m : Value) → Fits m → Stands v L r m → Stands v L r (settled m)

@@ -5,8 +5,7 @@ pub mod sizes;
 ghost use Rattle.std.specs.Prelude.{◌≡◌};
 ghost use Rattle.text.specs.Bytes.{equal_of, order_of};
 ghost use Rattle.text.specs.Utf8.{code_points};
-ghost use Rattle.rooms.specs.Rooms.{part};
-ghost use Rattle.rooms.specs.Lent.{span_at_entry};
+ghost use Rattle.rooms.specs.Rooms.{part, text_of};
 
 use rooms::value::TextSpace;
 use text::bytes::TextOrder;
@@ -36,7 +35,7 @@ fn compare_part(
     first: u16,
     length: u16,
 ) -> TextOrder
-    ensures { result ≡ order_of left.now (span_at_entry literal binding_text text space first length) }
+    ensures { result ≡ order_of left.now (part (text_of literal.now binding_text.now text.now space) first length) }
 {
     match space {
         TextSpace::Literal => text::bytes::compare(
@@ -66,8 +65,7 @@ pub fn parts_compare(
     other_first: u16,
     other_length: u16,
 ) -> TextOrder
-    ensures { result ≡ order_of (span_at_entry literal binding_text text space first length)
-        (span_at_entry literal binding_text text other other_first other_length) }
+    ensures { result ≡ order_of (part (text_of literal.now binding_text.now text.now space) first length) (part (text_of literal.now binding_text.now text.now other) other_first other_length) }
 {
     match space {
         TextSpace::Literal => {
@@ -119,7 +117,7 @@ fn equal_part(
     first: u16,
     length: u16,
 ) -> bool
-    ensures { result ≡ equal_of left.now (span_at_entry literal binding_text text space first length) }
+    ensures { result ≡ equal_of left.now (part (text_of literal.now binding_text.now text.now space) first length) }
 {
     match space {
         TextSpace::Literal => text::bytes::equal(
@@ -149,8 +147,7 @@ pub fn parts_equal(
     other_first: u16,
     other_length: u16,
 ) -> bool
-    ensures { result ≡ equal_of (span_at_entry literal binding_text text space first length)
-        (span_at_entry literal binding_text text other other_first other_length) }
+    ensures { result ≡ equal_of (part (text_of literal.now binding_text.now text.now space) first length) (part (text_of literal.now binding_text.now text.now other) other_first other_length) }
 {
     match space {
         TextSpace::Literal => {
@@ -201,7 +198,7 @@ pub fn part_points(
     first: u16,
     length: u16,
 ) -> usize
-    ensures { result ≡ code_points (span_at_entry literal binding_text text space first length) }
+    ensures { result ≡ code_points (part (text_of literal.now binding_text.now text.now space) first length) }
 {
     match space {
         TextSpace::Literal => text::utf8::code_points(part(

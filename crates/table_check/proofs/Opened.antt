@@ -17,7 +17,7 @@ use Rattle.meaning.specs.Heads.{Got, got, ◌>>=◌, ◌>>◌, demand, or_refuse
 use Rattle.meaning.specs.Table.{elements_from, pairs_from, span, utf8, filled, called_at, body_at, as_expr, as_part, expr_at, part_at, word_bytes}
 use Rattle.table_check.specs.declared.records.Read.TheVariants.{Ends}
 use Rattle.table_check.specs.declared.faults.Marks.TheVariants.{Nowhere, Anywhere, Values}
-use Rattle.table_layout.specs.Layout.{row_of, head_bytes, word_at, after, fields_at, after_number, span_size_at, field_size_at}
+use Rattle.table_layout.specs.Layout.{row_of, head_bytes, word_at, after, fields_at}
 use Rattle.table_check.specs.Shapes.{numbers_of, called_count, expr_count, count_of}
 use Rattle.table_check.specs.Faults.{expr_marks}
 use Rattle.table_check.specs.Fits.{is_some, expr_fits}
@@ -180,13 +180,13 @@ module _ (t x : List ℕ) (p : ℕ) where
   head-is comprehension_kind = refl
   head-is function_kind = refl
 
-  one_on : p + fields_at + 1 ≡ p + after_number
+  one_on : p + fields_at + 1 ≡ p + (fields_at + 1)
   one_on = omega arith
 
-  word_on : p + fields_at + word_bytes ≡ p + span_size_at
+  word_on : p + fields_at + word_bytes ≡ p + (fields_at + word_bytes)
   word_on = omega arith
 
-  both-on : p + fields_at + 1 + word_bytes ≡ p + field_size_at
+  both-on : p + fields_at + 1 + word_bytes ≡ p + (fields_at + 1 + word_bytes)
   both-on = omega arith
 
   numbers-are : (k : ExprKind) → numbers_of t p (kind_byte k) ≡ numbers_in t x p k

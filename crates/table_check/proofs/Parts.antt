@@ -11,12 +11,12 @@ use Rattle.meaning.specs.Heads.{Got, got, refused, ◌>>=◌, Head, field_bytes,
 use Rattle.meaning.specs.Table.{Part, Reader, bare, marked, body_at, as_expr, as_part, expr_at, part_at, word_bytes}
 use Rattle.table_check.specs.declared.faults.Marks.{Marks}
 use Rattle.table_check.specs.declared.faults.Marks.TheVariants.{Nowhere, Anywhere, Values}
-use Rattle.table_layout.specs.Layout.{fields_at, row_of, head_bytes, word_at, after, plain_head}
+use Rattle.table_layout.specs.Layout.{fields_at, row_of, head_bytes, word_at, after}
 use Rattle.table_check.specs.Shapes.{numbers_of, count_of}
 use Rattle.table_check.specs.Faults.{marks_of}
 use Rattle.table_check.specs.Fits.{fields_fit}
 use Rattle.table_check.specs.Reading.{ends, read_of}
-use Rattle.table_check.specs.Records.{expr_in, part_in, expr_of, part_of, Sound, SoundPart, Row, kind_byte, numbers_in, mark_byte}
+use Rattle.table_check.specs.Records.{expr_in, part_in, expr_of, part_of, Sound, SoundPart, Row, kind_byte, numbers_in}
 use Rattle.table_check.specs.Opened.{Marked}
 use Rattle.table_layout.proofs.KindLaws.{every-kind, head-table}
 use Rattle.table_check.proofs.HeadLaws.{Here, head_here}
@@ -26,9 +26,9 @@ use Rattle.table_check.proofs.Opened.{then, filled-by, head_in, head-of-kind, re
 
 -- ---- kinds
 
-kind-of : (n : ℕ) → n < 17 → (n ≡ mark_byte → ⊥) → (k : ExprKind) × (n ≡ kind_byte k)
+kind-of : (n : ℕ) → n < 17 → (n ≡ 14 → ⊥) → (k : ExprKind) × (n ≡ kind_byte k)
 kind-of =
-    every-kind (λ n. (n ≡ mark_byte → ⊥) → (k : ExprKind) × (n ≡ kind_byte k)) (λ a. (null_kind, refl)) (λ a. (bool_kind, refl)) (λ a. (int_kind, refl))
+    every-kind (λ n. (n ≡ 14 → ⊥) → (k : ExprKind) × (n ≡ kind_byte k)) (λ a. (null_kind, refl)) (λ a. (bool_kind, refl)) (λ a. (int_kind, refl))
     (λ a. (uint_kind, refl)) (λ a. (double_kind, refl)) (λ a. (string_kind, refl)) (λ a. (bytes_kind, refl)) (λ a. (name_kind, refl)) (λ a. (unary_kind, refl))
     (λ a. (binary_kind, refl)) (λ a. (conditional_kind, refl)) (λ a. (select_kind, refl)) (λ a. (list_kind, refl)) (λ a. (map_kind, refl)) (λ a. absurd (a refl))
     (λ a. (comprehension_kind, refl)) (λ a. (function_kind, refl))
@@ -48,7 +48,7 @@ bind-back {A} {B} (got a) f {c} {q} e =
     (a.0, ap (λ n. got (a.0, n)) e1, sym e0)
 bind-back (refused r p) f e = let z : ◌≡◌ {A = ℕ} 0 1 = cc in absurd (omega arith)
 
-mark-row : (row_of mark_byte).kind ≡ mark
+mark-row : (row_of 14).kind ≡ mark
 unfolding row_of kinds
 mark-row = refl
 
@@ -60,15 +60,15 @@ module _ (t x : List ℕ) (p : ℕ) (s : SoundPart t x p) where
   g : Here t p (length t)
   g = part-here t x p s
 
-  module _ (b : get_or t p 0 ≡ mark_byte) where
+  module _ (b : get_or t p 0 ≡ 14) where
     abbrev mark_head : Head
-    mark_head = record { kind = mark; numbers = []; operands_at = p + plain_head; end = after t p }
+    mark_head = record { kind = mark; numbers = []; operands_at = p + fields_at; end = after t p }
 
-    mark-bytes : head_bytes mark_byte ≡ plain_head
+    mark-bytes : head_bytes 14 ≡ 3
     unfolding head_bytes row_of kinds fields_bytes field_bytes
     mark-bytes = refl
 
-    mark-numbers : numbers_of t p mark_byte ≡ []
+    mark-numbers : numbers_of t p 14 ≡ []
     unfolding numbers_of row_of kinds numbers_at
     mark-numbers = refl
 
@@ -79,14 +79,14 @@ module _ (t x : List ℕ) (p : ℕ) (s : SoundPart t x p) where
     unfolding SoundPart
     mark-body = sym (part-read t x p 63 (length t) mark-read) ∙ s
 
-    marked_row : LowRow t x Nowhere (after t p) 1 (p + plain_head)
+    marked_row : LowRow t x Nowhere (after t p) 1 (p + fields_at)
     unfolding read_of fields_fit count_of marks_of
     marked_row =
-        low-row t x p Nowhere (after t p) 1 (p + plain_head) g.inside
+        low-row t x p Nowhere (after t p) 1 (p + fields_at) g.inside
         (sym (part-ends x (λ q e. expr_at word_bytes t x 63 q e) (λ q e. part_at word_bytes t x 63 q e) (λ m q e. read_of t x 63 m q e) (λ q r. refl) (λ q r. refl)
         p mark_head mark (λ z. absurd (omega arith))) ∙ ap ends mark-body)
 
-    marked-is : part_of t x p ≡ marked p (expr_of t x (p + plain_head))
+    marked-is : part_of t x p ≡ marked p (expr_of t x (p + fields_at))
     unfolding as_part part_in
     marked-is = ap part_in (sym mark-body ∙ then _ marked_row.0 (filled-by p mark_head _ marked_row.1))
 
@@ -95,13 +95,13 @@ module _ (t x : List ℕ) (p : ℕ) (s : SoundPart t x p) where
       body = rw (b, mark-bytes) at g.room;
       room = g.inside;
       first = ap (λ (n : ℕ). p + n) (ap head_bytes b ∙ mark-bytes);
-      operand = (up-row t x Nowhere (after t p) 1 (p + plain_head) g.inside marked_row).0;
+      operand = (up-row t x Nowhere (after t p) 1 (p + fields_at) g.inside marked_row).0;
       ends = marked_row.1;
       is = marked-is;
     }
 
   -- one that is not
-  pub part-bare : (get_or t p 0 ≡ mark_byte → ⊥) → Sound t x p × (part_of t x p ≡ bare (expr_of t x p))
+  pub part-bare : (get_or t p 0 ≡ 14 → ⊥) → Sound t x p × (part_of t x p ≡ bare (expr_of t x p))
   unfolding SoundPart Sound as_part as_expr expr_in
   part-bare b =
       let k = kind-of (get_or t p 0) g.known b in
@@ -140,7 +140,7 @@ module _ (t x : List ℕ) where
       let s = rw (two-more n) at r in
       (rw (key-next n) at s.0, rw (value-next n) at s.1.0, rw sub-one s.1.1)
 
-  no-mark : (p : ℕ) → Sound t x p → get_or t p 0 ≡ mark_byte → ⊥
+  no-mark : (p : ℕ) → Sound t x p → get_or t p 0 ≡ 14 → ⊥
   unfolding Sound
   no-mark p s b =
       let h = sound-here t x p s in

@@ -12,14 +12,14 @@ use Rattle.meaning.specs.Expr.{Expr, Elements, Pairs}
 use Rattle.meaning.specs.Kinds.{ExprKind, null_kind, bool_kind, int_kind, uint_kind, double_kind, string_kind, bytes_kind, name_kind, unary_kind, binary_kind, conditional_kind, select_kind, list_kind, map_kind, comprehension_kind, function_kind, Called, to_one, to_none, to_two, numbered, functions}
 use Rattle.meaning.specs.Table.{Part, bare, marked, add_element, add_pair}
 use Rattle.meaning.specs.Listing.{Listed, records_of, records_of_elements, records_of_pairs}
-use Rattle.table_layout.specs.Layout.{fields_at, word_at, after, plain_head}
+use Rattle.table_layout.specs.Layout.{fields_at, word_at, after}
 use Rattle.table_check.specs.declared.Checked.TheVariants.{Accepted}
 use Rattle.table_check.specs.declared.faults.Marks.{Marks}
 use Rattle.table_check.specs.declared.faults.Marks.TheVariants.{Nowhere, Anywhere, Values}
 use Rattle.table_check.specs.Shapes.{called_count, expr_count}
 use Rattle.table_check.specs.Faults.{expr_marks, may_mark}
 use Rattle.table_check.specs.Fits.{is_some, expr_fits}
-use Rattle.table_check.specs.Records.{expr_of, part_of, Sound, SoundPart, Operand, Row, elements_of, pairs_of, kind_byte, head_of_kind, numbers_in, call_of, node, mark_byte}
+use Rattle.table_check.specs.Records.{expr_of, part_of, Sound, SoundPart, Operand, Row, elements_of, pairs_of, kind_byte, head_of_kind, numbers_in, call_of, node}
 use Rattle.table_check.specs.Check.{check_of}
 use Rattle.table_check.specs.Walk.{next, Walk, Step}
 use Rattle.table_layout.proofs.KindLaws.{head-table}
@@ -167,13 +167,13 @@ module _ (t x : List ℕ) where
 
   part-walk : (n : ℕ) → Walked n → (q : ℕ) → SoundPart t x q → after t q ≤ q + n → Walk t (after t q) q (part_records (part_of t x q))
   part-walk n below q s le =
-      by-test (eqb (get_or t q 0) mark_byte)
-      (λ e. let b = eqb-true (get_or t q 0) mark_byte e in
+      by-test (eqb (get_or t q 0) 14)
+      (λ e. let b = eqb-true (get_or t q 0) 14 e in
       let m = part-marked t x q s b in
       let h = part-extent t x q s in
-      let w = below (q + plain_head) m.operand (omega (arith, m.ends, le)) in
+      let w = below (q + fields_at) m.operand (omega (arith, m.ends, le)) in
       rw m.is (refl, rw b, omega (arith, h.0), (part-here t x q s).known, rw (m.first, ← m.ends) w))
-      (λ e. let b = part-bare t x q s (eqb-false (get_or t q 0) mark_byte e) in rw b.1 (below q b.0 le))
+      (λ e. let b = part-bare t x q s (eqb-false (get_or t q 0) 14 e) in rw b.1 (below q b.0 le))
 
   operand-walk : (n : ℕ) → Walked n → (marked : Bool) (q : ℕ) → Operand t x marked q → after t q ≤ q + n →
       Walk t (after t q) q (operand_records t x marked q)

@@ -1,9 +1,9 @@
--- What is known of an accepted table, of a record in it and of a mark: where their parts lie, and which expression they are.
+-- What an accepted table, a record in it and a mark are, opened: where their parts lie, and which expression they are.
 use Rattle.std.specs.Prelude.{ℕ, ◌+◌, ◌≤◌, ◌≡◌, true, List, length, get_or}
 use Rattle.meaning.specs.Kinds.{ExprKind}
 use Rattle.meaning.specs.Heads.{got}
 use Rattle.meaning.specs.Table.{marked, read_table}
-use Rattle.table_layout.specs.Layout.{head_bytes, after, plain_head}
+use Rattle.table_layout.specs.Layout.{head_bytes, after, fields_at}
 use Rattle.table_check.specs.Shapes.{expr_count}
 use Rattle.table_check.specs.Faults.{expr_marks}
 use Rattle.table_check.specs.Fits.{expr_fits}
@@ -31,9 +31,9 @@ pub record Opened (t x : List ℕ) (p : ℕ) (k : ExprKind) : Type 0 where
 
 -- the mark at p, about an accepted record that ends where it does
 pub record Marked (t x : List ℕ) (p : ℕ) : Type 0 where
-  pub body : p + plain_head ≤ length t
+  pub body : p + fields_at ≤ length t
   pub room : after t p ≤ length t
-  pub first : p + head_bytes (get_or t p 0) ≡ p + plain_head
-  pub operand : Sound t x (p + plain_head)
-  pub ends : after t (p + plain_head) ≡ after t p
-  pub is : part_of t x p ≡ marked p (expr_of t x (p + plain_head))
+  pub first : p + head_bytes (get_or t p 0) ≡ p + fields_at
+  pub operand : Sound t x (p + fields_at)
+  pub ends : after t (p + fields_at) ≡ after t p
+  pub is : part_of t x p ≡ marked p (expr_of t x (p + fields_at))

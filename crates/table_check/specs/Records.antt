@@ -1,7 +1,8 @@
 -- The records of an accepted table: the expression at a place, and what a record of each kind is made of.
 use Rattle.std.specs.Prelude.{ℕ, zero, suc, ◌+◌, ◌≡◌, Bool, true, false, List, [], ◌∷◌, eqb, length, take, drop, get_or}
 use Rattle.std.proofs.Math.Option.{Option, none, some}
-use Rattle.numbers.specs.Int.{signed_of}
+use Rattle.std.specs.Int.{w64}
+use Rattle.std.proofs.Common.{to_z}
 use Rattle.meaning.specs.Limits.{deepest_record}
 use Rattle.meaning.specs.Value.{null, bool, int, uint, double, string, bytes}
 use Rattle.meaning.specs.Expr.{Expr, literal, name, unary, binary, conditional, select, list_of, map_of, comprehension, call, none_call, or_value, Elements, no_elements, Pairs, no_pairs, Unary, not_op, Binary, equals}
@@ -9,7 +10,7 @@ use Rattle.meaning.specs.Kinds.{ExprKind, null_kind, bool_kind, int_kind, uint_k
 use Rattle.meaning.specs.Heads.{Got, got, refused}
 use Rattle.meaning.specs.Table.{Part, bare, add_element, add_pair, expr_at, part_at, word_bytes}
 use Rattle.table_check.specs.declared.faults.Marks.{Marks}
-use Rattle.table_layout.specs.Layout.{fields_at, word_at, after, long_at, after_number, span_size_at, field_size_at, plain_head, number_head, long_head, span_head, select_head, count_head, comprehension_head}
+use Rattle.table_layout.specs.Layout.{fields_at, word_at, after, long_at}
 use Rattle.table_check.specs.Faults.{may_mark}
 
 -- ---- the expression at a place
@@ -44,7 +45,7 @@ module _ (t x : List ℕ) where
   Operand true q = SoundPart t x q
   Operand false q = Sound t x q
 
-  -- `count` of them from a place on, up to `end`
+  -- so many from a place on, up to the end
   abbrev pub Row : Marks → (end count place : ℕ) → Type 0
   Row marks end zero q = q ≡ end
   Row marks end (suc n) q = Operand (may_mark marks (suc n)) q × Row marks end n (after t q)
@@ -77,28 +78,24 @@ kind_byte map_kind = 13
 kind_byte comprehension_kind = 15
 kind_byte function_kind = 16
 
--- a mark is no expression
-abbrev pub mark_byte : ℕ
-mark_byte = 14
-
 -- from a record's place to its first operand
 abbrev pub head_of_kind : ExprKind → ℕ
-head_of_kind null_kind = plain_head
-head_of_kind bool_kind = number_head
-head_of_kind int_kind = long_head
-head_of_kind uint_kind = long_head
-head_of_kind double_kind = long_head
-head_of_kind string_kind = span_head
-head_of_kind bytes_kind = span_head
-head_of_kind name_kind = number_head
-head_of_kind unary_kind = number_head
-head_of_kind binary_kind = number_head
-head_of_kind conditional_kind = plain_head
-head_of_kind select_kind = select_head
-head_of_kind list_kind = count_head
-head_of_kind map_kind = count_head
-head_of_kind comprehension_kind = comprehension_head
-head_of_kind function_kind = number_head
+head_of_kind null_kind = fields_at
+head_of_kind bool_kind = fields_at + 1
+head_of_kind int_kind = fields_at + 8
+head_of_kind uint_kind = fields_at + 8
+head_of_kind double_kind = fields_at + 8
+head_of_kind string_kind = fields_at + word_bytes + word_bytes
+head_of_kind bytes_kind = fields_at + word_bytes + word_bytes
+head_of_kind name_kind = fields_at + 1
+head_of_kind unary_kind = fields_at + 1
+head_of_kind binary_kind = fields_at + 1
+head_of_kind conditional_kind = fields_at
+head_of_kind select_kind = fields_at + 1 + word_bytes + word_bytes
+head_of_kind list_kind = fields_at + word_bytes
+head_of_kind map_kind = fields_at + word_bytes
+head_of_kind comprehension_kind = fields_at + 1 + 1
+head_of_kind function_kind = fields_at + 1
 
 abbrev pub span_of : List ℕ → (offset size : ℕ) → List ℕ
 span_of x offset size = take size (drop offset x)
@@ -121,16 +118,16 @@ module _ (t x : List ℕ) (p : ℕ) where
   numbers_in int_kind = long_at t (p + fields_at) ∷ []
   numbers_in uint_kind = long_at t (p + fields_at) ∷ []
   numbers_in double_kind = long_at t (p + fields_at) ∷ []
-  numbers_in string_kind = word_at t (p + fields_at) ∷ word_at t (p + span_size_at) ∷ []
-  numbers_in bytes_kind = word_at t (p + fields_at) ∷ word_at t (p + span_size_at) ∷ []
+  numbers_in string_kind = word_at t (p + fields_at) ∷ word_at t (p + (fields_at + word_bytes)) ∷ []
+  numbers_in bytes_kind = word_at t (p + fields_at) ∷ word_at t (p + (fields_at + word_bytes)) ∷ []
   numbers_in name_kind = get_or t (p + fields_at) 0 ∷ []
   numbers_in unary_kind = get_or t (p + fields_at) 0 ∷ []
   numbers_in binary_kind = get_or t (p + fields_at) 0 ∷ []
   numbers_in conditional_kind = []
-  numbers_in select_kind = get_or t (p + fields_at) 0 ∷ word_at t (p + after_number) ∷ word_at t (p + field_size_at) ∷ []
+  numbers_in select_kind = get_or t (p + fields_at) 0 ∷ word_at t (p + (fields_at + 1)) ∷ word_at t (p + (fields_at + 1 + word_bytes)) ∷ []
   numbers_in list_kind = word_at t (p + fields_at) ∷ []
   numbers_in map_kind = word_at t (p + fields_at) ∷ []
-  numbers_in comprehension_kind = get_or t (p + fields_at) 0 ∷ get_or t (p + after_number) 0 ∷ []
+  numbers_in comprehension_kind = get_or t (p + fields_at) 0 ∷ get_or t (p + (fields_at + 1)) 0 ∷ []
   numbers_in function_kind = get_or t (p + fields_at) 0 ∷ []
 
   -- the operands, counted from 0
@@ -148,23 +145,23 @@ module _ (t x : List ℕ) (p : ℕ) where
   abbrev pub node : ExprKind → Expr
   node null_kind = literal p null
   node bool_kind = literal p (bool (eqb (get_or t (p + fields_at) 0) 1))
-  node int_kind = literal p (int (signed_of (long_at t (p + fields_at))))
+  node int_kind = literal p (int (to_z w64 (long_at t (p + fields_at))))
   node uint_kind = literal p (uint (long_at t (p + fields_at)))
   node double_kind = literal p (double (long_at t (p + fields_at)))
-  node string_kind = literal p (string (span_of x (word_at t (p + fields_at)) (word_at t (p + span_size_at))))
-  node bytes_kind = literal p (bytes (span_of x (word_at t (p + fields_at)) (word_at t (p + span_size_at))))
+  node string_kind = literal p (string (span_of x (word_at t (p + fields_at)) (word_at t (p + (fields_at + word_bytes)))))
+  node bytes_kind = literal p (bytes (span_of x (word_at t (p + fields_at)) (word_at t (p + (fields_at + word_bytes)))))
   node name_kind = name p (get_or t (p + fields_at) 0)
   node unary_kind = unary p (unary_of (get_or t (p + fields_at) 0)) (expr_of t x (operand_at unary_kind 0))
   node binary_kind = binary p (binary_of (get_or t (p + fields_at) 0)) (expr_of t x (operand_at binary_kind 0)) (expr_of t x (operand_at binary_kind 1))
   node conditional_kind =
       conditional p (expr_of t x (operand_at conditional_kind 0)) (expr_of t x (operand_at conditional_kind 1)) (expr_of t x (operand_at conditional_kind 2))
   node select_kind =
-      select p (eqb (get_or t (p + fields_at) 0) 1) (span_of x (word_at t (p + after_number)) (word_at t (p + field_size_at)))
+      select p (eqb (get_or t (p + fields_at) 0) 1) (span_of x (word_at t (p + (fields_at + 1))) (word_at t (p + (fields_at + 1 + word_bytes))))
       (expr_of t x (operand_at select_kind 0))
   node list_kind = list_of p (elements_of t x (word_at t (p + fields_at)) (operand_at list_kind 0))
   node map_kind = map_of p (pairs_of t x (word_at t (p + fields_at)) (operand_at map_kind 0))
   node comprehension_kind =
-      comprehension p (get_or t (p + fields_at) 0) (get_or t (p + after_number) 0) (expr_of t x (operand_at comprehension_kind 0))
+      comprehension p (get_or t (p + fields_at) 0) (get_or t (p + (fields_at + 1)) 0) (expr_of t x (operand_at comprehension_kind 0))
       (expr_of t x (operand_at comprehension_kind 1)) (expr_of t x (operand_at comprehension_kind 2)) (expr_of t x (operand_at comprehension_kind 3))
       (expr_of t x (operand_at comprehension_kind 4))
   node function_kind = call_of (numbered functions (get_or t (p + fields_at) 0))

@@ -3,9 +3,9 @@
 // Here: the whole table. `records` reads records one inside another, `heads` reads their heads, `field_tests` tests their fields, `faults` finds
 // the first fault of one, and `refusals` has the numbers of the reasons.
 pub mod faults;
-mod field_tests;
-mod heads;
-mod records;
+pub mod field_tests;
+pub mod heads;
+pub mod records;
 pub mod refusals;
 
 ghost use Rattle.std.specs.Prelude.{◌≡◌};

@@ -1,12 +1,12 @@
 -- Laws over all kinds of records, by their bytes: one for each kind is one for every kind, and the bytes of each head. Assumes nothing.
 use mathlib.Core.Path.{◌≡◌, refl, ap, sym, ◌∙◌}
 use mathlib.Core.List.{List, [], ◌∷◌}
-use Prim.Native.Nat.{ℕ, zero, suc, ◌+◌, ◌<◌, ◌≤◌}
+use Prim.Native.Nat.{ℕ, zero, suc, ◌<◌, ◌≤◌}
 use native.Mathlib.Omega.{arith}
 use lib.ListN.{get_or}
 use Rattle.meaning.specs.Kinds.{kinds}
 use Rattle.meaning.specs.Heads.{fields_bytes, field_bytes}
-use Rattle.table_layout.specs.Layout.{fields_at, row_of, head_bytes, plain_head, number_head, long_head, span_head, select_head, count_head, comprehension_head}
+use Rattle.table_layout.specs.Layout.{fields_at, row_of, head_bytes}
 
 -- ---- by every kind
 
@@ -43,14 +43,12 @@ every-kind P p0 p1 p2 p3 p4 p5 p6 p7 p8 p9 p10 p11 p12 p13 p14 p15 p16 =
 
 -- by kind byte
 abbrev heads : List ℕ
-heads =
-    plain_head ∷ number_head ∷ long_head ∷ long_head ∷ long_head ∷ span_head ∷ span_head ∷ number_head ∷ number_head ∷ number_head ∷ plain_head ∷ select_head ∷ count_head
-    ∷ count_head ∷ plain_head ∷ comprehension_head ∷ number_head ∷ []
+heads = 3 ∷ 4 ∷ 11 ∷ 11 ∷ 11 ∷ 7 ∷ 7 ∷ 4 ∷ 4 ∷ 4 ∷ 3 ∷ 8 ∷ 5 ∷ 5 ∷ 3 ∷ 5 ∷ 4 ∷ []
 
-pub head-table : (k : ℕ) → k < 17 → (get_or heads k 0 ≡ head_bytes k) × (fields_at ≤ get_or heads k 0) × (get_or heads k 0 ≤ select_head + 8)
+pub head-table : (k : ℕ) → k < 17 → (get_or heads k 0 ≡ head_bytes k) × (fields_at ≤ get_or heads k 0) × (get_or heads k 0 ≤ 16)
 unfolding head_bytes row_of kinds fields_bytes field_bytes
 head-table =
-    every-kind (λ k. (get_or heads k 0 ≡ head_bytes k) × (fields_at ≤ get_or heads k 0) × (get_or heads k 0 ≤ select_head + 8)) (refl, omega arith, omega arith)
+    every-kind (λ k. (get_or heads k 0 ≡ head_bytes k) × (fields_at ≤ get_or heads k 0) × (get_or heads k 0 ≤ 16)) (refl, omega arith, omega arith)
     (refl, omega arith, omega arith) (refl, omega arith, omega arith) (refl, omega arith, omega arith) (refl, omega arith, omega arith)
     (refl, omega arith, omega arith) (refl, omega arith, omega arith) (refl, omega arith, omega arith) (refl, omega arith, omega arith)
     (refl, omega arith, omega arith) (refl, omega arith, omega arith) (refl, omega arith, omega arith) (refl, omega arith, omega arith)
@@ -61,12 +59,12 @@ head-is n h e = ap head_bytes e ∙ sym (head-table n h).0
 
 -- a field of one byte, in the kinds that are not these
 pub one_byte : (k : ℕ) → k < 17 → (k ≡ 0 → ⊥) → (k ≡ 2 → ⊥) → (k ≡ 3 → ⊥) → (k ≡ 4 → ⊥) → (k ≡ 5 → ⊥) → (k ≡ 6 → ⊥) → (k ≡ 10 → ⊥) → (k ≡ 11 → ⊥) → (k ≡ 12 → ⊥) →
-    (k ≡ 13 → ⊥) → (k ≡ 14 → ⊥) → (k ≡ 15 → ⊥) → number_head ≡ head_bytes k
+    (k ≡ 13 → ⊥) → (k ≡ 14 → ⊥) → (k ≡ 15 → ⊥) → 4 ≡ head_bytes k
 unfolding head_bytes row_of kinds fields_bytes field_bytes
 one_byte =
     every-kind
     (λ k. (k ≡ 0 → ⊥) → (k ≡ 2 → ⊥) → (k ≡ 3 → ⊥) → (k ≡ 4 → ⊥) → (k ≡ 5 → ⊥) → (k ≡ 6 → ⊥) → (k ≡ 10 → ⊥) → (k ≡ 11 → ⊥) → (k ≡ 12 → ⊥) → (k ≡ 13 → ⊥) →
-    (k ≡ 14 → ⊥) → (k ≡ 15 → ⊥) → number_head ≡ head_bytes k) (λ a b c d e f g h i j l m. absurd (a refl)) (λ a b c d e f g h i j l m. refl)
+    (k ≡ 14 → ⊥) → (k ≡ 15 → ⊥) → 4 ≡ head_bytes k) (λ a b c d e f g h i j l m. absurd (a refl)) (λ a b c d e f g h i j l m. refl)
     (λ a b c d e f g h i j l m. absurd (b refl)) (λ a b c d e f g h i j l m. absurd (c refl)) (λ a b c d e f g h i j l m. absurd (d refl))
     (λ a b c d e f g h i j l m. absurd (e refl)) (λ a b c d e f g h i j l m. absurd (f refl)) (λ a b c d e f g h i j l m. refl)
     (λ a b c d e f g h i j l m. refl) (λ a b c d e f g h i j l m. refl) (λ a b c d e f g h i j l m. absurd (g refl))

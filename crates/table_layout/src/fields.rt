@@ -1,8 +1,8 @@
 // The fields of a record of an accepted table: one reader for each shape of body. A place is that of the record. What each asks is that the bytes
 // it reads lie in the table, as they do for an accepted record of such a kind.
 ghost use Rattle.std.specs.Prelude.{◌≡◌, ◌+◌, ◌<◌, ◌≤◌, length, get_or};
-ghost use Rattle.table_layout.specs.Layout.{word_numbers, fields_at, word_at, after_number, span_size_at};
-ghost use Rattle.table_layout.specs.Layout.{field_size_at, number_head, span_head, select_head, count_head, comprehension_head};
+ghost use Rattle.meaning.specs.Table.{word_bytes};
+ghost use Rattle.table_layout.specs.Layout.{word_numbers, fields_at, word_at};
 
 use crate::words::{AFTER_NUMBER, FIELD_SIZE, FIELDS, SPAN_SIZE, word_at};
 
@@ -15,7 +15,7 @@ pub struct Span {
 
 // The only or the first byte: a flag, a name, the number of an operator or a function.
 pub fn number_at(table: &[u8], at: usize) -> u8
-    requires { at + number_head ≤ length table.now }
+    requires { at + (fields_at + 1) ≤ length table.now }
     ensures { result ≡ get_or table.now (at + fields_at) 0 }
 {
     table[at + FIELDS]
@@ -23,15 +23,15 @@ pub fn number_at(table: &[u8], at: usize) -> u8
 
 // The second: a comprehension's item.
 pub fn second_at(table: &[u8], at: usize) -> u8
-    requires { at + comprehension_head ≤ length table.now }
-    ensures { result ≡ get_or table.now (at + after_number) 0 }
+    requires { at + (fields_at + 2) ≤ length table.now }
+    ensures { result ≡ get_or table.now (at + (fields_at + 1)) 0 }
 {
     table[at + AFTER_NUMBER]
 }
 
 // How many elements or pairs.
 pub fn count_at(table: &[u8], at: usize) -> usize
-    requires { at + count_head ≤ length table.now }
+    requires { at + (fields_at + word_bytes) ≤ length table.now }
     ensures { (result ≡ word_at table.now (at + fields_at)) × (result < word_numbers) }
 {
     word_at(table, at + FIELDS)
@@ -39,8 +39,8 @@ pub fn count_at(table: &[u8], at: usize) -> usize
 
 // The text of a String or Bytes.
 pub fn span_at(table: &[u8], at: usize) -> Span
-    requires { at + span_head ≤ length table.now }
-    ensures { (result.offset ≡ word_at table.now (at + fields_at)) × (result.size ≡ word_at table.now (at + span_size_at)) }
+    requires { at + (fields_at + word_bytes + word_bytes) ≤ length table.now }
+    ensures { (result.offset ≡ word_at table.now (at + fields_at)) × (result.size ≡ word_at table.now (at + (fields_at + word_bytes))) }
 {
     let offset = word_at(table, at + FIELDS);
     let size = word_at(table, at + SPAN_SIZE);
@@ -49,9 +49,8 @@ pub fn span_at(table: &[u8], at: usize) -> Span
 
 // The field that is selected.
 pub fn field_at(table: &[u8], at: usize) -> Span
-    requires { at + select_head ≤ length table.now }
-    ensures { (result.offset ≡ word_at table.now (at + after_number))
-        × (result.size ≡ word_at table.now (at + field_size_at)) }
+    requires { at + (fields_at + 1 + word_bytes + word_bytes) ≤ length table.now }
+    ensures { (result.offset ≡ word_at table.now (at + (fields_at + 1))) × (result.size ≡ word_at table.now (at + (fields_at + 1 + word_bytes))) }
 {
     let offset = word_at(table, at + AFTER_NUMBER);
     let size = word_at(table, at + FIELD_SIZE);

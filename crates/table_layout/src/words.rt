@@ -1,7 +1,7 @@
 // Words and heads: all that depends on the width of a word. What each function asks is that the bytes it reads lie in the table.
 ghost use Rattle.std.specs.Prelude.{◌≡◌, ◌+◌, ◌<◌, ◌≤◌, length};
 ghost use Rattle.meaning.specs.Table.{word_bytes};
-ghost use Rattle.table_layout.specs.Layout.{kind_numbers, word_numbers, fields_at, head_bytes, word_at, select_head};
+ghost use Rattle.table_layout.specs.Layout.{kind_numbers, word_numbers, fields_at, head_bytes, word_at};
 
 use crate::kinds::{
     BYTES, COMPREHENSION, CONDITIONAL, DOUBLE, INT, LIST, MAP, MARK, NULL, SELECT, STRING, UINT,
@@ -42,7 +42,7 @@ pub const LONG: usize = 8;
 // From a record's place to its first operand, by kind.
 pub fn head_bytes(kind: u8) -> usize
     requires { kind < kind_numbers }
-    ensures { (result ≡ head_bytes kind) × (fields_at ≤ result) × (result ≤ select_head + 8) }
+    ensures { (result ≡ head_bytes kind) × (fields_at ≤ result) × (result ≤ fields_at + 1 + word_bytes + word_bytes + 8) }
 {
     match kind {
         NULL => FIELDS,

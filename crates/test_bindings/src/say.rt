@@ -1,6 +1,6 @@
 // What is written of a call: the answer, the used counts, and a digest each of the lent cells, the lent text and the slots.
 use crate::digest;
-use bindings_bringing::Answer;
+use bindings::admission::Answer;
 use bindings_sound::{Bindings, Soundness};
 use libc::STDOUT_FILENO;
 use rooms::scope::{NAMES, Scope};

@@ -3,12 +3,29 @@ use crate::answer::Answer;
 use crate::hex::Digits;
 use check::same;
 use numbers::double::Double;
-use numbers::int::{IntAnswer, signed_of, word_of};
+use numbers::int::IntAnswer;
 use numbers::uint::UintAnswer;
+
+// The Int with these bits, in two's complement.
+pub fn int_of(bits: u64) -> i64 {
+    if bits < 0x8000_0000_0000_0000 {
+        bits as i64
+    } else {
+        !((0xFFFF_FFFF_FFFF_FFFF - bits) as i64)
+    }
+}
+
+fn bits_of(z: i64) -> u64 {
+    if z < 0 {
+        0xFFFF_FFFF_FFFF_FFFF - (!z as u64)
+    } else {
+        z as u64
+    }
+}
 
 fn of_int(answer: IntAnswer) -> Answer {
     match answer {
-        IntAnswer::Value(z) => Answer::Bits(word_of(z)),
+        IntAnswer::Value(z) => Answer::Bits(bits_of(z)),
         IntAnswer::Error(error) => Answer::Error(error),
     }
 }
@@ -77,7 +94,7 @@ fn one_double(name: &[u8], x: Double) -> Answer {
 
 fn one(kind: &[u8], name: &[u8], bits: u64) -> Answer {
     if same(kind, b"int") {
-        one_int(name, signed_of(bits))
+        one_int(name, int_of(bits))
     } else if same(kind, b"double") {
         one_double(name, numbers::double::from_bits(bits))
     } else {
@@ -87,7 +104,7 @@ fn one(kind: &[u8], name: &[u8], bits: u64) -> Answer {
 
 fn two(kind: &[u8], operator: u8, a: u64, b: u64) -> Answer {
     if same(kind, b"int") {
-        int(operator, signed_of(a), signed_of(b))
+        int(operator, int_of(a), int_of(b))
     } else if same(kind, b"uint") {
         uint(operator, a, b)
     } else if same(kind, b"double") {

@@ -15,7 +15,7 @@ fn number_of(kind: &[u8], word: &[u8]) -> Operand {
         return Operand::Unreadable;
     };
     if same(kind, b"int") {
-        Operand::Number(Number::Int(numbers::int::signed_of(bits)))
+        Operand::Number(Number::Int(crate::arithmetic::int_of(bits)))
     } else if same(kind, b"uint") {
         Operand::Number(Number::Uint(bits))
     } else if same(kind, b"double") {

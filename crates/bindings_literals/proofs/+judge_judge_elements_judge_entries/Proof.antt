@@ -12,7 +12,7 @@ use Rattle.bindings_literals.proofs.+judge_judge_elements_judge_entries.Lts-judg
 use Rattle.bindings_literals.proofs.+judge_judge_elements_judge_entries.{statement}
 use Rattle.bindings_literals.proofs.+judge_judge_elements_judge_entries.Tie.{close}
 use Rattle.bindings_literals.proofs.+judge_judge_elements_judge_entries.Proof.Kit.{μ-judge, μ-judge-elements, μ-judge-entries, judge-at, judge-elements-at, judge-entries-at, judge-claims, judge-elements-claims, judge-entries-claims}
-use Rattle.bindings_literals.proofs.+judge_judge_elements_judge_entries.Proof.Judge.{judge-kind-at-requires, judge-first-operand-requires, judge-count-at-requires, judge-judge-elements-requires, judge-deepened-requires, judge-returns, judge-first-operand-requires-2, judge-count-at-requires-2, judge-judge-entries-requires, judge-deepened-requires-2, judge-returns-2, judge-literal-or-absent-requires, judge-without-parts-requires, judge-returns-3}
+use Rattle.bindings_literals.proofs.+judge_judge_elements_judge_entries.Proof.Judge.{judge-kind-at-requires, judge-first-operand-requires, judge-count-at-requires, judge-judge-elements-requires, judge-deepened-requires, judge-returns, judge-first-operand-requires-2, judge-count-at-requires-2, judge-judge-entries-requires, judge-deepened-requires-2, judge-returns-2, judge-literal-at-requires, judge-without-parts-requires, judge-returns-3}
 use Rattle.bindings_literals.proofs.+judge_judge_elements_judge_entries.Proof.JudgeElements.{judge-elements-Inv-loop, judge-elements-μ-loop, judge-elements-nothing-judged-requires, judge-elements-loop-holds, judge-elements-judge-requires, judge-elements-joined-requires, judge-elements-end-at-requires, judge-elements-sub-left, judge-elements-loop-less, judge-elements-loop-again, judge-elements-returns}
 use Rattle.bindings_literals.proofs.+judge_judge_elements_judge_entries.Proof.JudgeEntries.{judge-entries-Inv-loop, judge-entries-μ-loop, judge-entries-nothing-judged-requires, judge-entries-loop-holds, judge-entries-end-at-requires, judge-entries-sub-key-fault, judge-entries-key-fault-requires, judge-entries-with-key-requires, judge-entries-judge-requires, judge-entries-joined-requires, judge-entries-judge-requires-2, judge-entries-joined-requires-2, judge-entries-end-at-requires-2, judge-entries-sub-left, judge-entries-loop-less, judge-entries-loop-again, judge-entries-returns}
 
@@ -32,7 +32,7 @@ pub +judge-judge-elements-judge-entries-spec : {M : Type 1} → statement M
     (judge-judge-entries-requires t)
     (judge-deepened-requires-2 t)
     (judge-returns-2 t)
-    (judge-literal-or-absent-requires t)
+    (judge-literal-at-requires t)
     (judge-without-parts-requires t)
     (judge-returns-3 t))
     (λ t. judge-elements-lts.spec (judge-elements-claims t)

@@ -2,7 +2,6 @@
 use Prim.Native.Nat.{◌+◌}
 use native.Mathlib.Omega.{arith}
 use borrow.Author.Rules.{rules}
-use Rattle.table_layout.specs.Layout.{after_number, field_size_at}
 use Rattle.eval_shapes.proofs.LeafLaws.{word_fits}
 use Rattle.eval_operands.proofs.field_value.Statement.{statement}
 use Rattle.eval_operands.proofs.field_value.Tie as tie
@@ -11,10 +10,10 @@ field-at-requires : tie.Need-field-at-requires
 field-at-requires c κs = search rules
 
 cast-t5 : tie.Need-overflow-cast-t5
-cast-t5 c = record { fits = word_fits c.before.before.before.args.table.now (λ i. omega (arith, c.before.before.shared-slice-known.given i)) (c.before.before.before.args.at + after_number) c.before.field_at.ensures.0 }
+cast-t5 c = record { fits = word_fits c.before.before.before.args.table.now (λ i. omega (arith, c.before.before.shared-slice-known.given i)) (c.before.before.before.args.at + 4) c.before.field_at.ensures.0 }
 
 cast-t6 : tie.Need-overflow-cast-t6
-cast-t6 c = record { fits = word_fits c.before.before.before.before.args.table.now (λ i. omega (arith, c.before.before.before.shared-slice-known.given i)) (c.before.before.before.before.args.at + field_size_at) c.before.before.field_at.ensures.1 }
+cast-t6 c = record { fits = word_fits c.before.before.before.before.args.table.now (λ i. omega (arith, c.before.before.before.shared-slice-known.given i)) (c.before.before.before.before.args.at + 6) c.before.before.field_at.ensures.1 }
 
 returns : tie.Need-returns
 returns c = rw (c.before.before.field_at.ensures.0, c.before.before.field_at.ensures.1)

@@ -3,7 +3,7 @@ use mathlib.Core.Path.{sym}
 use Prim.Native.Nat.{◌+◌}
 use native.Mathlib.Omega.{arith}
 use borrow.Author.Tests.{lt-leb}
-use Rattle.bindings.proofs.TableSteps.{room-left}
+use Rattle.bindings.proofs.BringSteps.{room-left}
 use Rattle.bindings.proofs.admission.has_room.Statement.{statement}
 use Rattle.bindings.proofs.admission.has_room.Tie as tie
 

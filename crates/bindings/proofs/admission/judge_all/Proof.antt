@@ -1,8 +1,7 @@
 -- `admission::judge_all` meets its contract. Assumes nothing.
 use mathlib.Core.Path.{sym, ◌∙◌}
 use borrow.Author.Tests.{not-true, not-false}
-use Rattle.bindings_bringing.proofs.AcceptedLaws.{checked-read}
-use Rattle.bindings.proofs.BringSteps.{all-unsound, all-unnamed, all-bound, all-unread, all_read}
+use Rattle.bindings.proofs.AcceptedLaws.{checked-read, all-unsound, all-unnamed, all-bound, all-unread, all_read}
 use borrow.Author.Rules.{rules}
 use Rattle.bindings.proofs.admission.judge_all.Statement.{statement}
 use Rattle.bindings.proofs.admission.judge_all.Tie as tie

@@ -3,7 +3,7 @@ use mathlib.Core.Path.{sym, ◌∙◌}
 use native.Mathlib.Omega.{arith}
 use borrow.Author.Tests.{not-true, not-false}
 use Rattle.bindings_literals.proofs.PartLaws.{bare-part}
-use Rattle.bindings.proofs.TableSteps.{table-other, table-deep, table-key, table-cells, table-bytes, table_done}
+use Rattle.bindings.proofs.BringSteps.{table-other, table-deep, table-key, table-cells, table-bytes, table_done}
 use borrow.Author.Rules.{rules}
 use Rattle.bindings.proofs.admission.judge_table.Statement.{statement}
 use Rattle.bindings.proofs.admission.judge_table.Tie as tie

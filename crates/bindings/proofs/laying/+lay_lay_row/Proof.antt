@@ -9,7 +9,7 @@ use Rattle.bindings.proofs.laying.+lay_lay_row.Lts-lay_row as lay-row-lts
 use Rattle.bindings.proofs.laying.+lay_lay_row.{statement}
 use Rattle.bindings.proofs.laying.+lay_lay_row.Tie.{close}
 use Rattle.bindings.proofs.laying.+lay_lay_row.Proof.Kit.{μ-lay, μ-lay-row, lay_at, lay-row-at, lay-claims, lay-row-claims}
-use Rattle.bindings.proofs.laying.+lay_lay_row.Proof.Lay.{lay-kind-at-requires, lay-first-operand-requires, lay-count-at-requires, lay-lay-row-requires, lay-add-t20, lay-cast-t22, lay-cast-t23, lay-same-length, lay-same-length-2, lay-returns, lay-first-operand-requires-2, lay-count-at-requires-2, lay-mul-lay-row, lay-lay-row-requires-2, lay-add-t30, lay-cast-t32, lay-cast-t33, lay-same-length-3, lay-same-length-4, lay-returns-2, lay-literal-or-absent-requires, lay-lay-literal-requires, lay-same-length-5, lay-returns-3}
+use Rattle.bindings.proofs.laying.+lay_lay_row.Proof.Lay.{lay-kind-at-requires, lay-first-operand-requires, lay-count-at-requires, lay-lay-row-requires, lay-add-t20, lay-cast-t22, lay-cast-t23, lay-same-length, lay-same-length-2, lay-returns, lay-first-operand-requires-2, lay-count-at-requires-2, lay-mul-lay-row, lay-lay-row-requires-2, lay-add-t30, lay-cast-t32, lay-cast-t33, lay-same-length-3, lay-same-length-4, lay-returns-2, lay-literal-at-requires, lay-lay-literal-requires, lay-same-length-5, lay-returns-3}
 use Rattle.bindings.proofs.laying.+lay_lay_row.Proof.LayRow.{lay-row-Inv-loop, lay-row-μ-loop, lay-row-add-t15, lay-row-loop-holds, lay-row-lay-requires, lay-row-write-cell-requires, lay-row-nesting-of-requires, lay-row-deeper-requires, lay-row-end-at-requires, lay-row-add-to, lay-row-sub-left, lay-row-loop-less, lay-row-loop-again, lay-row-same-length, lay-row-same-length-2, lay-row-returns}
 
 pub +lay-lay-row-spec : {M : Type 1} → statement M
@@ -36,7 +36,7 @@ pub +lay-lay-row-spec : {M : Type 1} → statement M
     (lay-same-length-3 t)
     (lay-same-length-4 t)
     (lay-returns-2 t)
-    (lay-literal-or-absent-requires t)
+    (lay-literal-at-requires t)
     (lay-lay-literal-requires t)
     (lay-same-length-5 t)
     (lay-returns-3 t))

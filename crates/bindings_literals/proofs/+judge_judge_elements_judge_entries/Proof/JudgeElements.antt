@@ -27,7 +27,7 @@ pub judge-elements-joined-requires : (t : ℕ) → judge-elements-lts.Need-joine
 judge-elements-joined-requires t c κs = elements-fit c.before.before.before.before.before.before.args.table.now c.before.before.before.before.before.before.args.literal.now c.before.before.before.before.before.before.args.first c.before.before.before.before.before.before.args.count c.before.before.loop.sum c.before.before.loop.at c.before.before.loop.left c.before.before.loop.invariant c.before.loop-test.true c.before.before.before.before.before.before.requires.1.1 c.before.before.before.before.before.before.requires.1.2 c.judge.result c.judge.ensures.1
 
 pub judge-elements-end-at-requires : (t : ℕ) → judge-elements-lts.Need-end-at-requires (judge-elements-claims t) (judge-elements-at t) judge-elements.Post judge-elements-Inv-loop judge-elements-μ-loop
-judge-elements-end-at-requires t c κs = let p = part-place c.before.before.before.before.before.before.before.args.table.now c.before.before.before.before.before.before.before.args.literal.now c.before.before.before.loop.at (elements-here c.before.before.before.before.before.before.before.args.table.now c.before.before.before.before.before.before.before.args.literal.now c.before.before.before.before.before.before.before.args.first c.before.before.before.before.before.before.before.args.count c.before.before.before.loop.sum c.before.before.before.loop.at c.before.before.before.loop.left c.before.before.before.loop.invariant c.before.before.loop-test.true) in p.start
+judge-elements-end-at-requires t c κs = let p = part-place c.before.before.before.before.before.before.before.args.table.now c.before.before.before.before.before.before.before.args.literal.now c.before.before.before.loop.at (elements-here c.before.before.before.before.before.before.before.args.table.now c.before.before.before.before.before.before.before.args.literal.now c.before.before.before.before.before.before.before.args.first c.before.before.before.before.before.before.before.args.count c.before.before.before.loop.sum c.before.before.before.loop.at c.before.before.before.loop.left c.before.before.before.loop.invariant c.before.before.loop-test.true) in p.three
 
 pub judge-elements-sub-left : (t : ℕ) → judge-elements-lts.Need-overflow-sub-left (judge-elements-claims t) (judge-elements-at t) judge-elements.Post judge-elements-Inv-loop judge-elements-μ-loop
 judge-elements-sub-left t c = search rules

@@ -22,7 +22,7 @@ pub judge-entries-loop-holds : (t : ℕ) → judge-entries-lts.Need-loop-init (j
 judge-entries-loop-holds t c = entries-start c.before.before.before.args.table.now c.before.before.before.args.literal.now c.before.before.before.args.first c.before.before.before.args.count c.nothing-judged.result c.nothing-judged.ensures c.before.before.before.requires.1.0
 
 pub judge-entries-end-at-requires : (t : ℕ) → judge-entries-lts.Need-end-at-requires (judge-entries-claims t) (judge-entries-at t) judge-entries.Post judge-entries-Inv-loop judge-entries-μ-loop
-judge-entries-end-at-requires t c κs = let p = sound-place c.before.before.before.before.before.args.table.now c.before.before.before.before.before.args.literal.now c.before.loop.at (entries-key c.before.before.before.before.before.args.table.now c.before.before.before.before.before.args.literal.now c.before.before.before.before.before.args.first c.before.before.before.before.before.args.count c.before.loop.sum c.before.loop.at c.before.loop.left c.before.loop.invariant c.loop-test.true) in p.start
+judge-entries-end-at-requires t c κs = let p = sound-place c.before.before.before.before.before.args.table.now c.before.before.before.before.before.args.literal.now c.before.loop.at (entries-key c.before.before.before.before.before.args.table.now c.before.before.before.before.before.args.literal.now c.before.before.before.before.before.args.first c.before.before.before.before.before.args.count c.before.loop.sum c.before.loop.at c.before.loop.left c.before.loop.invariant c.loop-test.true) in p.three
 
 pub judge-entries-sub-key-fault : (t : ℕ) → judge-entries-lts.Need-overflow-sub-key-fault (judge-entries-claims t) (judge-entries-at t) judge-entries.Post judge-entries-Inv-loop judge-entries-μ-loop
 judge-entries-sub-key-fault t c = let i = c.before.before.loop.invariant in omega (arith, i.most)
@@ -46,7 +46,7 @@ pub judge-entries-joined-requires-2 : (t : ℕ) → judge-entries-lts.Need-joine
 judge-entries-joined-requires-2 t c κs = entries-fit-value c.before.before.before.before.before.before.before.before.before.before.before.args.table.now c.before.before.before.before.before.before.before.before.before.before.before.args.literal.now c.before.before.before.before.before.before.before.before.before.before.before.args.first c.before.before.before.before.before.before.before.before.before.before.before.args.count c.before.before.before.before.before.before.before.loop.sum c.before.before.before.before.before.before.before.loop.at c.before.before.before.before.before.before.before.loop.left c.before.before.before.before.before.before.before.loop.invariant c.before.before.before.before.before.before.loop-test.true c.before.before.before.before.before.before.before.before.before.before.before.requires.1.1 c.before.before.before.before.before.before.before.before.before.before.before.requires.1.2 c.before.before.before.before.key-fault.result c.before.before.before.with-key.result c.before.before.before.with-key.ensures c.before.before.judge.result c.before.before.judge.ensures.1 c.before.joined.result c.before.joined.ensures c.judge2.result (rw c.before.before.before.before.before.end-at.ensures at c.judge2.ensures.1)
 
 pub judge-entries-end-at-requires-2 : (t : ℕ) → judge-entries-lts.Need-end-at-requires-2 (judge-entries-claims t) (judge-entries-at t) judge-entries.Post judge-entries-Inv-loop judge-entries-μ-loop
-judge-entries-end-at-requires-2 t c κs = let p = part-place c.before.before.before.before.before.before.before.before.before.before.before.before.args.table.now c.before.before.before.before.before.before.before.before.before.before.before.before.args.literal.now _ (entries-value c.before.before.before.before.before.before.before.before.before.before.before.before.args.table.now c.before.before.before.before.before.before.before.before.before.before.before.before.args.literal.now c.before.before.before.before.before.before.before.before.before.before.before.before.args.first c.before.before.before.before.before.before.before.before.before.before.before.before.args.count c.before.before.before.before.before.before.before.before.loop.sum c.before.before.before.before.before.before.before.before.loop.at c.before.before.before.before.before.before.before.before.loop.left c.before.before.before.before.before.before.before.before.loop.invariant c.before.before.before.before.before.before.before.loop-test.true) in rw c.before.before.before.before.before.before.end-at.ensures p.start
+judge-entries-end-at-requires-2 t c κs = let p = part-place c.before.before.before.before.before.before.before.before.before.before.before.before.args.table.now c.before.before.before.before.before.before.before.before.before.before.before.before.args.literal.now _ (entries-value c.before.before.before.before.before.before.before.before.before.before.before.before.args.table.now c.before.before.before.before.before.before.before.before.before.before.before.before.args.literal.now c.before.before.before.before.before.before.before.before.before.before.before.before.args.first c.before.before.before.before.before.before.before.before.before.before.before.before.args.count c.before.before.before.before.before.before.before.before.loop.sum c.before.before.before.before.before.before.before.before.loop.at c.before.before.before.before.before.before.before.before.loop.left c.before.before.before.before.before.before.before.before.loop.invariant c.before.before.before.before.before.before.before.loop-test.true) in rw c.before.before.before.before.before.before.end-at.ensures p.three
 
 pub judge-entries-sub-left : (t : ℕ) → judge-entries-lts.Need-overflow-sub-left (judge-entries-claims t) (judge-entries-at t) judge-entries.Post judge-entries-Inv-loop judge-entries-μ-loop
 judge-entries-sub-left t c = search rules

@@ -20,7 +20,7 @@ use Rattle.bindings_literals.proofs.keys.key_fault.Reads as key-fault-reads
 use Rattle.bindings_literals.proofs.judgement.nothing_judged.Reads as nothing-judged-reads
 use Rattle.bindings_literals.proofs.judgement.with_key.Reads as with-key-reads
 use Rattle.bindings_literals.proofs.without_parts.Reads as without-parts-reads
-use Rattle.bindings_literals.proofs.literals.literal_or_absent.Reads as literal-or-absent-reads
+use Rattle.bindings_literals.proofs.literals.literal_at.Reads as literal-at-reads
 use Rattle.table_layout.proofs.fields.count_at.Reads as count-at-reads
 use Rattle.table_layout.proofs.outline.end_at.Reads as end-at-reads
 use Rattle.table_layout.proofs.outline.first_operand.Reads as first-operand-reads
@@ -84,8 +84,8 @@ judge-claims t = (
   deepened-reads.Learnt,
   judge-entries-below t,
   judge-entries.Post,
-  literal-or-absent-reads.Asked,
-  literal-or-absent-reads.Learnt,
+  literal-at-reads.Asked,
+  literal-at-reads.Learnt,
   without-parts-reads.Asked,
   without-parts-reads.Learnt,
 )

@@ -1,8 +1,7 @@
 -- `bringing::bring_in`. Assumes nothing.
 use mathlib.Core.Path.{refl}
-use native.Mathlib.Omega.{arith}
 use Rattle.board_state.specs.Bringing.{binding_room}
-use Rattle.board_state.proofs.BringingSteps.{brings-so}
+use Rattle.board_state.proofs.BringingSteps.{stows-so}
 use borrow.Author.Rules.{rules}
 use Rattle.board_state.proofs.bringing.bring_in.Statement.{statement}
 use Rattle.board_state.proofs.bringing.bring_in.Tie as tie
@@ -34,9 +33,7 @@ same-length-3 c = search rules
 returns : tie.Need-returns
 returns c =
     let given = c.before.before.before.before.before.before.before.before.before.before.before.before.before.before.before.before.before.before.before.before.before.args in
-    brings-so (binding_room given.state.now given.cells.now given.text.now) given.name given.table.now given.literal.now
-    (λ i. omega (arith, c.before.before.before.before.before.before.before.before.before.before.before.before.before.before.before.before.before.before.before.before.slice-known.given i)) (λ i. omega (arith, c.before.before.before.before.before.before.before.before.before.before.before.before.before.before.before.before.before.shared-slice-known.given i)) (λ i. omega (arith, c.before.before.before.before.before.before.before.before.before.before.before.before.before.before.before.before.shared-slice-known2.given i))
-    c.before.before.before.before.before.before.before.before.before.before.before.before.before.before.bindings-in.result c.before.before.before.before.before.before.before.before.before.before.before.bring-in.result c.before.before.before.before.before.before.before.before.before.before.before.bring-in.new.0 c.before.before.before.before.before.before.before.before.before.before.before.bring-in.new.1.0
+    stows-so (binding_room given.state.now given.cells.now given.text.now) given.name given.table.now given.literal.now c.before.before.before.before.before.before.before.before.before.before.before.before.before.before.bindings-in.result c.before.before.before.before.before.before.before.before.before.before.before.bring-in.result c.before.before.before.before.before.before.before.before.before.before.before.bring-in.new.0 c.before.before.before.before.before.before.before.before.before.before.before.bring-in.new.1.0
     c.before.before.put-bindings.new.0 _ c.before.before.before.before.before.before.before.before.before.before.before.before.before.before.bindings-in.ensures c.before.before.before.before.before.before.before.before.before.before.before.bring-in.ensures c.before.before.before.before.before.enum_told.given.1 c.before.before.put-bindings.ensures
 
 same-length-4 : tie.Need-same-length-4
@@ -51,9 +48,7 @@ same-length-6 c = search rules
 returns-2 : tie.Need-returns-2
 returns-2 c =
     let given = c.before.before.before.before.before.before.before.before.before.before.before.before.before.before.before.before.before.args in
-    brings-so (binding_room given.state.now given.cells.now given.text.now) given.name given.table.now given.literal.now
-    (λ i. omega (arith, c.before.before.before.before.before.before.before.before.before.before.before.before.before.before.before.before.slice-known.given i)) (λ i. omega (arith, c.before.before.before.before.before.before.before.before.before.before.before.before.before.shared-slice-known.given i)) (λ i. omega (arith, c.before.before.before.before.before.before.before.before.before.before.before.before.shared-slice-known2.given i))
-    c.before.before.before.before.before.before.before.before.before.before.bindings-in.result c.before.before.before.before.before.before.before.bring-in.result c.before.before.before.before.before.before.before.bring-in.new.0 c.before.before.before.before.before.before.before.bring-in.new.1.0
+    stows-so (binding_room given.state.now given.cells.now given.text.now) given.name given.table.now given.literal.now c.before.before.before.before.before.before.before.before.before.before.bindings-in.result c.before.before.before.before.before.before.before.bring-in.result c.before.before.before.before.before.before.before.bring-in.new.0 c.before.before.before.before.before.before.before.bring-in.new.1.0
     given.state.now _ c.before.before.before.before.before.before.before.before.before.before.bindings-in.ensures c.before.before.before.before.before.before.before.bring-in.ensures c.before.said.given.1 refl
 
 pub bring-in-spec : {M : Type 1} → statement M

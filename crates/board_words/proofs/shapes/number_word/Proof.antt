@@ -12,9 +12,6 @@ words-of-requires c κs = search rules
 kind-of-requires : tie.Need-kind-of-requires
 kind-of-requires c κs = search rules
 
-cast-if1 : tie.Need-overflow-cast-if1
-cast-if1 c = search rules
-
 returns : tie.Need-returns
 returns c = no_number c.before.before.before.args.value (subst (λ (k : ℕ). 4 < k) c.before.kind-of.ensures c.if1.true)
 
@@ -26,4 +23,4 @@ returns-2 c = number_in c.before.before.before.args.value c.before.before.words_
 
 pub number-word-spec : {M : Type 1} → statement M
 number-word-spec =
-    tie.close (tie.spec words-of-requires kind-of-requires cast-if1 returns array-read-result returns-2)
+    tie.close (tie.spec words-of-requires kind-of-requires returns array-read-result returns-2)

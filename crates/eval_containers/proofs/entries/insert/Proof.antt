@@ -3,8 +3,8 @@ use borrow.Author.Rules.{rules}
 use Rattle.eval_containers.proofs.entries.insert.Statement.{statement}
 use Rattle.eval_containers.proofs.entries.insert.Tie as tie
 
-cast-length : tie.Need-overflow-cast-length
-cast-length c = search rules
+cast-find : tie.Need-overflow-cast-find
+cast-find c = search rules
 
 find-requires : tie.Need-find-requires
 find-requires c κs = search rules
@@ -42,8 +42,8 @@ add-write-cell c = search rules
 write-cell-requires-2 : tie.Need-write-cell-requires-2
 write-cell-requires-2 c κs = search rules
 
-add-t32 : tie.Need-overflow-add-t32
-add-t32 c = search rules
+add-t31 : tie.Need-overflow-add-t31
+add-t31 c = search rules
 
 nesting-of-requires : tie.Need-nesting-of-requires
 nesting-of-requires c κs = search rules
@@ -74,4 +74,4 @@ returns-3 c = rw (← c.before.before.before.before.before.before.before.before.
 
 pub insert-spec : {M : Type 1} → statement M
 insert-spec =
-    tie.close (tie.spec cast-length find-requires enum-known-more with-steps-requires enum-known-more-2 with-steps-requires-2 out-of-steps-requires enum-known-more-3 mul-cell add-cell write-cell-requires add-write-cell write-cell-requires-2 add-t32 nesting-of-requires deeper-requires with-steps-requires-3 same_length returns same-length-2 returns-2 same-length-3 returns-3)
+    tie.close (tie.spec cast-find find-requires enum-known-more with-steps-requires enum-known-more-2 with-steps-requires-2 out-of-steps-requires enum-known-more-3 mul-cell add-cell write-cell-requires add-write-cell write-cell-requires-2 add-t31 nesting-of-requires deeper-requires with-steps-requires-3 same_length returns same-length-2 returns-2 same-length-3 returns-3)

@@ -3,7 +3,7 @@ use borrow.Author.Rules.{rules}
 use mathlib.Core.Path.{refl, sym, ◌∙◌}
 use native.Mathlib.Omega.{arith}
 use Rattle.rooms.specs.Rooms.{rooms}
-use Rattle.eval_record.proofs.Appends.{no-append, append-ends, append-fails, guard-ends, guard-fails, list-ends, list-again, literal-does, run-added, appends-begin, appends-again, appends-over}
+use Rattle.eval_record.proofs.Appends.{no-append, append-ends, guard-ends, list-ends, literal-does, fails-again, gathers-again, run-added, appends-begin, appends-again, appends-over, none-again}
 use Rattle.rooms.specs.Scope.{absent}
 use Rattle.eval_shapes.specs.Comprehensions.{loop_at, append_at}
 use Rattle.eval_comprehension.specs.AppendResult.{gathered_in}
@@ -15,22 +15,17 @@ use Rattle.eval_record.proofs.+appends_comprehend_finish_turns_eval_list_parts_m
 use Rattle.eval_record.proofs.+appends_comprehend_finish_turns_eval_list_parts_map_parts.Proof.Kit.{appends-at, appends-claims}
 use Rattle.eval_record.proofs.+appends_comprehend_finish_turns_eval_list_parts_map_parts.Proof.AppendsCame.{appends-Inv-loop, appends-μ-loop, guard-came, items-came}
 
-pub appends-cast-cell : (t : ℕ) → appends-lts.Need-overflow-cast-cell (appends-claims t) (appends-at t) appends.Post appends-Inv-loop appends-μ-loop
-appends-cast-cell t c = search rules
-
-pub appends-cast-left : (t : ℕ) → appends-lts.Need-overflow-cast-left (appends-claims t) (appends-at t) appends.Post appends-Inv-loop appends-μ-loop
-appends-cast-left t c = search rules
-
 pub appends-loop-holds : (t : ℕ) → appends-lts.Need-loop-init (appends-claims t) (appends-at t) appends.Post appends-Inv-loop appends-μ-loop
 appends-loop-holds t c =
-    let start = c.before.before.before.before.before.before.before.before.before.before in
+    let start = c.before.before.before.before.before.before.before.before in
     let args = start.args in
+    let fits = start.ranges in
     let good = start.well-formed in
-    appends-begin args.table.now args.literal.now args.binding-cells.now args.binding-text.now args.cells.now args.text.now args.limit args.appending args.items args.places args.scope args.used (mapped-length args.scope.slots _ 128 good.1.1.1.1.1.1.1.0.1.1.0.1.0.1) c.struct-known2.given.1.0.fits c.struct-known2.given.1.1.0.fits
+    appends-begin args.table.now args.literal.now args.binding-cells.now args.binding-text.now args.cells.now args.text.now args.limit args.at args.guarded args.guard args.list args.space args.first args.count args.each args.places.item args.places.condition args.scope args.used (mapped-length args.scope.slots _ 128 good.1.1.1.1.1.1.1.1.0.1.1.0.1.0.1) fits.first.fits fits.count.fits
 
 pub appends-leaf-requires : (t : ℕ) → appends-lts.Need-leaf-requires (appends-claims t) (appends-at t) appends.Post appends-Inv-loop appends-μ-loop
 appends-leaf-requires t c κs =
-    let pre = c.before.before.before.before.before.before.before.before.before.before.before.before.requires in
+    let pre = c.before.before.before.before.before.before.before.before.before.before.requires in
     (pre.1.0, omega (arith, pre.1.1))
 
 pub appends-asks-requires : (t : ℕ) → appends-lts.Need-asks-requires (appends-claims t) (appends-at t) appends.Post appends-Inv-loop appends-μ-loop
@@ -48,13 +43,13 @@ appends-same-length-2 t c = c.before.before.before.before.before.before.loop.inv
 pub appends-returns : (t : ℕ) → appends-lts.Need-returns (appends-claims t) (appends-at t) appends.Post appends-Inv-loop appends-μ-loop
 appends-returns t c =
     let loop = c.before.before.before.before.before.before.loop in
-    let start = c.before.before.before.before.before.before.before.before.before.before.before.before.before.before.before.before.before in
+    let start = c.before.before.before.before.before.before.before.before.before.before.before.before.before.before.before in
     let args = start.args in
     let pre = start.requires in
     let table = args.table.now in
     let literal = args.literal.now in
     let bindings = args.binding-cells.now in
-    let texts = args.binding-text.now in append-ends (loop_at table literal args.limit args.places) (append_at table literal args.limit args.appending) args.items.space args.items.stride loop.left loop.cell c.before.before.before.before.before.loop-test.true (gathered_in loop.firsts loop.counts loop.collected) loop.inner loop.spent (rooms literal bindings texts loop.cells loop.text) (literal-does table literal args.limit args.places.condition pre.1.0 pre.1.1 absent.value loop.spent c.before.before.before.before.leaf.ensures loop.inner (rooms literal bindings texts loop.cells loop.text)) c.before.before.before.asks.ensures c.before.outcome.given.1 ∙ loop.invariant.same
+    let texts = args.binding-text.now in append-ends (loop_at table literal args.limit args.at args.places) (append_at table literal args.limit args.guarded args.guard args.list) args.space args.each loop.left loop.cell c.before.before.before.before.before.loop-test.true (gathered_in loop.firsts loop.counts loop.collected) loop.inner loop.spent (rooms literal bindings texts loop.cells loop.text) (literal-does table literal args.limit args.places.condition pre.1.0 pre.1.1 absent.value loop.spent c.before.before.before.before.leaf.ensures loop.inner (rooms literal bindings texts loop.cells loop.text)) c.before.before.before.asks.ensures c.before.outcome.given.1 ∙ loop.invariant.same args.places refl refl
 
 pub appends-enum-known-more : (t : ℕ) → appends-lts.Need-enum-known-more (appends-claims t) (appends-at t) appends.Post appends-Inv-loop appends-μ-loop
 appends-enum-known-more t c = search rules
@@ -65,14 +60,14 @@ appends-loop-less t c = search rules
 pub appends-loop-again : (t : ℕ) → appends-lts.Need-loop-preserved (appends-claims t) (appends-at t) appends.Post appends-Inv-loop appends-μ-loop
 appends-loop-again t c =
     let loop = c.before.before.before.before.before.before.loop in
-    let start = c.before.before.before.before.before.before.before.before.before.before.before.before.before.before.before.before.before in
+    let start = c.before.before.before.before.before.before.before.before.before.before.before.before.before.before.before in
     let args = start.args in
     let pre = start.requires in
     let table = args.table.now in
     let literal = args.literal.now in
     let bindings = args.binding-cells.now in
     let texts = args.binding-text.now in
-    appends-over table literal bindings texts args.cells.now args.text.now args.limit args.appending args.items args.places args.scope args.used loop.invariant (append-fails (loop_at table literal args.limit args.places) (append_at table literal args.limit args.appending) args.items.space args.items.stride loop.left loop.cell c.before.before.before.before.before.loop-test.true (gathered_in loop.firsts loop.counts loop.collected) loop.inner loop.spent (rooms literal bindings texts loop.cells loop.text) (literal-does table literal args.limit args.places.condition pre.1.0 pre.1.1 absent.value loop.spent c.before.before.before.before.leaf.ensures loop.inner (rooms literal bindings texts loop.cells loop.text)) c.before.before.before.asks.ensures c.before.more.given.1)
+    appends-over table literal bindings texts args.cells.now args.text.now args.limit args.at args.guarded args.guard args.list args.space args.first args.count args.each args.places.item args.places.condition args.scope args.used loop.invariant (none-again table literal args.limit args.at args.guarded args.guard args.list args.space args.each args.places.item args.places.condition loop.left loop.cell c.before.before.before.before.before.loop-test.true (gathered_in loop.firsts loop.counts loop.collected) loop.inner loop.spent (rooms literal bindings texts loop.cells loop.text) (literal-does table literal args.limit args.places.condition pre.1.0 pre.1.1 absent.value loop.spent c.before.before.before.before.leaf.ensures loop.inner (rooms literal bindings texts loop.cells loop.text)) c.before.before.before.asks.ensures c.before.more.given.1)
 
 pub appends-enum-known-more-2 : (t : ℕ) → appends-lts.Need-enum-known-more-2 (appends-claims t) (appends-at t) appends.Post appends-Inv-loop appends-μ-loop
 appends-enum-known-more-2 t c = search rules
@@ -82,17 +77,15 @@ appends-cell-at-requires t c κs = search rules
 
 pub appends-element-set-from-inner : (t : ℕ) → appends-lts.Need-element-set-from-inner (appends-claims t) (appends-at t) appends.Post appends-Inv-loop appends-μ-loop
 appends-element-set-from-inner t c =
-    let pre = c.before.before.before.before.before.before.before.before.before.before.before.before.before.before.before.before.before.before.before.requires in
+    let pre = c.before.before.before.before.before.before.before.before.before.before.before.before.before.before.before.before.before.requires in
     pre.1.6
-
-pub appends-cast-cell-2 : (t : ℕ) → appends-lts.Need-overflow-cast-cell-2 (appends-claims t) (appends-at t) appends.Post appends-Inv-loop appends-μ-loop
-appends-cast-cell-2 t c = search rules
 
 pub appends-add-cell : (t : ℕ) → appends-lts.Need-overflow-add-cell (appends-claims t) (appends-at t) appends.Post appends-Inv-loop appends-μ-loop
 appends-add-cell t c =
-    let loop = c.before.before.before.before.before.before.before.before.before.loop in
-    let loop-test = c.before.before.before.before.before.before.before.before.loop-test in
-    omega (arith, loop.invariant.below, loop-test.true, c.struct-known3.given.1.1.1.0.fits)
+    let loop = c.before.before.before.before.before.before.before.before.loop in
+    let loop-test = c.before.before.before.before.before.before.before.loop-test in
+    let fits = c.before.before.before.before.before.before.before.before.before.before.before.before.before.before.before.before.before.ranges in
+    omega (arith, loop.invariant.below, loop-test.true, fits.each)
 
 pub appends-sub-left : (t : ℕ) → appends-lts.Need-overflow-sub-left (appends-claims t) (appends-at t) appends.Post appends-Inv-loop appends-μ-loop
 appends-sub-left t c = search rules
@@ -105,29 +98,29 @@ appends-enum-known-passes t c = search rules
 
 pub appends-same-length-3 : (t : ℕ) → appends-lts.Need-same-length-3 (appends-claims t) (appends-at t) appends.Post appends-Inv-loop appends-μ-loop
 appends-same-length-3 t c =
-    let loop = c.before.before.before.before.before.before.before.before.before.before.before.before.before.loop in
+    let loop = c.before.before.before.before.before.before.before.before.before.before.before.before.loop in
     (guard-came t c.before.before.before).kept ∙ loop.invariant.kept
 
 pub appends-same-length-4 : (t : ℕ) → appends-lts.Need-same-length-4 (appends-claims t) (appends-at t) appends.Post appends-Inv-loop appends-μ-loop
 appends-same-length-4 t c =
-    let loop = c.before.before.before.before.before.before.before.before.before.before.before.before.before.loop in
+    let loop = c.before.before.before.before.before.before.before.before.before.before.before.before.loop in
     (guard-came t c.before.before.before).keptx ∙ loop.invariant.keptx
 
 pub appends-returns-2 : (t : ℕ) → appends-lts.Need-returns-2 (appends-claims t) (appends-at t) appends.Post appends-Inv-loop appends-μ-loop
 appends-returns-2 t c =
-    let loop = c.before.before.before.before.before.before.before.before.before.before.before.before.before.loop in
-    let loop-test = c.before.before.before.before.before.before.before.before.before.before.before.before.loop-test in
-    let leaf = c.before.before.before.before.before.before.before.before.before.before.before.leaf in
-    let asks = c.before.before.before.before.before.before.before.before.before.before.asks in
-    let more2 = c.before.before.before.before.before.before.before.before.more2 in
-    let start = c.before.before.before.before.before.before.before.before.before.before.before.before.before.before.before.before.before.before.before.before.before.before.before.before in
+    let loop = c.before.before.before.before.before.before.before.before.before.before.before.before.loop in
+    let loop-test = c.before.before.before.before.before.before.before.before.before.before.before.loop-test in
+    let leaf = c.before.before.before.before.before.before.before.before.before.before.leaf in
+    let asks = c.before.before.before.before.before.before.before.before.before.asks in
+    let more2 = c.before.before.before.before.before.before.before.more2 in
+    let start = c.before.before.before.before.before.before.before.before.before.before.before.before.before.before.before.before.before.before.before.before.before in
     let args = start.args in
     let pre = start.requires in
     let table = args.table.now in
     let literal = args.literal.now in
     let bindings = args.binding-cells.now in
     let texts = args.binding-text.now in
-    guard-ends (loop_at table literal args.limit args.places) (append_at table literal args.limit args.appending) args.items.space args.items.stride loop.left loop.cell loop-test.true (gathered_in loop.firsts loop.counts loop.collected) loop.inner loop.spent (rooms literal bindings texts loop.cells loop.text) (literal-does table literal args.limit args.places.condition pre.1.0 pre.1.1 absent.value loop.spent leaf.ensures loop.inner (rooms literal bindings texts loop.cells loop.text)) asks.ensures more2.given.1 c.before.before.before.before.before.Cell-at.ensures (guard-came t c.before.before.before).passed c.before.passes.given.1 ∙ loop.invariant.same
+    guard-ends (loop_at table literal args.limit args.at args.places) (append_at table literal args.limit args.guarded args.guard args.list) args.space args.each loop.left loop.cell loop-test.true (gathered_in loop.firsts loop.counts loop.collected) loop.inner loop.spent (rooms literal bindings texts loop.cells loop.text) (literal-does table literal args.limit args.places.condition pre.1.0 pre.1.1 absent.value loop.spent leaf.ensures loop.inner (rooms literal bindings texts loop.cells loop.text)) asks.ensures more2.given.1 c.before.before.before.before.Cell-at.ensures (guard-came t c.before.before.before).passed c.before.passes.given.1 ∙ loop.invariant.same args.places refl refl
 
 pub appends-enum-known-passes-2 : (t : ℕ) → appends-lts.Need-enum-known-passes-2 (appends-claims t) (appends-at t) appends.Post appends-Inv-loop appends-μ-loop
 appends-enum-known-passes-2 t c = search rules
@@ -138,20 +131,21 @@ appends-loop-less-2 t c = search rules
 pub appends-loop-again-2 : (t : ℕ) → appends-lts.Need-loop-preserved-2 (appends-claims t) (appends-at t) appends.Post appends-Inv-loop appends-μ-loop
 appends-loop-again-2 t c =
     let passed = guard-came t c.before.before.before in
-    let loop = c.before.before.before.before.before.before.before.before.before.before.before.before.before.loop in
-    let loop-test = c.before.before.before.before.before.before.before.before.before.before.before.before.loop-test in
-    let leaf = c.before.before.before.before.before.before.before.before.before.before.before.leaf in
-    let asks = c.before.before.before.before.before.before.before.before.before.before.asks in
-    let more2 = c.before.before.before.before.before.before.before.before.more2 in
-    let Cell-at = c.before.before.before.before.before.Cell-at in
-    let start = c.before.before.before.before.before.before.before.before.before.before.before.before.before.before.before.before.before.before.before.before.before.before.before.before in
+    let loop = c.before.before.before.before.before.before.before.before.before.before.before.before.loop in
+    let loop-test = c.before.before.before.before.before.before.before.before.before.before.before.loop-test in
+    let leaf = c.before.before.before.before.before.before.before.before.before.before.leaf in
+    let asks = c.before.before.before.before.before.before.before.before.before.asks in
+    let more2 = c.before.before.before.before.before.before.before.more2 in
+    let Cell-at = c.before.before.before.before.Cell-at in
+    let start = c.before.before.before.before.before.before.before.before.before.before.before.before.before.before.before.before.before.before.before.before.before in
     let args = start.args in
     let pre = start.requires in
+    let fits = start.ranges in
     let table = args.table.now in
     let literal = args.literal.now in
     let bindings = args.binding-cells.now in
     let texts = args.binding-text.now in
-    appends-again table literal bindings texts args.cells.now args.text.now args.limit args.appending args.items args.places args.scope args.used loop.invariant loop-test.true c.before.before.before.before.struct-known3.given.1.1.1.0.fits passed.kept passed.keptx (length-set loop.inner.slots args.places.item (record { value = Cell-at.result })) refl refl (omega arith, omega arith) (guard-fails (loop_at table literal args.limit args.places) (append_at table literal args.limit args.appending) args.items.space args.items.stride loop.left loop.cell loop-test.true (gathered_in loop.firsts loop.counts loop.collected) loop.inner loop.spent (rooms literal bindings texts loop.cells loop.text) (literal-does table literal args.limit args.places.condition pre.1.0 pre.1.1 absent.value loop.spent leaf.ensures loop.inner (rooms literal bindings texts loop.cells loop.text)) asks.ensures more2.given.1 Cell-at.ensures passed.passed c.before.passes2.given.1)
+    appends-again table literal bindings texts args.cells.now args.text.now args.limit args.at args.guarded args.guard args.list args.space args.first args.count args.each args.places.item args.places.condition args.scope args.used loop.invariant loop-test.true fits.each.fits passed.kept passed.keptx (length-set loop.inner.slots args.places.item (record { value = Cell-at.result })) refl refl (omega arith, omega arith) (fails-again table literal args.limit args.at args.guarded args.guard args.list args.space args.each args.places.item args.places.condition loop.left loop.cell loop-test.true (gathered_in loop.firsts loop.counts loop.collected) loop.inner loop.spent (rooms literal bindings texts loop.cells loop.text) (literal-does table literal args.limit args.places.condition pre.1.0 pre.1.1 absent.value loop.spent leaf.ensures loop.inner (rooms literal bindings texts loop.cells loop.text)) asks.ensures more2.given.1 Cell-at.ensures passed.passed c.before.passes2.given.1)
 
 pub appends-enum-known-passes-3 : (t : ℕ) → appends-lts.Need-enum-known-passes-3 (appends-claims t) (appends-at t) appends.Post appends-Inv-loop appends-μ-loop
 appends-enum-known-passes-3 t c = search rules
@@ -164,77 +158,78 @@ appends-enum-known-outcome-2 t c = search rules
 
 pub appends-same-length-5 : (t : ℕ) → appends-lts.Need-same-length-5 (appends-claims t) (appends-at t) appends.Post appends-Inv-loop appends-μ-loop
 appends-same-length-5 t c =
-    let loop = c.before.before.before.before.before.before.before.before.before.before.before.before.before.before.before.before.before.before.before.before.before.loop in
+    let loop = c.before.before.before.before.before.before.before.before.before.before.before.before.before.before.before.before.before.before.before.before.loop in
     c.before.before.before.before.before.gather-items.auto.1.0 ∙ ((items-came t c.before.before.before.before.before.before.before).kept ∙ ((guard-came t c.before.before.before.before.before.before.before.before.before.before.before).kept ∙ loop.invariant.kept))
 
 pub appends-same-length-6 : (t : ℕ) → appends-lts.Need-same-length-6 (appends-claims t) (appends-at t) appends.Post appends-Inv-loop appends-μ-loop
 appends-same-length-6 t c =
-    let loop = c.before.before.before.before.before.before.before.before.before.before.before.before.before.before.before.before.before.before.before.before.before.loop in
+    let loop = c.before.before.before.before.before.before.before.before.before.before.before.before.before.before.before.before.before.before.before.before.loop in
     (items-came t c.before.before.before.before.before.before.before).keptx ∙ ((guard-came t c.before.before.before.before.before.before.before.before.before.before.before).keptx ∙ loop.invariant.keptx)
 
 pub appends-returns-3 : (t : ℕ) → appends-lts.Need-returns-3 (appends-claims t) (appends-at t) appends.Post appends-Inv-loop appends-μ-loop
 appends-returns-3 t c =
-    let loop = c.before.before.before.before.before.before.before.before.before.before.before.before.before.before.before.before.before.before.before.before.before.loop in
-    let loop-test = c.before.before.before.before.before.before.before.before.before.before.before.before.before.before.before.before.before.before.before.before.loop-test in
-    let leaf = c.before.before.before.before.before.before.before.before.before.before.before.before.before.before.before.before.before.before.before.leaf in
-    let asks = c.before.before.before.before.before.before.before.before.before.before.before.before.before.before.before.before.before.before.asks in
-    let more2 = c.before.before.before.before.before.before.before.before.before.before.before.before.before.before.before.before.more2 in
-    let Cell-at = c.before.before.before.before.before.before.before.before.before.before.before.before.before.Cell-at in
+    let loop = c.before.before.before.before.before.before.before.before.before.before.before.before.before.before.before.before.before.before.before.before.loop in
+    let loop-test = c.before.before.before.before.before.before.before.before.before.before.before.before.before.before.before.before.before.before.before.loop-test in
+    let leaf = c.before.before.before.before.before.before.before.before.before.before.before.before.before.before.before.before.before.before.leaf in
+    let asks = c.before.before.before.before.before.before.before.before.before.before.before.before.before.before.before.before.before.asks in
+    let more2 = c.before.before.before.before.before.before.before.before.before.before.before.before.before.before.before.more2 in
+    let Cell-at = c.before.before.before.before.before.before.before.before.before.before.before.before.Cell-at in
     let passes3 = c.before.before.before.before.before.before.before.before.before.passes3 in
-    let start = c.before.before.before.before.before.before.before.before.before.before.before.before.before.before.before.before.before.before.before.before.before.before.before.before.before.before.before.before.before.before.before.before in
+    let start = c.before.before.before.before.before.before.before.before.before.before.before.before.before.before.before.before.before.before.before.before.before.before.before.before.before.before.before.before.before in
     let args = start.args in
     let pre = start.requires in
     let table = args.table.now in
     let literal = args.literal.now in
     let bindings = args.binding-cells.now in
     let texts = args.binding-text.now in
-    list-ends (loop_at table literal args.limit args.places) (append_at table literal args.limit args.appending) args.items.space args.items.stride loop.left loop.cell loop-test.true (gathered_in loop.firsts loop.counts loop.collected) loop.inner loop.spent (rooms literal bindings texts loop.cells loop.text) (literal-does table literal args.limit args.places.condition pre.1.0 pre.1.1 absent.value loop.spent leaf.ensures loop.inner (rooms literal bindings texts loop.cells loop.text)) asks.ensures more2.given.1 Cell-at.ensures (guard-came t c.before.before.before.before.before.before.before.before.before.before.before).passed passes3.given.1 (items-came t c.before.before.before.before.before.before.before).is c.before.before.before.before.before.gather-items.ensures c.before.outcome2.given.1 ∙ loop.invariant.same
+    list-ends (loop_at table literal args.limit args.at args.places) (append_at table literal args.limit args.guarded args.guard args.list) args.space args.each loop.left loop.cell loop-test.true (gathered_in loop.firsts loop.counts loop.collected) loop.inner loop.spent (rooms literal bindings texts loop.cells loop.text) (literal-does table literal args.limit args.places.condition pre.1.0 pre.1.1 absent.value loop.spent leaf.ensures loop.inner (rooms literal bindings texts loop.cells loop.text)) asks.ensures more2.given.1 Cell-at.ensures (guard-came t c.before.before.before.before.before.before.before.before.before.before.before).passed passes3.given.1 (items-came t c.before.before.before.before.before.before.before).is c.before.before.before.before.before.gather-items.ensures c.before.outcome2.given.1 ∙ loop.invariant.same args.places refl refl
 
 pub appends-enum-known-from : (t : ℕ) → appends-lts.Need-enum-known-from (appends-claims t) (appends-at t) appends.Post appends-Inv-loop appends-μ-loop
 appends-enum-known-from t c = search rules
 
 pub appends-slice-aggregate-add-run : (t : ℕ) → appends-lts.Need-slice-aggregate-add-run (appends-claims t) (appends-at t) appends.Post appends-Inv-loop appends-μ-loop
 appends-slice-aggregate-add-run t c =
-    let loop = c.before.before.before.before.before.before.before.before.before.before.before.before.before.before.before.before.before.before.before.before.before.before.loop in
+    let loop = c.before.before.before.before.before.before.before.before.before.before.before.before.before.before.before.before.before.before.before.before.before.loop in
     sym loop.invariant.firsts-long
 
 pub appends-slice-aggregate-add-run-2 : (t : ℕ) → appends-lts.Need-slice-aggregate-add-run-2 (appends-claims t) (appends-at t) appends.Post appends-Inv-loop appends-μ-loop
 appends-slice-aggregate-add-run-2 t c =
-    let loop = c.before.before.before.before.before.before.before.before.before.before.before.before.before.before.before.before.before.before.before.before.before.before.before.loop in
+    let loop = c.before.before.before.before.before.before.before.before.before.before.before.before.before.before.before.before.before.before.before.before.before.before.loop in
     sym loop.invariant.counts-long
 
 pub appends-add-run-requires : (t : ℕ) → appends-lts.Need-add-run-requires (appends-claims t) (appends-at t) appends.Post appends-Inv-loop appends-μ-loop
 appends-add-run-requires t c κs =
-    let loop = c.before.before.before.before.before.before.before.before.before.before.before.before.before.before.before.before.before.before.before.before.before.before.before.loop in
+    let loop = c.before.before.before.before.before.before.before.before.before.before.before.before.before.before.before.before.before.before.before.before.before.before.loop in
     (omega (arith, loop.invariant.runs), omega (arith, loop.invariant.elements))
 
 pub appends-loop-less-3 : (t : ℕ) → appends-lts.Need-loop-smaller-3 (appends-claims t) (appends-at t) appends.Post appends-Inv-loop appends-μ-loop
 appends-loop-less-3 t c =
-    let loop-test = c.before.before.before.before.before.before.before.before.before.before.before.before.before.before.before.before.before.before.before.before.before.before.before.before.before.loop-test in
+    let loop-test = c.before.before.before.before.before.before.before.before.before.before.before.before.before.before.before.before.before.before.before.before.before.before.before.before.loop-test in
     omega (arith, loop-test.true)
 
 pub appends-loop-again-3 : (t : ℕ) → appends-lts.Need-loop-preserved-3 (appends-claims t) (appends-at t) appends.Post appends-Inv-loop appends-μ-loop
 appends-loop-again-3 t c =
     let listed = items-came t c.before.before.before.before.before.before.before.before.before.before.before.before in
     let passed = guard-came t c.before.before.before.before.before.before.before.before.before.before.before.before.before.before.before.before in
-    let loop = c.before.before.before.before.before.before.before.before.before.before.before.before.before.before.before.before.before.before.before.before.before.before.before.before.before.before.loop in
-    let loop-test = c.before.before.before.before.before.before.before.before.before.before.before.before.before.before.before.before.before.before.before.before.before.before.before.before.before.loop-test in
-    let leaf = c.before.before.before.before.before.before.before.before.before.before.before.before.before.before.before.before.before.before.before.before.before.before.before.before.leaf in
-    let asks = c.before.before.before.before.before.before.before.before.before.before.before.before.before.before.before.before.before.before.before.before.before.before.before.asks in
-    let more2 = c.before.before.before.before.before.before.before.before.before.before.before.before.before.before.before.before.before.before.before.before.before.more2 in
-    let Cell-at = c.before.before.before.before.before.before.before.before.before.before.before.before.before.before.before.before.before.before.Cell-at in
+    let loop = c.before.before.before.before.before.before.before.before.before.before.before.before.before.before.before.before.before.before.before.before.before.before.before.before.before.loop in
+    let loop-test = c.before.before.before.before.before.before.before.before.before.before.before.before.before.before.before.before.before.before.before.before.before.before.before.before.loop-test in
+    let leaf = c.before.before.before.before.before.before.before.before.before.before.before.before.before.before.before.before.before.before.before.before.before.before.before.leaf in
+    let asks = c.before.before.before.before.before.before.before.before.before.before.before.before.before.before.before.before.before.before.before.before.before.before.asks in
+    let more2 = c.before.before.before.before.before.before.before.before.before.before.before.before.before.before.before.before.before.before.before.before.more2 in
+    let Cell-at = c.before.before.before.before.before.before.before.before.before.before.before.before.before.before.before.before.before.Cell-at in
     let passes3 = c.before.before.before.before.before.before.before.before.before.before.before.before.before.before.passes3 in
     let gather-items = c.before.before.before.before.before.before.before.before.before.before.gather-items in
     let from = c.before.before.before.before.before.before.from in
     let add-run = c.before.before.add-run in
-    let start = c.before.before.before.before.before.before.before.before.before.before.before.before.before.before.before.before.before.before.before.before.before.before.before.before.before.before.before.before.before.before.before.before.before.before.before.before.before in
+    let start = c.before.before.before.before.before.before.before.before.before.before.before.before.before.before.before.before.before.before.before.before.before.before.before.before.before.before.before.before.before.before.before.before.before.before in
     let args = start.args in
     let pre = start.requires in
+    let fits = start.ranges in
     let table = args.table.now in
     let literal = args.literal.now in
     let bindings = args.binding-cells.now in
     let texts = args.binding-text.now in
-    appends-again table literal bindings texts args.cells.now args.text.now args.limit args.appending args.items args.places args.scope args.used loop.invariant loop-test.true c.before.before.before.before.before.before.before.before.before.before.before.before.before.before.before.before.before.struct-known3.given.1.1.1.0.fits (gather-items.auto.1.0 ∙ (listed.kept ∙ passed.kept)) (listed.keptx ∙ passed.keptx) (length-set loop.inner.slots args.places.item (record { value = Cell-at.result })) add-run.auto.0 add-run.auto.1.0 (run-added loop.firsts loop.counts _ _ loop.collected add-run.result _ from.given.0.1.0 _ add-run.ensures (omega (arith, c.before.before.before.before.before.known-told10.given.1.0))) (list-again (loop_at table literal args.limit args.places) (append_at table literal args.limit args.appending) args.items.space args.items.stride loop.left loop.cell loop-test.true (gathered_in loop.firsts loop.counts loop.collected) loop.inner loop.spent (rooms literal bindings texts loop.cells loop.text) (literal-does table literal args.limit args.places.condition pre.1.0 pre.1.1 absent.value loop.spent leaf.ensures loop.inner (rooms literal bindings texts loop.cells loop.text)) asks.ensures more2.given.1 Cell-at.ensures passed.passed passes3.given.1 listed.is gather-items.ensures from.given.1 add-run.ensures)
+    appends-again table literal bindings texts args.cells.now args.text.now args.limit args.at args.guarded args.guard args.list args.space args.first args.count args.each args.places.item args.places.condition args.scope args.used loop.invariant loop-test.true fits.each.fits (gather-items.auto.1.0 ∙ (listed.kept ∙ passed.kept)) (listed.keptx ∙ passed.keptx) (length-set loop.inner.slots args.places.item (record { value = Cell-at.result })) add-run.auto.0 add-run.auto.1.0 (run-added loop.firsts loop.counts _ _ loop.collected add-run.result _ from.given.0.1.0 _ add-run.ensures (omega (arith, c.before.before.before.before.before.known-told10.given.1.0))) (gathers-again table literal args.limit args.at args.guarded args.guard args.list args.space args.each args.places.item args.places.condition loop.left loop.cell loop-test.true (gathered_in loop.firsts loop.counts loop.collected) loop.inner loop.spent (rooms literal bindings texts loop.cells loop.text) (literal-does table literal args.limit args.places.condition pre.1.0 pre.1.1 absent.value loop.spent leaf.ensures loop.inner (rooms literal bindings texts loop.cells loop.text)) asks.ensures more2.given.1 Cell-at.ensures passed.passed passes3.given.1 listed.is gather-items.ensures from.given.1 add-run.ensures)
 
 pub appends-slice-aggregate-collected-list : (t : ℕ) → appends-lts.Need-slice-aggregate-collected-list (appends-claims t) (appends-at t) appends.Post appends-Inv-loop appends-μ-loop
 appends-slice-aggregate-collected-list t c = sym c.before.before.before.loop.invariant.firsts-long
@@ -258,7 +253,7 @@ appends-same-length-8 t c =
 pub appends-returns-4 : (t : ℕ) → appends-lts.Need-returns-4 (appends-claims t) (appends-at t) appends.Post appends-Inv-loop appends-μ-loop
 appends-returns-4 t c =
     let loop = c.before.before.before.before.before.before.before.loop in
-    let args = c.before.before.before.before.before.before.before.before.before.before.before.before.before.before.before.before.before.before.args in
+    let args = c.before.before.before.before.before.before.before.before.before.before.before.before.before.before.before.before.args in
     let table = args.table.now in
     let literal = args.literal.now in
-    let texts = args.binding-text.now in c.before.before.collected-list.ensures literal texts loop.text ∙ (sym (no-append (loop_at table literal args.limit args.places) (append_at table literal args.limit args.appending) args.items.space args.items.stride loop.left loop.cell (omega (arith, c.before.before.before.before.before.before.loop-test.false)) (gathered_in loop.firsts loop.counts loop.collected) loop.inner loop.spent (rooms literal args.binding-cells.now texts loop.cells loop.text)) ∙ loop.invariant.same)
+    let texts = args.binding-text.now in c.before.before.collected-list.ensures literal texts loop.text ∙ (sym (no-append (loop_at table literal args.limit args.at args.places) (append_at table literal args.limit args.guarded args.guard args.list) args.space args.each loop.left loop.cell (omega (arith, c.before.before.before.before.before.before.loop-test.false)) (gathered_in loop.firsts loop.counts loop.collected) loop.inner loop.spent (rooms literal args.binding-cells.now texts loop.cells loop.text)) ∙ loop.invariant.same args.places refl refl)

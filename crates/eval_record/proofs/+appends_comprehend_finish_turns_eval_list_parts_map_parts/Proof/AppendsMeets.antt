@@ -4,8 +4,8 @@ use Rattle.eval_record.proofs.appending.appends.Reads as appends
 use Rattle.eval_record.proofs.+appends_comprehend_finish_turns_eval_list_parts_map_parts.Lts-appending-appends as appends-lts
 use Rattle.eval_record.proofs.+appends_comprehend_finish_turns_eval_list_parts_map_parts.Proof.Kit.{appends-at, appends-claims}
 use Rattle.eval_record.proofs.+appends_comprehend_finish_turns_eval_list_parts_map_parts.Proof.AppendsCame.{appends-Inv-loop, appends-μ-loop}
-use Rattle.eval_record.proofs.+appends_comprehend_finish_turns_eval_list_parts_map_parts.Proof.AppendsSlots.{appends-reach-at-requires, appends-single-at-requires, appends-mul-t58, appends-enum-known-reads, appends-mul-t68, appends-element-copy-out-t71, appends-mul-t72, appends-element-copy-out-t75, appends-mul-t76, appends-element-copy-out-t79, appends-mul-t80, appends-element-copy-out-t83, appends-reach-requires, appends-enum-told, appends-eval-requires, appends-enum-known-reads-2, appends-mul-t95, appends-element-copy-out-t98, appends-mul-t99, appends-element-copy-out-t102, appends-mul-t103, appends-element-copy-out-t106, appends-mul-t107, appends-element-copy-out-t110, appends-single-requires, appends-enum-told-2, appends-eval-requires-2}
-use Rattle.eval_record.proofs.+appends_comprehend_finish_turns_eval_list_parts_map_parts.Proof.Appends.{appends-cast-cell, appends-cast-left, appends-loop-holds, appends-leaf-requires, appends-asks-requires, appends-enum-known-outcome, appends-same-length, appends-same-length-2, appends-returns, appends-enum-known-more, appends-loop-less, appends-loop-again, appends-enum-known-more-2, appends-cell-at-requires, appends-element-set-from-inner, appends-cast-cell-2, appends-add-cell, appends-sub-left, appends-asks-requires-2, appends-enum-known-passes, appends-same-length-3, appends-same-length-4, appends-returns-2, appends-enum-known-passes-2, appends-loop-less-2, appends-loop-again-2, appends-enum-known-passes-3, appends-gather-items-requires, appends-enum-known-outcome-2, appends-same-length-5, appends-same-length-6, appends-returns-3, appends-enum-known-from, appends-slice-aggregate-add-run, appends-slice-aggregate-add-run-2, appends-add-run-requires, appends-loop-less-3, appends-loop-again-3, appends-slice-aggregate-collected-list, appends-slice-aggregate-collected-list-2, appends-collected-list-requires, appends-same-length-7, appends-same-length-8, appends-returns-4}
+use Rattle.eval_record.proofs.+appends_comprehend_finish_turns_eval_list_parts_map_parts.Proof.AppendsSlots.{appends-reach-at-requires, appends-single-at-requires, appends-mul-t63, appends-enum-known-reads, appends-mul-reach, appends-element-copy-out-reach, appends-mul-reach-2, appends-element-copy-out-reach-2, appends-mul-reach-3, appends-element-copy-out-reach-3, appends-mul-reach-4, appends-element-copy-out-reach-4, appends-reach-requires, appends-enum-told, appends-eval-requires, appends-enum-known-reads-2, appends-mul-single, appends-element-copy-out-single, appends-mul-single-2, appends-element-copy-out-single-2, appends-mul-single-3, appends-element-copy-out-single-3, appends-mul-single-4, appends-element-copy-out-single-4, appends-single-requires, appends-enum-told-2, appends-eval-requires-2}
+use Rattle.eval_record.proofs.+appends_comprehend_finish_turns_eval_list_parts_map_parts.Proof.Appends.{appends-loop-holds, appends-leaf-requires, appends-asks-requires, appends-enum-known-outcome, appends-same-length, appends-same-length-2, appends-returns, appends-enum-known-more, appends-loop-less, appends-loop-again, appends-enum-known-more-2, appends-cell-at-requires, appends-element-set-from-inner, appends-add-cell, appends-sub-left, appends-asks-requires-2, appends-enum-known-passes, appends-same-length-3, appends-same-length-4, appends-returns-2, appends-enum-known-passes-2, appends-loop-less-2, appends-loop-again-2, appends-enum-known-passes-3, appends-gather-items-requires, appends-enum-known-outcome-2, appends-same-length-5, appends-same-length-6, appends-returns-3, appends-enum-known-from, appends-slice-aggregate-add-run, appends-slice-aggregate-add-run-2, appends-add-run-requires, appends-loop-less-3, appends-loop-again-3, appends-slice-aggregate-collected-list, appends-slice-aggregate-collected-list-2, appends-collected-list-requires, appends-same-length-7, appends-same-length-8, appends-returns-4}
 
 pub appends-meets : {M : Type 1} (t : ℕ) → appends-lts.Closed (appends-claims t) (appends-at t) appends.Post M
 appends-meets t =
@@ -16,8 +16,6 @@ appends-meets t =
     appends-μ-loop
     (appends-reach-at-requires t)
     (appends-single-at-requires t)
-    (appends-cast-cell t)
-    (appends-cast-left t)
     (appends-loop-holds t)
     (appends-leaf-requires t)
     (appends-asks-requires t)
@@ -30,20 +28,19 @@ appends-meets t =
     (appends-loop-again t)
     (appends-enum-known-more-2 t)
     (appends-cell-at-requires t)
-    (appends-mul-t58 t)
+    (appends-mul-t63 t)
     (appends-element-set-from-inner t)
-    (appends-cast-cell-2 t)
     (appends-add-cell t)
     (appends-sub-left t)
     (appends-enum-known-reads t)
-    (appends-mul-t68 t)
-    (appends-element-copy-out-t71 t)
-    (appends-mul-t72 t)
-    (appends-element-copy-out-t75 t)
-    (appends-mul-t76 t)
-    (appends-element-copy-out-t79 t)
-    (appends-mul-t80 t)
-    (appends-element-copy-out-t83 t)
+    (appends-mul-reach t)
+    (appends-element-copy-out-reach t)
+    (appends-mul-reach-2 t)
+    (appends-element-copy-out-reach-2 t)
+    (appends-mul-reach-3 t)
+    (appends-element-copy-out-reach-3 t)
+    (appends-mul-reach-4 t)
+    (appends-element-copy-out-reach-4 t)
     (appends-reach-requires t)
     (appends-enum-told t)
     (appends-eval-requires t)
@@ -57,14 +54,14 @@ appends-meets t =
     (appends-loop-again-2 t)
     (appends-enum-known-passes-3 t)
     (appends-enum-known-reads-2 t)
-    (appends-mul-t95 t)
-    (appends-element-copy-out-t98 t)
-    (appends-mul-t99 t)
-    (appends-element-copy-out-t102 t)
-    (appends-mul-t103 t)
-    (appends-element-copy-out-t106 t)
-    (appends-mul-t107 t)
-    (appends-element-copy-out-t110 t)
+    (appends-mul-single t)
+    (appends-element-copy-out-single t)
+    (appends-mul-single-2 t)
+    (appends-element-copy-out-single-2 t)
+    (appends-mul-single-3 t)
+    (appends-element-copy-out-single-3 t)
+    (appends-mul-single-4 t)
+    (appends-element-copy-out-single-4 t)
     (appends-single-requires t)
     (appends-enum-told-2 t)
     (appends-eval-requires-2 t)

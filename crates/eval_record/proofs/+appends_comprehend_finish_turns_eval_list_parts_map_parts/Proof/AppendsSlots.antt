@@ -16,59 +16,59 @@ appends-single-at-requires t c κs =
     let pre = c.before.before.before.before.before.before.before.requires in
     pre.1.3
 
-pub appends-mul-t58 : (t : ℕ) → appends-lts.Need-overflow-mul-t58 (appends-claims t) (appends-at t) appends.Post appends-Inv-loop appends-μ-loop
-appends-mul-t58 t c =
-    let pre = c.before.before.before.before.before.before.before.before.before.before.before.before.before.before.before.before.before.before.before.requires in
+pub appends-mul-t63 : (t : ℕ) → appends-lts.Need-overflow-mul-t63 (appends-claims t) (appends-at t) appends.Post appends-Inv-loop appends-μ-loop
+appends-mul-t63 t c =
+    let pre = c.before.before.before.before.before.before.before.before.before.before.before.before.before.before.before.before.before.requires in
     omega (arith, pre.1.6)
 
 pub appends-enum-known-reads : (t : ℕ) → appends-lts.Need-enum-known-reads (appends-claims t) (appends-at t) appends.Post appends-Inv-loop appends-μ-loop
 appends-enum-known-reads t c = search rules
 
-pub appends-mul-t68 : (t : ℕ) → appends-lts.Need-overflow-mul-t68 (appends-claims t) (appends-at t) appends.Post appends-Inv-loop appends-μ-loop
-appends-mul-t68 t c =
-    let reach-at = c.before.before.before.before.before.before.before.before.before.before.before.before.before.before.before.before.before.before.before.reach-at in
+pub appends-mul-reach : (t : ℕ) → appends-lts.Need-overflow-mul-reach (appends-claims t) (appends-at t) appends.Post appends-Inv-loop appends-μ-loop
+appends-mul-reach t c =
+    let reach-at = c.before.before.before.before.before.before.before.before.before.before.before.before.before.before.before.before.reach-at in
     omega (arith, (slots-below reach-at.ensures c.before.before.before.reads.given.1).0)
 
-pub appends-element-copy-out-t71 : (t : ℕ) → appends-lts.Need-element-copy-out-t71 (appends-claims t) (appends-at t) appends.Post appends-Inv-loop appends-μ-loop
-appends-element-copy-out-t71 t c =
-    let reach-at = c.before.before.before.before.before.before.before.before.before.before.before.before.before.before.before.before.before.before.before.reach-at in
+pub appends-element-copy-out-reach : (t : ℕ) → appends-lts.Need-element-copy-out-reach (appends-claims t) (appends-at t) appends.Post appends-Inv-loop appends-μ-loop
+appends-element-copy-out-reach t c =
+    let reach-at = c.before.before.before.before.before.before.before.before.before.before.before.before.before.before.before.before.reach-at in
     (slots-below reach-at.ensures c.before.before.before.reads.given.1).0
 
-pub appends-mul-t72 : (t : ℕ) → appends-lts.Need-overflow-mul-t72 (appends-claims t) (appends-at t) appends.Post appends-Inv-loop appends-μ-loop
-appends-mul-t72 t c =
-    let reach-at = c.before.before.before.before.before.before.before.before.before.before.before.before.before.before.before.before.before.before.before.before.reach-at in
+pub appends-mul-reach-2 : (t : ℕ) → appends-lts.Need-overflow-mul-reach-2 (appends-claims t) (appends-at t) appends.Post appends-Inv-loop appends-μ-loop
+appends-mul-reach-2 t c =
+    let reach-at = c.before.before.before.before.before.before.before.before.before.before.before.before.before.before.before.before.before.reach-at in
     omega (arith, (slots-below reach-at.ensures c.before.before.before.before.reads.given.1).1)
 
-pub appends-element-copy-out-t75 : (t : ℕ) → appends-lts.Need-element-copy-out-t75 (appends-claims t) (appends-at t) appends.Post appends-Inv-loop appends-μ-loop
-appends-element-copy-out-t75 t c =
-    let reach-at = c.before.before.before.before.before.before.before.before.before.before.before.before.before.before.before.before.before.before.before.before.reach-at in
+pub appends-element-copy-out-reach-2 : (t : ℕ) → appends-lts.Need-element-copy-out-reach-2 (appends-claims t) (appends-at t) appends.Post appends-Inv-loop appends-μ-loop
+appends-element-copy-out-reach-2 t c =
+    let reach-at = c.before.before.before.before.before.before.before.before.before.before.before.before.before.before.before.before.before.reach-at in
     (slots-below reach-at.ensures c.before.before.before.before.reads.given.1).1
 
-pub appends-mul-t76 : (t : ℕ) → appends-lts.Need-overflow-mul-t76 (appends-claims t) (appends-at t) appends.Post appends-Inv-loop appends-μ-loop
-appends-mul-t76 t c =
-    let reach-at = c.before.before.before.before.before.before.before.before.before.before.before.before.before.before.before.before.before.before.before.before.before.reach-at in
+pub appends-mul-reach-3 : (t : ℕ) → appends-lts.Need-overflow-mul-reach-3 (appends-claims t) (appends-at t) appends.Post appends-Inv-loop appends-μ-loop
+appends-mul-reach-3 t c =
+    let reach-at = c.before.before.before.before.before.before.before.before.before.before.before.before.before.before.before.before.before.before.reach-at in
     omega (arith, (slots-below reach-at.ensures c.before.before.before.before.before.reads.given.1).2)
 
-pub appends-element-copy-out-t79 : (t : ℕ) → appends-lts.Need-element-copy-out-t79 (appends-claims t) (appends-at t) appends.Post appends-Inv-loop appends-μ-loop
-appends-element-copy-out-t79 t c =
-    let reach-at = c.before.before.before.before.before.before.before.before.before.before.before.before.before.before.before.before.before.before.before.before.before.reach-at in
+pub appends-element-copy-out-reach-3 : (t : ℕ) → appends-lts.Need-element-copy-out-reach-3 (appends-claims t) (appends-at t) appends.Post appends-Inv-loop appends-μ-loop
+appends-element-copy-out-reach-3 t c =
+    let reach-at = c.before.before.before.before.before.before.before.before.before.before.before.before.before.before.before.before.before.before.reach-at in
     (slots-below reach-at.ensures c.before.before.before.before.before.reads.given.1).2
 
-pub appends-mul-t80 : (t : ℕ) → appends-lts.Need-overflow-mul-t80 (appends-claims t) (appends-at t) appends.Post appends-Inv-loop appends-μ-loop
-appends-mul-t80 t c =
-    let reach-at = c.before.before.before.before.before.before.before.before.before.before.before.before.before.before.before.before.before.before.before.before.before.before.reach-at in
+pub appends-mul-reach-4 : (t : ℕ) → appends-lts.Need-overflow-mul-reach-4 (appends-claims t) (appends-at t) appends.Post appends-Inv-loop appends-μ-loop
+appends-mul-reach-4 t c =
+    let reach-at = c.before.before.before.before.before.before.before.before.before.before.before.before.before.before.before.before.before.before.before.reach-at in
     omega (arith, (slots-below reach-at.ensures c.before.before.before.before.before.before.reads.given.1).3)
 
-pub appends-element-copy-out-t83 : (t : ℕ) → appends-lts.Need-element-copy-out-t83 (appends-claims t) (appends-at t) appends.Post appends-Inv-loop appends-μ-loop
-appends-element-copy-out-t83 t c =
-    let reach-at = c.before.before.before.before.before.before.before.before.before.before.before.before.before.before.before.before.before.before.before.before.before.before.reach-at in
+pub appends-element-copy-out-reach-4 : (t : ℕ) → appends-lts.Need-element-copy-out-reach-4 (appends-claims t) (appends-at t) appends.Post appends-Inv-loop appends-μ-loop
+appends-element-copy-out-reach-4 t c =
+    let reach-at = c.before.before.before.before.before.before.before.before.before.before.before.before.before.before.before.before.before.before.before.reach-at in
     (slots-below reach-at.ensures c.before.before.before.before.before.before.reads.given.1).3
 
 pub appends-reach-requires : (t : ℕ) → appends-lts.Need-reach-requires (appends-claims t) (appends-at t) appends.Post appends-Inv-loop appends-μ-loop
 appends-reach-requires t c κs =
-    let reach-at = c.before.before.before.before.before.before.before.before.before.before.before.before.before.before.before.before.before.before.before.before.before.before.before.reach-at in
+    let reach-at = c.before.before.before.before.before.before.before.before.before.before.before.before.before.before.before.before.before.before.before.before.reach-at in
     let reads = c.before.before.before.before.before.before.before.reads in
-    let pre = c.before.before.before.before.before.before.before.before.before.before.before.before.before.before.before.before.before.before.before.before.before.before.before.before.before.before.before.before.before.before.requires in
+    let pre = c.before.before.before.before.before.before.before.before.before.before.before.before.before.before.before.before.before.before.before.before.before.before.before.before.before.before.before.requires in
     (pre.1.2, slots-asked reach-at.ensures reads.given.1)
 
 pub appends-enum-told : (t : ℕ) → appends-lts.Need-enum-told (appends-claims t) (appends-at t) appends.Post appends-Inv-loop appends-μ-loop
@@ -76,57 +76,57 @@ appends-enum-told t c = search rules
 
 pub appends-eval-requires : (t : ℕ) → appends-lts.Need-eval-requires (appends-claims t) (appends-at t) appends.Post appends-Inv-loop appends-μ-loop
 appends-eval-requires t c κs =
-    let pre = c.before.before.before.before.before.before.before.before.before.before.before.before.before.before.before.before.before.before.before.before.before.before.before.before.before.requires in
+    let pre = c.before.before.before.before.before.before.before.before.before.before.before.before.before.before.before.before.before.before.before.before.before.before.requires in
     (omega (arith, pre.0, pre.1.4), pre.1.2)
 
 pub appends-enum-known-reads-2 : (t : ℕ) → appends-lts.Need-enum-known-reads-2 (appends-claims t) (appends-at t) appends.Post appends-Inv-loop appends-μ-loop
 appends-enum-known-reads-2 t c = search rules
 
-pub appends-mul-t95 : (t : ℕ) → appends-lts.Need-overflow-mul-t95 (appends-claims t) (appends-at t) appends.Post appends-Inv-loop appends-μ-loop
-appends-mul-t95 t c =
-    let single-at = c.before.before.before.before.before.before.before.before.before.before.before.before.before.before.before.before.before.before.before.before.before.single-at in
+pub appends-mul-single : (t : ℕ) → appends-lts.Need-overflow-mul-single (appends-claims t) (appends-at t) appends.Post appends-Inv-loop appends-μ-loop
+appends-mul-single t c =
+    let single-at = c.before.before.before.before.before.before.before.before.before.before.before.before.before.before.before.before.before.before.single-at in
     omega (arith, (slots-below single-at.ensures c.before.before.before.reads2.given.1).0)
 
-pub appends-element-copy-out-t98 : (t : ℕ) → appends-lts.Need-element-copy-out-t98 (appends-claims t) (appends-at t) appends.Post appends-Inv-loop appends-μ-loop
-appends-element-copy-out-t98 t c =
-    let single-at = c.before.before.before.before.before.before.before.before.before.before.before.before.before.before.before.before.before.before.before.before.before.single-at in
+pub appends-element-copy-out-single : (t : ℕ) → appends-lts.Need-element-copy-out-single (appends-claims t) (appends-at t) appends.Post appends-Inv-loop appends-μ-loop
+appends-element-copy-out-single t c =
+    let single-at = c.before.before.before.before.before.before.before.before.before.before.before.before.before.before.before.before.before.before.single-at in
     (slots-below single-at.ensures c.before.before.before.reads2.given.1).0
 
-pub appends-mul-t99 : (t : ℕ) → appends-lts.Need-overflow-mul-t99 (appends-claims t) (appends-at t) appends.Post appends-Inv-loop appends-μ-loop
-appends-mul-t99 t c =
-    let single-at = c.before.before.before.before.before.before.before.before.before.before.before.before.before.before.before.before.before.before.before.before.before.before.single-at in
+pub appends-mul-single-2 : (t : ℕ) → appends-lts.Need-overflow-mul-single-2 (appends-claims t) (appends-at t) appends.Post appends-Inv-loop appends-μ-loop
+appends-mul-single-2 t c =
+    let single-at = c.before.before.before.before.before.before.before.before.before.before.before.before.before.before.before.before.before.before.before.single-at in
     omega (arith, (slots-below single-at.ensures c.before.before.before.before.reads2.given.1).1)
 
-pub appends-element-copy-out-t102 : (t : ℕ) → appends-lts.Need-element-copy-out-t102 (appends-claims t) (appends-at t) appends.Post appends-Inv-loop appends-μ-loop
-appends-element-copy-out-t102 t c =
-    let single-at = c.before.before.before.before.before.before.before.before.before.before.before.before.before.before.before.before.before.before.before.before.before.before.single-at in
+pub appends-element-copy-out-single-2 : (t : ℕ) → appends-lts.Need-element-copy-out-single-2 (appends-claims t) (appends-at t) appends.Post appends-Inv-loop appends-μ-loop
+appends-element-copy-out-single-2 t c =
+    let single-at = c.before.before.before.before.before.before.before.before.before.before.before.before.before.before.before.before.before.before.before.single-at in
     (slots-below single-at.ensures c.before.before.before.before.reads2.given.1).1
 
-pub appends-mul-t103 : (t : ℕ) → appends-lts.Need-overflow-mul-t103 (appends-claims t) (appends-at t) appends.Post appends-Inv-loop appends-μ-loop
-appends-mul-t103 t c =
-    let single-at = c.before.before.before.before.before.before.before.before.before.before.before.before.before.before.before.before.before.before.before.before.before.before.before.single-at in
+pub appends-mul-single-3 : (t : ℕ) → appends-lts.Need-overflow-mul-single-3 (appends-claims t) (appends-at t) appends.Post appends-Inv-loop appends-μ-loop
+appends-mul-single-3 t c =
+    let single-at = c.before.before.before.before.before.before.before.before.before.before.before.before.before.before.before.before.before.before.before.before.single-at in
     omega (arith, (slots-below single-at.ensures c.before.before.before.before.before.reads2.given.1).2)
 
-pub appends-element-copy-out-t106 : (t : ℕ) → appends-lts.Need-element-copy-out-t106 (appends-claims t) (appends-at t) appends.Post appends-Inv-loop appends-μ-loop
-appends-element-copy-out-t106 t c =
-    let single-at = c.before.before.before.before.before.before.before.before.before.before.before.before.before.before.before.before.before.before.before.before.before.before.before.single-at in
+pub appends-element-copy-out-single-3 : (t : ℕ) → appends-lts.Need-element-copy-out-single-3 (appends-claims t) (appends-at t) appends.Post appends-Inv-loop appends-μ-loop
+appends-element-copy-out-single-3 t c =
+    let single-at = c.before.before.before.before.before.before.before.before.before.before.before.before.before.before.before.before.before.before.before.before.single-at in
     (slots-below single-at.ensures c.before.before.before.before.before.reads2.given.1).2
 
-pub appends-mul-t107 : (t : ℕ) → appends-lts.Need-overflow-mul-t107 (appends-claims t) (appends-at t) appends.Post appends-Inv-loop appends-μ-loop
-appends-mul-t107 t c =
-    let single-at = c.before.before.before.before.before.before.before.before.before.before.before.before.before.before.before.before.before.before.before.before.before.before.before.before.single-at in
+pub appends-mul-single-4 : (t : ℕ) → appends-lts.Need-overflow-mul-single-4 (appends-claims t) (appends-at t) appends.Post appends-Inv-loop appends-μ-loop
+appends-mul-single-4 t c =
+    let single-at = c.before.before.before.before.before.before.before.before.before.before.before.before.before.before.before.before.before.before.before.before.before.single-at in
     omega (arith, (slots-below single-at.ensures c.before.before.before.before.before.before.reads2.given.1).3)
 
-pub appends-element-copy-out-t110 : (t : ℕ) → appends-lts.Need-element-copy-out-t110 (appends-claims t) (appends-at t) appends.Post appends-Inv-loop appends-μ-loop
-appends-element-copy-out-t110 t c =
-    let single-at = c.before.before.before.before.before.before.before.before.before.before.before.before.before.before.before.before.before.before.before.before.before.before.before.before.single-at in
+pub appends-element-copy-out-single-4 : (t : ℕ) → appends-lts.Need-element-copy-out-single-4 (appends-claims t) (appends-at t) appends.Post appends-Inv-loop appends-μ-loop
+appends-element-copy-out-single-4 t c =
+    let single-at = c.before.before.before.before.before.before.before.before.before.before.before.before.before.before.before.before.before.before.before.before.before.single-at in
     (slots-below single-at.ensures c.before.before.before.before.before.before.reads2.given.1).3
 
 pub appends-single-requires : (t : ℕ) → appends-lts.Need-single-requires (appends-claims t) (appends-at t) appends.Post appends-Inv-loop appends-μ-loop
 appends-single-requires t c κs =
-    let single-at = c.before.before.before.before.before.before.before.before.before.before.before.before.before.before.before.before.before.before.before.before.before.before.before.before.before.single-at in
+    let single-at = c.before.before.before.before.before.before.before.before.before.before.before.before.before.before.before.before.before.before.before.before.before.before.single-at in
     let reads2 = c.before.before.before.before.before.before.before.reads2 in
-    let pre = c.before.before.before.before.before.before.before.before.before.before.before.before.before.before.before.before.before.before.before.before.before.before.before.before.before.before.before.before.before.before.before.before.before.requires in
+    let pre = c.before.before.before.before.before.before.before.before.before.before.before.before.before.before.before.before.before.before.before.before.before.before.before.before.before.before.before.before.before.before.requires in
     (pre.1.3, slots-asked single-at.ensures reads2.given.1)
 
 pub appends-enum-told-2 : (t : ℕ) → appends-lts.Need-enum-told-2 (appends-claims t) (appends-at t) appends.Post appends-Inv-loop appends-μ-loop
@@ -134,5 +134,5 @@ appends-enum-told-2 t c = search rules
 
 pub appends-eval-requires-2 : (t : ℕ) → appends-lts.Need-eval-requires-2 (appends-claims t) (appends-at t) appends.Post appends-Inv-loop appends-μ-loop
 appends-eval-requires-2 t c κs =
-    let pre = c.before.before.before.before.before.before.before.before.before.before.before.before.before.before.before.before.before.before.before.before.before.before.before.before.before.before.before.before.requires in
+    let pre = c.before.before.before.before.before.before.before.before.before.before.before.before.before.before.before.before.before.before.before.before.before.before.before.before.before.requires in
     (omega (arith, pre.0, pre.1.5), pre.1.3)

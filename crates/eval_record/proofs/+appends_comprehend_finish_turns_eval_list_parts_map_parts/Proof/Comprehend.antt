@@ -4,10 +4,10 @@ use mathlib.Core.Path.{◌∙◌, ◌≡◌, ap}
 use native.Mathlib.Omega.{arith}
 use Rattle.rooms.specs.Rooms.{rooms}
 use Prim.Native.Nat.{ℕ, ◌+◌}
-use Rattle.table_layout.specs.Layout.{after, comprehension_head}
+use Rattle.table_layout.specs.Layout.{after}
 use Rattle.eval_shapes.proofs.KindLaws.{sound-stands}
 use Rattle.eval_shapes.proofs.ComprehensionLaws.{comprehension-at}
-use Rattle.eval_record.proofs.Comprehends.{init-stops, range-stops, no-range, turns-are, appends-are, place_is, condition-sound, step-sound, result-sound, accumulator-small, item-small, operands-smaller, appends-run}
+use Rattle.eval_record.proofs.Comprehends.{init-stops, range-stops, no-range, turns-are, plain-are, guarded-are, condition-sound, step-sound, result-sound, accumulator-small, item-small, operands-smaller, plain-run, guarded-run}
 use Rattle.eval_record.proofs.comprehension.comprehend.Reads as comprehend
 use Rattle.eval_record.proofs.+appends_comprehend_finish_turns_eval_list_parts_map_parts.Lts-comprehension-comprehend as comprehend-lts
 use Rattle.eval_record.proofs.+appends_comprehend_finish_turns_eval_list_parts_map_parts.Proof.Kit.{comprehend-at, comprehend-claims}
@@ -25,7 +25,7 @@ comprehend-end-at-requires t c κs =
     let table = args.table.now in
     let literal = args.literal.now in
     let z = comprehension-at table literal args.at pre.1.0 pre.1.1 in
-    let f : c.first-operand.result ≡ args.at + comprehension_head = c.first-operand.ensures ∙ z.first in rw f (sound-stands table literal (args.at + comprehension_head) z.range).start
+    let f : c.first-operand.result ≡ args.at + 5 = c.first-operand.ensures ∙ z.first in rw f (sound-stands table literal (args.at + 5) z.range).start
 
 pub comprehend-eval-requires : (t : ℕ) → comprehend-lts.Need-eval-requires (comprehend-claims t) (comprehend-at t) comprehend.Post
 comprehend-eval-requires t c κs =
@@ -35,8 +35,8 @@ comprehend-eval-requires t c κs =
     let pre = start.requires in
     let table = args.table.now in
     let z = comprehension-at table args.literal.now args.at pre.1.0 pre.1.1 in
-    let f : first-operand.result ≡ args.at + comprehension_head = first-operand.ensures ∙ z.first in
-    let g : c.before.before.end-at.result ≡ after table (args.at + comprehension_head) = c.before.before.end-at.ensures ∙ ap (λ (n : ℕ). after table n) f in rw g (omega (arith, z.extents, pre.0), z.init)
+    let f : first-operand.result ≡ args.at + 5 = first-operand.ensures ∙ z.first in
+    let g : c.before.before.end-at.result ≡ after table (args.at + 5) = c.before.before.end-at.ensures ∙ ap (λ (n : ℕ). after table n) f in rw g (omega (arith, z.extents, pre.0), z.init)
 
 pub comprehend-enum-known-one : (t : ℕ) → comprehend-lts.Need-enum-known-one (comprehend-claims t) (comprehend-at t) comprehend.Post
 comprehend-enum-known-one t c = search rules
@@ -66,7 +66,7 @@ comprehend-eval-requires-2 t c κs =
     let args = start.args in
     let pre = start.requires in
     let z = comprehension-at args.table.now args.literal.now args.at pre.1.0 pre.1.1 in
-    let f : first-operand.result ≡ args.at + comprehension_head = first-operand.ensures ∙ z.first in rw f (omega (arith, z.extents, pre.0), z.range)
+    let f : first-operand.result ≡ args.at + 5 = first-operand.ensures ∙ z.first in rw f (omega (arith, z.extents, pre.0), z.range)
 
 pub comprehend-enum-known-two : (t : ℕ) → comprehend-lts.Need-enum-known-two (comprehend-claims t) (comprehend-at t) comprehend.Post
 comprehend-enum-known-two t c = search rules
@@ -98,8 +98,8 @@ comprehend-returns-2 t c =
 pub comprehend-range-of-requires : (t : ℕ) → comprehend-lts.Need-range-of-requires (comprehend-claims t) (comprehend-at t) comprehend.Post
 comprehend-range-of-requires t c κs = search rules
 
-pub comprehend-enum-known-items : (t : ℕ) → comprehend-lts.Need-enum-known-items (comprehend-claims t) (comprehend-at t) comprehend.Post
-comprehend-enum-known-items t c = search rules
+pub comprehend-enum-known-space : (t : ℕ) → comprehend-lts.Need-enum-known-space (comprehend-claims t) (comprehend-at t) comprehend.Post
+comprehend-enum-known-space t c = search rules
 
 pub comprehend-enum-told : (t : ℕ) → comprehend-lts.Need-enum-told (comprehend-claims t) (comprehend-at t) comprehend.Post
 comprehend-enum-told t c = search rules
@@ -140,8 +140,8 @@ comprehend-places-at-requires t c κs =
     let pre = start.requires in
     let table = args.table.now in
     let z = comprehension-at table args.literal.now args.at pre.1.0 pre.1.1 in
-    let f : first-operand.result ≡ args.at + comprehension_head = first-operand.ensures ∙ z.first in
-    let g : end-at.result ≡ after table (args.at + comprehension_head) = end-at.ensures ∙ ap (λ (n : ℕ). after table n) f in (pre.1.0, pre.1.1, g)
+    let f : first-operand.result ≡ args.at + 5 = first-operand.ensures ∙ z.first in
+    let g : end-at.result ≡ after table (args.at + 5) = end-at.ensures ∙ ap (λ (n : ℕ). after table n) f in (pre.1.0, pre.1.1, g)
 
 pub comprehend-append-path-requires : (t : ℕ) → comprehend-lts.Need-append-path-requires (comprehend-claims t) (comprehend-at t) comprehend.Post
 comprehend-append-path-requires t c κs =
@@ -166,8 +166,8 @@ comprehend-turns-requires t c κs =
     let literal = args.literal.now in
     let z = comprehension-at table literal args.at pre.1.0 pre.1.1 in (let q = operands-smaller table literal args.at z places-at.ensures in omega (arith, q, pre.0), (condition-sound table literal args.at z places-at.ensures, step-sound table literal args.at z places-at.ensures, result-sound table literal args.at z places-at.ensures, accumulator-small table literal args.at z places-at.ensures, item-small table literal args.at z places-at.ensures))
 
-pub comprehend-enum-known-appending : (t : ℕ) → comprehend-lts.Need-enum-known-appending (comprehend-claims t) (comprehend-at t) comprehend.Post
-comprehend-enum-known-appending t c = search rules
+pub comprehend-enum-known-list : (t : ℕ) → comprehend-lts.Need-enum-known-list (comprehend-claims t) (comprehend-at t) comprehend.Post
+comprehend-enum-known-list t c = search rules
 
 pub comprehend-appends-requires : (t : ℕ) → comprehend-lts.Need-appends-requires (comprehend-claims t) (comprehend-at t) comprehend.Post
 comprehend-appends-requires t c κs =
@@ -180,7 +180,23 @@ comprehend-appends-requires t c κs =
     let table = args.table.now in
     let literal = args.literal.now in
     let z = comprehension-at table literal args.at pre.1.0 pre.1.1 in
-    let q = appends-run table literal args.at z places-at.ensures one.given.0.0 append-path.result append-path.ensures.0 append-path.ensures.1 c.before.before.before.appending.given.1 in (rw (place_is table literal args.at z places-at.ensures) (omega (arith, pre.0)), (condition-sound table literal args.at z places-at.ensures, q.literal, q.guard-sound, q.list-sound, q.guard-smaller, q.list-smaller, item-small table literal args.at z places-at.ensures))
+    let q = plain-run table literal args.at z places-at.ensures one.given.0.0 append-path.result append-path.ensures.0 append-path.ensures.1 c.before.before.before.list.given.1 in (omega (arith, pre.0), (condition-sound table literal args.at z places-at.ensures, q.literal, q.guard-sound, q.list-sound, q.guard-smaller, q.list-smaller, item-small table literal args.at z places-at.ensures))
+
+pub comprehend-enum-known-guard : (t : ℕ) → comprehend-lts.Need-enum-known-guard (comprehend-claims t) (comprehend-at t) comprehend.Post
+comprehend-enum-known-guard t c = search rules
+
+pub comprehend-appends-requires-2 : (t : ℕ) → comprehend-lts.Need-appends-requires-2 (comprehend-claims t) (comprehend-at t) comprehend.Post
+comprehend-appends-requires-2 t c κs =
+    let one = c.before.before.before.before.before.before.before.before.before.before.before.before.before.before.before.before.before.before.before.before.before.before.one in
+    let places-at = c.before.before.before.before.before.before.places-at in
+    let append-path = c.before.before.before.before.before.append-path in
+    let start = c.before.before.before.before.before.before.before.before.before.before.before.before.before.before.before.before.before.before.before.before.before.before.before.before.before.before.before.before.before.before.before.before.before.before.before.before.before.before.before in
+    let args = start.args in
+    let pre = start.requires in
+    let table = args.table.now in
+    let literal = args.literal.now in
+    let z = comprehension-at table literal args.at pre.1.0 pre.1.1 in
+    let q = guarded-run table literal args.at z places-at.ensures one.given.0.0 append-path.result append-path.ensures.0 append-path.ensures.1 c.before.before.before.guard.given.1 in (omega (arith, pre.0), (condition-sound table literal args.at z places-at.ensures, q.literal, q.guard-sound, q.list-sound, q.guard-smaller, q.list-smaller, item-small table literal args.at z places-at.ensures))
 
 pub comprehend-same-length-7 : (t : ℕ) → comprehend-lts.Need-same-length-7 (comprehend-claims t) (comprehend-at t) comprehend.Post
 comprehend-same-length-7 t c =
@@ -203,7 +219,7 @@ comprehend-returns-4 t c =
     let eval2 = c.before.before.before.before.before.before.before.before.before.before.before.before.before.before.before.before.before.before.before.before.before.before.eval2 in
     let two = c.before.before.before.before.before.before.before.before.before.before.before.before.before.before.before.before.two in
     let range-of = c.before.before.before.before.before.before.before.before.before.before.before.before.before.before.range-of in
-    let items = c.before.before.before.before.before.before.before.before.before.before.before.before.items in
+    let space = c.before.before.before.before.before.before.before.before.before.before.before.before.space in
     let places-at = c.before.before.before.before.before.before.before.before.before.before.places-at in
     let append-path = c.before.before.before.before.before.before.before.before.before.append-path in
     let enum-told2 = c.before.before.before.before.before.before.before.enum-told2 in
@@ -213,7 +229,7 @@ comprehend-returns-4 t c =
     let table = args.table.now in
     let literal = args.literal.now in
     let z = comprehension-at table literal args.at pre.1.0 pre.1.1 in
-    turns-are table literal args.limit args.at z first-operand.ensures end-at.ensures args.scope args.used (rooms literal args.binding-cells.now args.binding-text.now args.cells.now args.text.now) eval-call.ensures one.given.1 eval2.ensures two.given.1 range-of.result range-of.ensures items.given.1 places-at.ensures append-path.result append-path.ensures.0 enum-told2.given.1 c.before.before.before.before.turns.ensures
+    turns-are table literal args.limit args.at z first-operand.ensures end-at.ensures args.scope args.used (rooms literal args.binding-cells.now args.binding-text.now args.cells.now args.text.now) eval-call.ensures one.given.1 eval2.ensures two.given.1 range-of.result range-of.ensures space.given.1 places-at.ensures append-path.result append-path.ensures.0 enum-told2.given.1 c.before.before.before.before.turns.ensures
 
 pub comprehend-same-length-9 : (t : ℕ) → comprehend-lts.Need-same-length-9 (comprehend-claims t) (comprehend-at t) comprehend.Post
 comprehend-same-length-9 t c =
@@ -236,14 +252,47 @@ comprehend-returns-5 t c =
     let eval2 = c.before.before.before.before.before.before.before.before.before.before.before.before.before.before.before.before.before.before.before.before.before.before.before.eval2 in
     let two = c.before.before.before.before.before.before.before.before.before.before.before.before.before.before.before.before.before.two in
     let range-of = c.before.before.before.before.before.before.before.before.before.before.before.before.before.before.before.range-of in
-    let items = c.before.before.before.before.before.before.before.before.before.before.before.before.before.items in
+    let space = c.before.before.before.before.before.before.before.before.before.before.before.before.before.space in
     let places-at = c.before.before.before.before.before.before.before.before.before.before.before.places-at in
     let append-path = c.before.before.before.before.before.before.before.before.before.before.append-path in
-    let appending = c.before.before.before.before.before.before.before.before.appending in
+    let list = c.before.before.before.before.before.before.before.before.list in
     let start = c.before.before.before.before.before.before.before.before.before.before.before.before.before.before.before.before.before.before.before.before.before.before.before.before.before.before.before.before.before.before.before.before.before.before.before.before.before.before.before.before.before.before.before.before in
     let args = start.args in
     let pre = start.requires in
     let table = args.table.now in
     let literal = args.literal.now in
     let z = comprehension-at table literal args.at pre.1.0 pre.1.1 in
-    appends-are table literal args.limit args.at z first-operand.ensures end-at.ensures args.scope args.used (rooms literal args.binding-cells.now args.binding-text.now args.cells.now args.text.now) eval-call.ensures one.given.1 eval2.ensures two.given.1 range-of.result range-of.ensures items.given.1 places-at.ensures append-path.result append-path.ensures.0 appending.given.1 c.before.before.before.before.appends.ensures
+    plain-are table literal args.limit args.at z first-operand.ensures end-at.ensures args.scope args.used (rooms literal args.binding-cells.now args.binding-text.now args.cells.now args.text.now) eval-call.ensures one.given.1 eval2.ensures two.given.1 range-of.result range-of.ensures space.given.1 places-at.ensures append-path.result append-path.ensures.0 list.given.1 c.before.before.before.before.appends.ensures
+
+pub comprehend-same-length-11 : (t : ℕ) → comprehend-lts.Need-same-length-11 (comprehend-claims t) (comprehend-at t) comprehend.Post
+comprehend-same-length-11 t c =
+    let eval-call = c.before.before.before.before.before.before.before.before.before.before.before.before.before.before.before.before.before.before.before.before.before.before.before.before.before.before.before.before.before.before.before.before.before.eval in
+    let eval2 = c.before.before.before.before.before.before.before.before.before.before.before.before.before.before.before.before.before.before.before.before.before.before.before.eval2 in
+    c.before.before.before.before.appends2.auto.1.1.1.1.0 ∙ (eval2.auto.1.1.1.1.0 ∙ eval-call.auto.1.1.1.1.0)
+
+pub comprehend-same-length-12 : (t : ℕ) → comprehend-lts.Need-same-length-12 (comprehend-claims t) (comprehend-at t) comprehend.Post
+comprehend-same-length-12 t c =
+    let eval-call = c.before.before.before.before.before.before.before.before.before.before.before.before.before.before.before.before.before.before.before.before.before.before.before.before.before.before.before.before.before.before.before.before.before.eval in
+    let eval2 = c.before.before.before.before.before.before.before.before.before.before.before.before.before.before.before.before.before.before.before.before.before.before.before.eval2 in
+    c.before.before.before.before.appends2.auto.1.1.1.1.1.0 ∙ (eval2.auto.1.1.1.1.1.0 ∙ eval-call.auto.1.1.1.1.1.0)
+
+pub comprehend-returns-6 : (t : ℕ) → comprehend-lts.Need-returns-6 (comprehend-claims t) (comprehend-at t) comprehend.Post
+comprehend-returns-6 t c =
+    let first-operand = c.before.before.before.before.before.before.before.before.before.before.before.before.before.before.before.before.before.before.before.before.before.before.before.before.before.before.before.before.before.before.before.before.before.before.before.before.before.first-operand in
+    let end-at = c.before.before.before.before.before.before.before.before.before.before.before.before.before.before.before.before.before.before.before.before.before.before.before.before.before.before.before.before.before.before.before.before.before.before.before.before.end-at in
+    let eval-call = c.before.before.before.before.before.before.before.before.before.before.before.before.before.before.before.before.before.before.before.before.before.before.before.before.before.before.before.before.before.before.before.before.before.eval in
+    let one = c.before.before.before.before.before.before.before.before.before.before.before.before.before.before.before.before.before.before.before.before.before.before.before.before.before.before.before.one in
+    let eval2 = c.before.before.before.before.before.before.before.before.before.before.before.before.before.before.before.before.before.before.before.before.before.before.before.eval2 in
+    let two = c.before.before.before.before.before.before.before.before.before.before.before.before.before.before.before.before.before.two in
+    let range-of = c.before.before.before.before.before.before.before.before.before.before.before.before.before.before.before.range-of in
+    let space = c.before.before.before.before.before.before.before.before.before.before.before.before.before.space in
+    let places-at = c.before.before.before.before.before.before.before.before.before.before.before.places-at in
+    let append-path = c.before.before.before.before.before.before.before.before.before.before.append-path in
+    let guard = c.before.before.before.before.before.before.before.before.guard in
+    let start = c.before.before.before.before.before.before.before.before.before.before.before.before.before.before.before.before.before.before.before.before.before.before.before.before.before.before.before.before.before.before.before.before.before.before.before.before.before.before.before.before.before.before.before.before in
+    let args = start.args in
+    let pre = start.requires in
+    let table = args.table.now in
+    let literal = args.literal.now in
+    let z = comprehension-at table literal args.at pre.1.0 pre.1.1 in
+    guarded-are table literal args.limit args.at z first-operand.ensures end-at.ensures args.scope args.used (rooms literal args.binding-cells.now args.binding-text.now args.cells.now args.text.now) eval-call.ensures one.given.1 eval2.ensures two.given.1 range-of.result range-of.ensures space.given.1 places-at.ensures append-path.result append-path.ensures.0 guard.given.1 c.before.before.before.before.appends2.ensures

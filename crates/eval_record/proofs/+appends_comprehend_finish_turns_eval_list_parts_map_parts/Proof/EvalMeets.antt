@@ -4,7 +4,7 @@ use Rattle.eval_record.proofs.eval.eval.Reads as eval
 use Rattle.eval_record.proofs.+appends_comprehend_finish_turns_eval_list_parts_map_parts.Lts-eval-eval as eval-lts
 use Rattle.eval_record.proofs.+appends_comprehend_finish_turns_eval_list_parts_map_parts.Proof.Kit.{eval-at, eval-claims}
 use Rattle.eval_record.proofs.+appends_comprehend_finish_turns_eval_list_parts_map_parts.Proof.Eval.{eval-out-of-steps-requires, eval-returns, eval-stepped-requires, eval-shape-at-requires, eval-enum-told, eval-slot-at-requires, eval-mul-leaf-value, eval-element-copy-out-leaf-value, eval-leaf-value-requires, eval-enum-told-2, eval-enum-told-3, eval-count-at-requires, eval-begin-requires, eval-enum-told-4, eval-out-of-cells-requires, eval-enum-known-first, eval-list-parts-requires, eval-enum-told-5, eval-count-at-requires-2, eval-mul-begin, eval-begin-requires-2, eval-enum-told-6, eval-out-of-cells-requires-2, eval-enum-known-first-2, eval-map-parts-requires, eval-enum-told-7, eval-comprehend-requires, eval-enum-known-fixed, eval-returns-2, eval-returns-3, eval-same-length, eval-returns-4, eval-same-length-2, eval-same-length-3, eval-returns-5, eval-same-length-4, eval-returns-6, eval-same-length-5, eval-same-length-6, eval-returns-7, eval-same-length-7, eval-same-length-8, eval-returns-8}
-use Rattle.eval_record.proofs.+appends_comprehend_finish_turns_eval_list_parts_map_parts.Proof.EvalOperands.{eval-begun-first-requires, eval-reach-at-requires, eval-enum-known-first-slot, eval-mul-t75, eval-element-copy-out-t78, eval-mul-t79, eval-element-copy-out-t82, eval-mul-t83, eval-element-copy-out-t86, eval-mul-t87, eval-element-copy-out-t90, eval-reach-requires, eval-enum-told-8, eval-eval-requires, eval-after-first-requires, eval-enum-known-outcome, eval-enum-known-two, eval-reach-at-requires-2, eval-enum-known-first-slot-2, eval-mul-t109, eval-element-copy-out-t112, eval-mul-t113, eval-element-copy-out-t116, eval-mul-t117, eval-element-copy-out-t120, eval-mul-t121, eval-element-copy-out-t124, eval-reach-requires-2, eval-enum-told-9, eval-eval-requires-2, eval-after-both-requires, eval-same-length-9, eval-same-length-10, eval-returns-9, eval-same-length-11, eval-same-length-12, eval-returns-10}
+use Rattle.eval_record.proofs.+appends_comprehend_finish_turns_eval_list_parts_map_parts.Proof.EvalOperands.{eval-begun-first-requires, eval-reach-at-requires, eval-enum-known-first-slot, eval-mul-reach, eval-element-copy-out-reach, eval-mul-reach-2, eval-element-copy-out-reach-2, eval-mul-reach-3, eval-element-copy-out-reach-3, eval-mul-reach-4, eval-element-copy-out-reach-4, eval-reach-requires, eval-enum-told-8, eval-eval-requires, eval-after-first-requires, eval-enum-known-outcome, eval-enum-known-two, eval-reach-at-requires-2, eval-enum-known-first-slot-2, eval-mul-reach-5, eval-element-copy-out-reach-5, eval-mul-reach-6, eval-element-copy-out-reach-6, eval-mul-reach-7, eval-element-copy-out-reach-7, eval-mul-reach-8, eval-element-copy-out-reach-8, eval-reach-requires-2, eval-enum-told-9, eval-eval-requires-2, eval-after-both-requires, eval-same-length-9, eval-same-length-10, eval-returns-9, eval-same-length-11, eval-same-length-12, eval-returns-10}
 
 pub eval-meets : {M : Type 1} (t : ℕ) → eval-lts.Closed (eval-claims t) (eval-at t) eval.Post M
 eval-meets t =
@@ -42,14 +42,14 @@ eval-meets t =
     (eval-begun-first-requires t)
     (eval-reach-at-requires t)
     (eval-enum-known-first-slot t)
-    (eval-mul-t75 t)
-    (eval-element-copy-out-t78 t)
-    (eval-mul-t79 t)
-    (eval-element-copy-out-t82 t)
-    (eval-mul-t83 t)
-    (eval-element-copy-out-t86 t)
-    (eval-mul-t87 t)
-    (eval-element-copy-out-t90 t)
+    (eval-mul-reach t)
+    (eval-element-copy-out-reach t)
+    (eval-mul-reach-2 t)
+    (eval-element-copy-out-reach-2 t)
+    (eval-mul-reach-3 t)
+    (eval-element-copy-out-reach-3 t)
+    (eval-mul-reach-4 t)
+    (eval-element-copy-out-reach-4 t)
     (eval-reach-requires t)
     (eval-enum-told-8 t)
     (eval-eval-requires t)
@@ -58,14 +58,14 @@ eval-meets t =
     (eval-enum-known-two t)
     (eval-reach-at-requires-2 t)
     (eval-enum-known-first-slot-2 t)
-    (eval-mul-t109 t)
-    (eval-element-copy-out-t112 t)
-    (eval-mul-t113 t)
-    (eval-element-copy-out-t116 t)
-    (eval-mul-t117 t)
-    (eval-element-copy-out-t120 t)
-    (eval-mul-t121 t)
-    (eval-element-copy-out-t124 t)
+    (eval-mul-reach-5 t)
+    (eval-element-copy-out-reach-5 t)
+    (eval-mul-reach-6 t)
+    (eval-element-copy-out-reach-6 t)
+    (eval-mul-reach-7 t)
+    (eval-element-copy-out-reach-7 t)
+    (eval-mul-reach-8 t)
+    (eval-element-copy-out-reach-8 t)
     (eval-reach-requires-2 t)
     (eval-enum-told-9 t)
     (eval-eval-requires-2 t)

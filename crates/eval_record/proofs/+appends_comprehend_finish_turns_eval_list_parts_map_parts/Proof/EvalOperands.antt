@@ -28,35 +28,35 @@ eval-reach-at-requires t c κs =
 pub eval-enum-known-first-slot : (t : ℕ) → eval-lts.Need-enum-known-first-slot (eval-claims t) (eval-at t) eval.Post
 eval-enum-known-first-slot t c = search rules
 
-pub eval-mul-t75 : (t : ℕ) → eval-lts.Need-overflow-mul-t75 (eval-claims t) (eval-at t) eval.Post
-eval-mul-t75 t c = omega (arith, (slots-below c.before.before.before.before.before.reach-at.ensures c.before.before.before.first_slot.given.1).0)
+pub eval-mul-reach : (t : ℕ) → eval-lts.Need-overflow-mul-reach (eval-claims t) (eval-at t) eval.Post
+eval-mul-reach t c = omega (arith, (slots-below c.before.before.before.before.before.reach-at.ensures c.before.before.before.first_slot.given.1).0)
 
-pub eval-element-copy-out-t78 : (t : ℕ) → eval-lts.Need-element-copy-out-t78 (eval-claims t) (eval-at t) eval.Post
-eval-element-copy-out-t78 t c = (slots-below c.before.before.before.before.before.reach-at.ensures c.before.before.before.first_slot.given.1).0
+pub eval-element-copy-out-reach : (t : ℕ) → eval-lts.Need-element-copy-out-reach (eval-claims t) (eval-at t) eval.Post
+eval-element-copy-out-reach t c = (slots-below c.before.before.before.before.before.reach-at.ensures c.before.before.before.first_slot.given.1).0
 
-pub eval-mul-t79 : (t : ℕ) → eval-lts.Need-overflow-mul-t79 (eval-claims t) (eval-at t) eval.Post
-eval-mul-t79 t c = omega (arith, (slots-below c.before.before.before.before.before.before.reach-at.ensures c.before.before.before.before.first_slot.given.1).1)
+pub eval-mul-reach-2 : (t : ℕ) → eval-lts.Need-overflow-mul-reach-2 (eval-claims t) (eval-at t) eval.Post
+eval-mul-reach-2 t c = omega (arith, (slots-below c.before.before.before.before.before.before.reach-at.ensures c.before.before.before.before.first_slot.given.1).1)
 
-pub eval-element-copy-out-t82 : (t : ℕ) → eval-lts.Need-element-copy-out-t82 (eval-claims t) (eval-at t) eval.Post
-eval-element-copy-out-t82 t c = (slots-below c.before.before.before.before.before.before.reach-at.ensures c.before.before.before.before.first_slot.given.1).1
+pub eval-element-copy-out-reach-2 : (t : ℕ) → eval-lts.Need-element-copy-out-reach-2 (eval-claims t) (eval-at t) eval.Post
+eval-element-copy-out-reach-2 t c = (slots-below c.before.before.before.before.before.before.reach-at.ensures c.before.before.before.before.first_slot.given.1).1
 
-pub eval-mul-t83 : (t : ℕ) → eval-lts.Need-overflow-mul-t83 (eval-claims t) (eval-at t) eval.Post
-eval-mul-t83 t c =
+pub eval-mul-reach-3 : (t : ℕ) → eval-lts.Need-overflow-mul-reach-3 (eval-claims t) (eval-at t) eval.Post
+eval-mul-reach-3 t c =
     let reach-at = c.before.before.before.before.before.before.before.reach-at in
     omega (arith, (slots-below reach-at.ensures c.before.before.before.before.before.first_slot.given.1).2)
 
-pub eval-element-copy-out-t86 : (t : ℕ) → eval-lts.Need-element-copy-out-t86 (eval-claims t) (eval-at t) eval.Post
-eval-element-copy-out-t86 t c =
+pub eval-element-copy-out-reach-3 : (t : ℕ) → eval-lts.Need-element-copy-out-reach-3 (eval-claims t) (eval-at t) eval.Post
+eval-element-copy-out-reach-3 t c =
     let reach-at = c.before.before.before.before.before.before.before.reach-at in
     (slots-below reach-at.ensures c.before.before.before.before.before.first_slot.given.1).2
 
-pub eval-mul-t87 : (t : ℕ) → eval-lts.Need-overflow-mul-t87 (eval-claims t) (eval-at t) eval.Post
-eval-mul-t87 t c =
+pub eval-mul-reach-4 : (t : ℕ) → eval-lts.Need-overflow-mul-reach-4 (eval-claims t) (eval-at t) eval.Post
+eval-mul-reach-4 t c =
     let reach-at = c.before.before.before.before.before.before.before.before.reach-at in
     omega (arith, (slots-below reach-at.ensures c.before.before.before.before.before.before.first_slot.given.1).3)
 
-pub eval-element-copy-out-t90 : (t : ℕ) → eval-lts.Need-element-copy-out-t90 (eval-claims t) (eval-at t) eval.Post
-eval-element-copy-out-t90 t c =
+pub eval-element-copy-out-reach-4 : (t : ℕ) → eval-lts.Need-element-copy-out-reach-4 (eval-claims t) (eval-at t) eval.Post
+eval-element-copy-out-reach-4 t c =
     let reach-at = c.before.before.before.before.before.before.before.before.reach-at in
     (slots-below reach-at.ensures c.before.before.before.before.before.before.first_slot.given.1).3
 
@@ -117,35 +117,35 @@ eval-reach-at-requires-2 t c κs =
 pub eval-enum-known-first-slot-2 : (t : ℕ) → eval-lts.Need-enum-known-first-slot-2 (eval-claims t) (eval-at t) eval.Post
 eval-enum-known-first-slot-2 t c = search rules
 
-pub eval-mul-t109 : (t : ℕ) → eval-lts.Need-overflow-mul-t109 (eval-claims t) (eval-at t) eval.Post
-eval-mul-t109 t c = omega (arith, (slots-below c.before.before.before.before.before.reach-at2.ensures c.before.before.before.first-slot2.given.1).0)
+pub eval-mul-reach-5 : (t : ℕ) → eval-lts.Need-overflow-mul-reach-5 (eval-claims t) (eval-at t) eval.Post
+eval-mul-reach-5 t c = omega (arith, (slots-below c.before.before.before.before.before.reach-at2.ensures c.before.before.before.first-slot2.given.1).0)
 
-pub eval-element-copy-out-t112 : (t : ℕ) → eval-lts.Need-element-copy-out-t112 (eval-claims t) (eval-at t) eval.Post
-eval-element-copy-out-t112 t c = (slots-below c.before.before.before.before.before.reach-at2.ensures c.before.before.before.first-slot2.given.1).0
+pub eval-element-copy-out-reach-5 : (t : ℕ) → eval-lts.Need-element-copy-out-reach-5 (eval-claims t) (eval-at t) eval.Post
+eval-element-copy-out-reach-5 t c = (slots-below c.before.before.before.before.before.reach-at2.ensures c.before.before.before.first-slot2.given.1).0
 
-pub eval-mul-t113 : (t : ℕ) → eval-lts.Need-overflow-mul-t113 (eval-claims t) (eval-at t) eval.Post
-eval-mul-t113 t c = omega (arith, (slots-below c.before.before.before.before.before.before.reach-at2.ensures c.before.before.before.before.first-slot2.given.1).1)
+pub eval-mul-reach-6 : (t : ℕ) → eval-lts.Need-overflow-mul-reach-6 (eval-claims t) (eval-at t) eval.Post
+eval-mul-reach-6 t c = omega (arith, (slots-below c.before.before.before.before.before.before.reach-at2.ensures c.before.before.before.before.first-slot2.given.1).1)
 
-pub eval-element-copy-out-t116 : (t : ℕ) → eval-lts.Need-element-copy-out-t116 (eval-claims t) (eval-at t) eval.Post
-eval-element-copy-out-t116 t c = (slots-below c.before.before.before.before.before.before.reach-at2.ensures c.before.before.before.before.first-slot2.given.1).1
+pub eval-element-copy-out-reach-6 : (t : ℕ) → eval-lts.Need-element-copy-out-reach-6 (eval-claims t) (eval-at t) eval.Post
+eval-element-copy-out-reach-6 t c = (slots-below c.before.before.before.before.before.before.reach-at2.ensures c.before.before.before.before.first-slot2.given.1).1
 
-pub eval-mul-t117 : (t : ℕ) → eval-lts.Need-overflow-mul-t117 (eval-claims t) (eval-at t) eval.Post
-eval-mul-t117 t c =
+pub eval-mul-reach-7 : (t : ℕ) → eval-lts.Need-overflow-mul-reach-7 (eval-claims t) (eval-at t) eval.Post
+eval-mul-reach-7 t c =
     let reach-at2 = c.before.before.before.before.before.before.before.reach-at2 in
     omega (arith, (slots-below reach-at2.ensures c.before.before.before.before.before.first-slot2.given.1).2)
 
-pub eval-element-copy-out-t120 : (t : ℕ) → eval-lts.Need-element-copy-out-t120 (eval-claims t) (eval-at t) eval.Post
-eval-element-copy-out-t120 t c =
+pub eval-element-copy-out-reach-7 : (t : ℕ) → eval-lts.Need-element-copy-out-reach-7 (eval-claims t) (eval-at t) eval.Post
+eval-element-copy-out-reach-7 t c =
     let reach-at2 = c.before.before.before.before.before.before.before.reach-at2 in
     (slots-below reach-at2.ensures c.before.before.before.before.before.first-slot2.given.1).2
 
-pub eval-mul-t121 : (t : ℕ) → eval-lts.Need-overflow-mul-t121 (eval-claims t) (eval-at t) eval.Post
-eval-mul-t121 t c =
+pub eval-mul-reach-8 : (t : ℕ) → eval-lts.Need-overflow-mul-reach-8 (eval-claims t) (eval-at t) eval.Post
+eval-mul-reach-8 t c =
     let reach-at2 = c.before.before.before.before.before.before.before.before.reach-at2 in
     omega (arith, (slots-below reach-at2.ensures c.before.before.before.before.before.before.first-slot2.given.1).3)
 
-pub eval-element-copy-out-t124 : (t : ℕ) → eval-lts.Need-element-copy-out-t124 (eval-claims t) (eval-at t) eval.Post
-eval-element-copy-out-t124 t c =
+pub eval-element-copy-out-reach-8 : (t : ℕ) → eval-lts.Need-element-copy-out-reach-8 (eval-claims t) (eval-at t) eval.Post
+eval-element-copy-out-reach-8 t c =
     let reach-at2 = c.before.before.before.before.before.before.before.before.reach-at2 in
     (slots-below reach-at2.ensures c.before.before.before.before.before.before.first-slot2.given.1).3
 

@@ -63,7 +63,7 @@ use Rattle.eval_comprehension.proofs.append_result.add_run.Reads as add-run-read
 use Rattle.eval_comprehension.proofs.append_result.collected_list.Reads as collected-list-reads
 
 abbrev pub μ-appends : Measures 6 appends-kinds.ps ℕ
-μ-appends κs a = 4 * word_at a.0.now (a.1.1.1.1.1.1.1.1.1.0.at + 1) + 1
+μ-appends κs a = 4 * word_at a.0.now (a.1.1.1.1.1.1.1.0 + 1) + 1
 
 abbrev pub μ-comprehend : Measures 6 comprehend-kinds.ps ℕ
 μ-comprehend κs a = 4 * word_at a.0.now (a.1.1.1.1.1.1.1.0 + 1) + 2
@@ -81,7 +81,7 @@ abbrev pub μ-map-parts : Measures 6 map-parts-kinds.ps ℕ
 μ-map-parts κs a = 4 * word_at a.0.now (a.1.1.1.1.1.1.1.0 + 1) + 2
 
 abbrev pub μ-turns : Measures 6 turns-kinds.ps ℕ
-μ-turns κs a = 4 * (word_at a.0.now (a.1.1.1.1.1.1.1.1.1.0.condition + 1) + word_at a.0.now (a.1.1.1.1.1.1.1.1.1.0.step + 1) + word_at a.0.now (a.1.1.1.1.1.1.1.1.1.0.result + 1)) + 4
+μ-turns κs a = 4 * (word_at a.0.now (a.1.1.1.1.1.1.1.1.1.1.0.condition + 1) + word_at a.0.now (a.1.1.1.1.1.1.1.1.1.1.0.step + 1) + word_at a.0.now (a.1.1.1.1.1.1.1.1.1.1.0.result + 1)) + 4
 
 abbrev pub appends-at : ℕ → In 6 appends-kinds.ps
 appends-at t = and 6 appends-kinds.ps (is 6 appends-kinds.ps μ-appends t) appends.Pre

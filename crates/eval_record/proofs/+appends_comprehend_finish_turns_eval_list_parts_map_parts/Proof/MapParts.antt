@@ -2,7 +2,6 @@
 use borrow.Author.Rules.{rules}
 use mathlib.Core.Path.{sym, ◌∙◌, ◌≡◌, ap}
 use native.Mathlib.Omega.{arith}
-use Rattle.table_check.specs.Records.{mark_byte}
 use Rattle.rooms.specs.Rooms.{rooms}
 use Prim.Native.Nat.{ℕ, ◌<◌}
 use Rattle.table_layout.specs.Layout.{after}
@@ -240,7 +239,7 @@ map-parts-returns-3 t c =
     let bindings = args.binding-cells.now in
     let texts = args.binding-text.now in
     let f = entry_next table literal args.at loop.left loop.place loop-test.true loop.invariant.row in
-    entry-ends table literal args.limit args.at args.first args.t9 loop.left loop.place loop-test.true f.sound loop.ready loop.spent (rooms literal bindings texts loop.cells loop.text) (key-came t c.before.before.before.before.before.before.before.before.before.before.before.before.before.before.before.before.before.before.before.before.before).is key-of.ensures key.given.1 (value-came t c.before.before.before.before.before.before.before.before.before.before.before.before).is part.given.1 (is-marked.ensures ∙ ap (λ (n : ℕ). eqb (get_or table n 0) mark_byte) end-at.ensures) c.before.before.before.before.before.add-entry.ensures c.before.outcome2.given.1 ∙ loop.invariant.same
+    entry-ends table literal args.limit args.at args.first args.t9 loop.left loop.place loop-test.true f.sound loop.ready loop.spent (rooms literal bindings texts loop.cells loop.text) (key-came t c.before.before.before.before.before.before.before.before.before.before.before.before.before.before.before.before.before.before.before.before.before).is key-of.ensures key.given.1 (value-came t c.before.before.before.before.before.before.before.before.before.before.before.before).is part.given.1 (is-marked.ensures ∙ ap (λ (n : ℕ). eqb (get_or table n 0) 14) end-at.ensures) c.before.before.before.before.before.add-entry.ensures c.before.outcome2.given.1 ∙ loop.invariant.same
 
 pub map-parts-enum-known-grown : (t : ℕ) → map-parts-lts.Need-enum-known-grown (map-parts-claims t) (map-parts-at t) map-parts.Post map-parts-Inv-loop map-parts-μ-loop
 map-parts-enum-known-grown t c = search rules
@@ -270,7 +269,7 @@ map-parts-loop-again t c =
     let bindings = args.binding-cells.now in
     let texts = args.binding-text.now in
     let f = entry_next table literal args.at loop.left loop.place loop-test.true loop.invariant.row in
-    rw (end-at2.ensures, end-at.ensures) (record { row = f.rest; kept = add-entry.auto.1.1.1.0 ∙ (valued.kept ∙ (keyed.kept ∙ loop.invariant.kept)); keptx = valued.keptx ∙ (keyed.keptx ∙ loop.invariant.keptx); room = let n = entered-count (part_in (rooms literal bindings texts if2.cells if2.text) is-marked.result part.given.0.0) args.limit args.at args.first loop.ready key.given.0.0 part.given.0.1.0 (rooms literal bindings texts if2.cells if2.text) add-entry.ensures c.before.grown.given.1 in omega (arith, n, loop.invariant.room, loop-test.true); same = entry-again table literal args.limit args.at args.first args.t9 loop.left loop.place loop-test.true f.sound loop.ready loop.spent (rooms literal bindings texts loop.cells loop.text) keyed.is key-of.ensures key.given.1 valued.is part.given.1 (is-marked.ensures ∙ ap (λ (n : ℕ). eqb (get_or table n 0) mark_byte) end-at.ensures) add-entry.ensures c.before.grown.given.1 ∙ loop.invariant.same })
+    rw (end-at2.ensures, end-at.ensures) (record { row = f.rest; kept = add-entry.auto.1.1.1.0 ∙ (valued.kept ∙ (keyed.kept ∙ loop.invariant.kept)); keptx = valued.keptx ∙ (keyed.keptx ∙ loop.invariant.keptx); room = let n = entered-count (part_in (rooms literal bindings texts if2.cells if2.text) is-marked.result part.given.0.0) args.limit args.at args.first loop.ready key.given.0.0 part.given.0.1.0 (rooms literal bindings texts if2.cells if2.text) add-entry.ensures c.before.grown.given.1 in omega (arith, n, loop.invariant.room, loop-test.true); same = entry-again table literal args.limit args.at args.first args.t9 loop.left loop.place loop-test.true f.sound loop.ready loop.spent (rooms literal bindings texts loop.cells loop.text) keyed.is key-of.ensures key.given.1 valued.is part.given.1 (is-marked.ensures ∙ ap (λ (n : ℕ). eqb (get_or table n 0) 14) end-at.ensures) add-entry.ensures c.before.grown.given.1 ∙ loop.invariant.same })
 
 pub map-parts-whole-map-requires : (t : ℕ) → map-parts-lts.Need-whole-map-requires (map-parts-claims t) (map-parts-at t) map-parts.Post map-parts-Inv-loop map-parts-μ-loop
 map-parts-whole-map-requires t c κs = omega (arith, c.before.loop.invariant.room)

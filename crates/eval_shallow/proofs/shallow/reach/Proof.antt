@@ -26,7 +26,7 @@ returns c =
     let taken = c.before.if1.true in
     let lent = rooms literal args.binding-cells.now args.binding-text.now args.cells.now args.text.now in
     λ s h.
-    let slot = leaf-slot (expr_of table literal at) seen taken s args.slots h in
+    let slot = leaf-slot (expr_of table literal at) seen taken s args.first.value args.second.value args.third.value args.fourth.value h in
     leaf-does table literal args.limit at sound s args.used (leaf-here table at c.before.before.is_is_leaf.ensures taken) slot c.leaf.ensures lent
 
 near-requires : tie.Need-near-requires
@@ -53,7 +53,7 @@ returns-2 c =
     let literal = args.literal.now in
     let at = args.at in
     let seen = leaf-seen table literal at sound c.before.before.before.before.before.before.before.before.is_is_leaf.ensures in
-    λ s h. c.before.before.before.before.near.ensures s (near-shows (expr_of table literal at) seen c.before.before.before.before.before.before.before.if1.false s args.slots h)
+    λ s h. c.before.before.before.before.near.ensures s (near-shows (expr_of table literal at) seen c.before.before.before.before.before.before.before.if1.false s args.first.value args.second.value args.third.value args.fourth.value h)
 
 pub reach-spec : {M : Type 1} → statement M
 reach-spec =

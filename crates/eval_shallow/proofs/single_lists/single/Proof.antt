@@ -81,7 +81,7 @@ returns-2 c =
     let pre = c.before.before.before.before.before.before.before.before.before.before.before.before.before.before.before.before.before.before.before.before.before.before.before.before.before.requires in
     let one = single-here table literal at pre.0 pre.1 in
     λ s h.
-    let element = element-gives table literal at one c.before.before.before.before.before.before.first-operand.ensures s args.slots h limit _ _ c.before.before.before.before.before.reach.ensures in
+    let element = element-gives table literal at one c.before.before.before.before.before.before.first-operand.ensures s args.first.value args.second.value args.third.value args.fourth.value h limit _ _ c.before.before.before.before.before.reach.ensures in
     after-step table literal limit at s args.used lent c.before.before.before.before.before.before.before.before.before.before.before.before.before.before.before.before.before.if1.false c.before.before.before.before.before.before.before.before.before.before.before.before.before.before.before.before.stepped.ensures (single-stops table literal limit at pre.0 one s c.before.before.before.before.before.before.before.before.before.before.before.before.before.before.before.before.stepped.result lent c.before.before.before.before.before.before.before.before.before.before.before.before.before.before.begin.ensures c.before.before.before.before.before.before.before.before.before.before.start.given.1 element c.match2.keys2)
 
 add-element-requires : tie.Need-add-element-requires
@@ -135,7 +135,7 @@ returns-4 c =
     let pre = c.before.before.before.before.before.before.before.before.before.before.before.before.before.before.before.before.before.before.before.before.before.before.before.before.before.before.before.before.before.before.before.before.requires in
     let one = single-here table literal at pre.0 pre.1 in
     λ s h.
-    let element = element-gives table literal at one c.before.before.before.before.before.before.before.before.before.before.before.before.before.first-operand.ensures s args.slots h limit _ _ c.before.before.before.before.before.before.before.before.before.before.before.before.reach.ensures in
+    let element = element-gives table literal at one c.before.before.before.before.before.before.before.before.before.before.before.before.before.first-operand.ensures s args.first.value args.second.value args.third.value args.fourth.value h limit _ _ c.before.before.before.before.before.before.before.before.before.before.before.before.reach.ensures in
     after-step table literal limit at s args.used lent c.before.before.before.before.before.before.before.before.before.before.before.before.before.before.before.before.before.before.before.before.before.before.before.before.if1.false c.before.before.before.before.before.before.before.before.before.before.before.before.before.before.before.before.before.before.before.before.before.before.before.stepped.ensures (single-whole table literal limit at pre.0 one s c.before.before.before.before.before.before.before.before.before.before.before.before.before.before.before.before.before.before.before.before.before.before.before.stepped.result lent c.before.before.before.before.before.before.before.before.before.before.before.before.before.before.before.before.before.before.before.before.before.begin.ensures c.before.before.before.before.before.before.before.before.before.before.before.before.before.before.before.before.before.start.given.1 element c.before.before.before.before.before.before.element.given.1 (c.before.before.before.add-element.ensures literal texts c.before.before.before.before.before.before.before.before.before.before.before.before.reach.new.1.1.1.1.1.0) c.whole-list.ensures)
 
 pub single-spec : {M : Type 1} → statement M

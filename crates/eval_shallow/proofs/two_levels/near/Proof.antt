@@ -94,7 +94,7 @@ returns-2 c =
     let next = c.before.before.before.before.before.after_first.ensures in
     let operands = fixed-at table literal at pre.0 c.before.before.before.before.before.before.before.before.before.before.before.before.before.before.before.before.before.fixed.given.0.0 shape in
     λ s h.
-    let first = first-near table literal limit at pre.0 shape s args.slots h c.before.before.before.before.before.before.before.before.before.before.before.before.before.before.before.Begun-first.ensures stepped.result lent c.before.before.before.before.before.before.before.before.before.before.before.before.small.ensures in
+    let first = first-near table literal limit at pre.0 shape s args.first.value args.second.value args.third.value args.fourth.value h c.before.before.before.before.before.before.before.before.before.before.before.before.before.before.before.Begun-first.ensures stepped.result lent c.before.before.before.before.before.before.before.before.before.before.before.before.small.ensures in
     after-step table literal limit at s args.used lent c.before.before.before.before.before.before.before.before.before.before.before.before.before.before.before.before.before.before.before.before.before.if1.false stepped.ensures (stops_first table literal limit at s stepped.result lent operands first next c.before.outcome.given.1)
 
 same-length-3 : tie.Need-same-length-3
@@ -120,8 +120,8 @@ returns-3 c =
     let operands = fixed-at table literal at pre.0 c.before.before.before.before.before.before.before.before.before.before.before.before.before.before.before.before.before.before.before.before.before.before.before.before.before.before.before.before.before.before.before.fixed.given.0.0 shape in
     let two = c.before.before.before.before.before.before.before.before.before.before.before.before.before.before.before.two.given.1 in
     λ s h.
-    let first = first-near table literal limit at pre.0 shape s args.slots h c.before.before.before.before.before.before.before.before.before.before.before.before.before.before.before.before.before.before.before.before.before.before.before.before.before.before.before.before.before.Begun-first.ensures stepped.result lent c.before.before.before.before.before.before.before.before.before.before.before.before.before.before.before.before.before.before.before.before.before.before.before.before.before.before.small.ensures in
-    let second = next-near table literal limit at pre.0 shape s args.slots h small.result between next two _ c.before.before.before.before.before.before.before.before.before.before.before.small2.ensures in
+    let first = first-near table literal limit at pre.0 shape s args.first.value args.second.value args.third.value args.fourth.value h c.before.before.before.before.before.before.before.before.before.before.before.before.before.before.before.before.before.before.before.before.before.before.before.before.before.before.before.before.before.Begun-first.ensures stepped.result lent c.before.before.before.before.before.before.before.before.before.before.before.before.before.before.before.before.before.before.before.before.before.before.before.before.before.before.small.ensures in
+    let second = next-near table literal limit at pre.0 shape s args.first.value args.second.value args.third.value args.fourth.value h small.result between next two _ c.before.before.before.before.before.before.before.before.before.before.before.small2.ensures in
     after-step table literal limit at s args.used lent c.before.before.before.before.before.before.before.before.before.before.before.before.before.before.before.before.before.before.before.before.before.before.before.before.before.before.before.before.before.before.before.before.before.before.before.if1.false stepped.ensures (joins-both table literal limit at s stepped.result lent operands first next two second c.before.before.before.before.after_both.ensures)
 
 returns-4 : tie.Need-returns-4

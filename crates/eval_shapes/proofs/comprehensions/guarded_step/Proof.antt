@@ -3,7 +3,6 @@ use Prim.Native.Nat.{◌+◌}
 use mathlib.Core.Path.{sym, ◌∙◌}
 use borrow.Author.Tests.{not-true, not-false}
 use borrow.Author.Rules.{rules}
-use Rattle.table_layout.specs.Layout.{plain_head}
 use Rattle.eval_shapes.proofs.KindLaws.{sound-stands}
 use Rattle.eval_shapes.proofs.SeenOfRecords.{conditional-at, then-sound, guard-sound, guard-missing, guard-unlisted, guard-found}
 use Rattle.eval_shapes.proofs.comprehensions.guarded_step.Statement.{statement}
@@ -13,7 +12,7 @@ first-operand-requires : tie.Need-first-operand-requires
 first-operand-requires c κs = let h = sound-stands c.before.before.args.table.now c.before.before.args.literal.now c.before.before.args.step c.before.before.requires.0 in (h.here, h.known)
 
 end-at-requires : tie.Need-end-at-requires
-end-at-requires c κs = let o = conditional-at c.before.before.before.args.table.now c.before.before.before.args.literal.now c.before.before.before.args.step c.before.before.before.requires.0 c.before.before.before.requires.1 in rw (c.first-operand.ensures ∙ o.first) (sound-stands c.before.before.before.args.table.now c.before.before.before.args.literal.now (c.before.before.before.args.step + plain_head) o.condition).start
+end-at-requires c κs = let o = conditional-at c.before.before.before.args.table.now c.before.before.before.args.literal.now c.before.before.before.args.step c.before.before.before.requires.0 c.before.before.before.requires.1 in rw (c.first-operand.ensures ∙ o.first) (sound-stands c.before.before.before.args.table.now c.before.before.before.args.literal.now (c.before.before.before.args.step + 3) o.condition).start
 
 end-at-requires-2 : tie.Need-end-at-requires-2
 end-at-requires-2 c κs = (sound-stands c.before.before.before.before.args.table.now c.before.before.before.before.args.literal.now c.end-at.result (then-sound c.before.before.before.before.args.table.now c.before.before.before.before.args.literal.now c.before.before.before.before.args.step c.before.before.before.before.requires.0 c.before.before.before.before.requires.1 c.before.before.before.before.args.accumulator c.before.first-operand.result c.before.first-operand.ensures c.end-at.result c.end-at.ensures)).start

@@ -2,7 +2,7 @@
 use Prim.Native.Nat.{ℕ, ◌+◌}
 use mathlib.Core.Path.{sym, ◌∙◌, ap}
 use borrow.Author.Tests.{not-true, not-false}
-use Rattle.table_layout.specs.Layout.{after, number_head}
+use Rattle.table_layout.specs.Layout.{after}
 use Rattle.eval_shapes.proofs.KindLaws.{sound-stands}
 use Rattle.eval_shapes.proofs.SeenOfRecords.{binary-at, no-sum-here, other-sum, sum-to-another, items-found, items-missing}
 use Rattle.eval_shapes.proofs.comprehensions.items_of.Statement.{statement}
@@ -30,10 +30,10 @@ returns-3 : tie.Need-returns-3
 returns-3 c = let o = binary-at c.before.before.before.before.before.before.before.before.before.args.table.now c.before.before.before.before.before.before.before.before.before.args.literal.now c.before.before.before.before.before.before.before.before.before.args.at c.before.before.before.before.before.before.before.before.before.requires (sym c.before.before.before.before.before.before.kind_at.ensures ∙ c.before.before.before.before.before.if1.false) in (λ limit. sum-to-another c.before.before.before.before.before.before.before.before.before.args.table.now c.before.before.before.before.before.before.before.before.before.args.literal.now c.before.before.before.before.before.before.before.before.before.args.at c.before.before.before.before.before.before.before.before.before.requires c.before.before.before.before.before.before.before.before.before.args.accumulator limit (sym c.before.before.before.before.before.before.kind_at.ensures ∙ c.before.before.before.before.before.if1.false) (sym c.before.before.before.before.number_at.ensures ∙ c.before.before.before.if2.false) (sym (not-true c.before.is_name.result c.if3.true) ∙ (rw (c.before.before.first-operand.ensures ∙ o.first) at c.before.is_name.ensures)), tt)
 
 end-at-requires : tie.Need-end-at-requires
-end-at-requires c κs = let o = binary-at c.before.before.before.before.before.before.before.before.before.args.table.now c.before.before.before.before.before.before.before.before.before.args.literal.now c.before.before.before.before.before.before.before.before.before.args.at c.before.before.before.before.before.before.before.before.before.requires (sym c.before.before.before.before.before.before.kind_at.ensures ∙ c.before.before.before.before.before.if1.false) in rw (c.before.before.first-operand.ensures ∙ o.first) (sound-stands c.before.before.before.before.before.before.before.before.before.args.table.now c.before.before.before.before.before.before.before.before.before.args.literal.now (c.before.before.before.before.before.before.before.before.before.args.at + number_head) o.one).start
+end-at-requires c κs = let o = binary-at c.before.before.before.before.before.before.before.before.before.args.table.now c.before.before.before.before.before.before.before.before.before.args.literal.now c.before.before.before.before.before.before.before.before.before.args.at c.before.before.before.before.before.before.before.before.before.requires (sym c.before.before.before.before.before.before.kind_at.ensures ∙ c.before.before.before.before.before.if1.false) in rw (c.before.before.first-operand.ensures ∙ o.first) (sound-stands c.before.before.before.before.before.before.before.before.before.args.table.now c.before.before.before.before.before.before.before.before.before.args.literal.now (c.before.before.before.before.before.before.before.before.before.args.at + 4) o.one).start
 
 kind-at-requires-2 : tie.Need-kind-at-requires-2
-kind-at-requires-2 c κs = let o = binary-at c.before.before.before.before.before.before.before.before.before.before.args.table.now c.before.before.before.before.before.before.before.before.before.before.args.literal.now c.before.before.before.before.before.before.before.before.before.before.args.at c.before.before.before.before.before.before.before.before.before.before.requires (sym c.before.before.before.before.before.before.before.kind_at.ensures ∙ c.before.before.before.before.before.before.if1.false) in rw (c.end-at.ensures ∙ ap (λ (q : ℕ). after c.before.before.before.before.before.before.before.before.before.before.args.table.now q) (c.before.before.before.first-operand.ensures ∙ o.first)) (sound-stands c.before.before.before.before.before.before.before.before.before.before.args.table.now c.before.before.before.before.before.before.before.before.before.before.args.literal.now (after c.before.before.before.before.before.before.before.before.before.before.args.table.now (c.before.before.before.before.before.before.before.before.before.before.args.at + number_head)) o.two).here
+kind-at-requires-2 c κs = let o = binary-at c.before.before.before.before.before.before.before.before.before.before.args.table.now c.before.before.before.before.before.before.before.before.before.before.args.literal.now c.before.before.before.before.before.before.before.before.before.before.args.at c.before.before.before.before.before.before.before.before.before.before.requires (sym c.before.before.before.before.before.before.before.kind_at.ensures ∙ c.before.before.before.before.before.before.if1.false) in rw (c.end-at.ensures ∙ ap (λ (q : ℕ). after c.before.before.before.before.before.before.before.before.before.before.args.table.now q) (c.before.before.before.first-operand.ensures ∙ o.first)) (sound-stands c.before.before.before.before.before.before.before.before.before.before.args.table.now c.before.before.before.before.before.before.before.before.before.before.args.literal.now (after c.before.before.before.before.before.before.before.before.before.before.args.table.now (c.before.before.before.before.before.before.before.before.before.before.args.at + 4)) o.two).here
 
 returns-4 : tie.Need-returns-4
 returns-4 c = items-found c.before.before.before.before.before.before.before.before.before.before.before.before.args.table.now c.before.before.before.before.before.before.before.before.before.before.before.before.args.literal.now c.before.before.before.before.before.before.before.before.before.before.before.before.args.at c.before.before.before.before.before.before.before.before.before.before.before.before.requires (sym c.before.before.before.before.before.before.before.before.before.kind_at.ensures ∙ c.before.before.before.before.before.before.before.before.if1.false) c.before.before.before.before.before.before.before.before.before.before.before.before.args.accumulator (sym c.before.before.before.before.before.before.before.number_at.ensures ∙ c.before.before.before.before.before.before.if2.false) c.before.before.before.before.before.first-operand.result c.before.before.before.before.before.first-operand.ensures c.before.before.end-at.result c.before.before.end-at.ensures (sym (not-false c.before.before.before.before.is_name.result c.before.before.before.if3.false) ∙ c.before.before.before.before.is_name.ensures) (sym c.before.kind-at2.ensures ∙ c.if4.true)

@@ -3,7 +3,7 @@ use Prim.Native.Nat.{ℕ, ◌+◌}
 use mathlib.Core.Path.{◌∙◌, ap}
 use native.Mathlib.Omega.{arith}
 use borrow.Author.Rules.{rules}
-use Rattle.table_layout.specs.Layout.{after, comprehension_head}
+use Rattle.table_layout.specs.Layout.{after}
 use Rattle.eval_shapes.specs.Comprehensions.{places_at}
 use Rattle.eval_shapes.proofs.KindLaws.{sound-stands}
 use Rattle.eval_shapes.proofs.ComprehensionLaws.{comprehension-at, places-are}
@@ -11,7 +11,7 @@ use Rattle.eval_shapes.proofs.comprehensions.places_at.Statement.{statement}
 use Rattle.eval_shapes.proofs.comprehensions.places_at.Tie as tie
 
 end-at-requires : tie.Need-end-at-requires
-end-at-requires c κs = let o = comprehension-at c.before.before.args.table.now c.before.before.args.literal.now c.before.before.args.at c.before.before.requires.0 c.before.before.requires.1 in rw c.before.before.requires.2 (sound-stands c.before.before.args.table.now c.before.before.args.literal.now (after c.before.before.args.table.now (c.before.before.args.at + comprehension_head)) o.init).start
+end-at-requires c κs = let o = comprehension-at c.before.before.args.table.now c.before.before.args.literal.now c.before.before.args.at c.before.before.requires.0 c.before.before.requires.1 in rw c.before.before.requires.2 (sound-stands c.before.before.args.table.now c.before.before.args.literal.now (after c.before.before.args.table.now (c.before.before.args.at + 5)) o.init).start
 
 end-at-requires-2 : tie.Need-end-at-requires-2
 end-at-requires-2 c κs = let o = comprehension-at c.before.before.before.args.table.now c.before.before.before.args.literal.now c.before.before.before.args.at c.before.before.before.requires.0 c.before.before.before.requires.1 in rw (c.end-at.ensures ∙ ap (λ (q : ℕ). after c.before.before.before.args.table.now q) c.before.before.before.requires.2) (sound-stands c.before.before.before.args.table.now c.before.before.before.args.literal.now (places_at c.before.before.before.args.table.now c.before.before.before.args.at).condition o.condition).start

@@ -2,7 +2,6 @@
 use Prim.Native.Nat.{◌+◌}
 use native.Mathlib.Omega.{arith}
 use borrow.Author.Rules.{rules}
-use Rattle.table_layout.specs.Layout.{fields_at, span_size_at}
 use Rattle.eval_shapes.proofs.LeafLaws.{word_fits}
 use Rattle.eval_shapes.proofs.leaves.string_at.Statement.{statement}
 use Rattle.eval_shapes.proofs.leaves.string_at.Tie as tie
@@ -11,10 +10,10 @@ span-at-requires : tie.Need-span-at-requires
 span-at-requires c κs = search rules
 
 cast-t5 : tie.Need-overflow-cast-t5
-cast-t5 c = record { fits = word_fits c.before.before.before.args.table.now (λ i. omega (arith, c.before.before.shared-slice-known.given i)) (c.before.before.before.args.at + fields_at) c.before.span-at.ensures.0 }
+cast-t5 c = record { fits = word_fits c.before.before.before.args.table.now (λ i. omega (arith, c.before.before.shared-slice-known.given i)) (c.before.before.before.args.at + 3) c.before.span-at.ensures.0 }
 
 cast-t6 : tie.Need-overflow-cast-t6
-cast-t6 c = record { fits = word_fits c.before.before.before.before.args.table.now (λ i. omega (arith, c.before.before.before.shared-slice-known.given i)) (c.before.before.before.before.args.at + span_size_at) c.before.before.span-at.ensures.1 }
+cast-t6 c = record { fits = word_fits c.before.before.before.before.args.table.now (λ i. omega (arith, c.before.before.before.shared-slice-known.given i)) (c.before.before.before.before.args.at + 5) c.before.before.span-at.ensures.1 }
 
 returns : tie.Need-returns
 returns c = search rules

@@ -10,8 +10,8 @@ use borrow.Author.Rules.{rules}
 use Rattle.line_pieces.proofs.decimals.put_signed.Statement.{statement}
 use Rattle.line_pieces.proofs.decimals.put_signed.Tie as tie
 
-sized : (c : tie.After-magnitude) → c.magnitude.result ≡ nat_abs c.before.before.args.number
-sized c = rw (to_z-of_z w64 c.before.before.args.number c.before.before.ranges.number) at c.magnitude.ensures
+sized : (c : tie.After-size-of) → c.type_size.result ≡ nat_abs c.before.before.args.number
+sized c = rw (to_z-of_z w64 c.before.before.args.number c.before.before.ranges.number) at c.type_size.ensures
 
 below : (c : tie.Then1) → lt_z c.before.before.before.args.number (pos 0) ≡ true
 below c = rw (to_z-of_z w64 c.before.before.before.args.number c.before.before.before.ranges.number) at c.if1.true
@@ -19,8 +19,8 @@ below c = rw (to_z-of_z w64 c.before.before.before.args.number c.before.before.b
 above : (c : tie.Else1) → lt_z c.before.before.before.args.number (pos 0) ≡ false
 above c = rw (to_z-of_z w64 c.before.before.before.args.number c.before.before.before.ranges.number) at c.if1.false
 
-magnitude-requires : tie.Need-magnitude-requires
-magnitude-requires c κs = search rules
+size-of-requires : tie.Need-size-of-requires
+size-of-requires c κs = search rules
 
 put-requires : tie.Need-put-requires
 put-requires c κs = search rules
@@ -51,7 +51,7 @@ pub put-signed-spec : {M : Type 1} → statement M
 put-signed-spec =
     tie.close
     (tie.spec
-    magnitude-requires
+    size-of-requires
     put-requires
     put-number-requires
     same_length

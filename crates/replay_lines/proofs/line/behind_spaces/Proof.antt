@@ -1,26 +1,24 @@
--- `line::behind_spaces` meets its contract: spaces alone stand before the loop's place. Assumes nothing.
-use Prim.Native.Nat.{◌-◌}
-use native.Mathlib.Omega.{arith}
-use lib.ListN.{length}
-use Rattle.replay_lines.proofs.WordLaws.{Passed, pass-start, other-here, space-here, none_left}
+-- `line::behind_spaces` meets its contract. Assumes nothing.
 use borrow.Author.Rules.{rules}
+use Prim.Native.Nat.{◌-◌, ◌≤◌}
+use lib.ListN.{length}
 use Rattle.replay_lines.proofs.line.behind_spaces.Statement.{statement}
 use Rattle.replay_lines.proofs.line.behind_spaces.Tie as tie
 
 abbrev invariant-loop : tie.invariant-loop
-invariant-loop line from at₀ at = Passed line from at
+invariant-loop line from at₀ at = from ≤ at
 
 abbrev decreases-loop : tie.decreases-loop
 decreases-loop line from at₀ at = length line - at
 
 loop-holds : tie.Need-loop-init invariant-loop decreases-loop
-loop-holds c = pass-start _ _
+loop-holds c = search rules
 
 shared-slice-read-if1 : tie.Need-shared-slice-read-if1 invariant-loop decreases-loop
 shared-slice-read-if1 c = search rules
 
 returns : tie.Need-returns invariant-loop decreases-loop
-returns c = other-here c.before.before.before.loop.invariant (omega arith) (omega arith)
+returns c = search rules
 
 add_at : tie.Need-overflow-add-at invariant-loop decreases-loop
 add_at c = search rules
@@ -29,10 +27,10 @@ loop-less : tie.Need-loop-smaller invariant-loop decreases-loop
 loop-less c = search rules
 
 loop-again : tie.Need-loop-preserved invariant-loop decreases-loop
-loop-again c = space-here c.before.before.before.loop.invariant (omega arith) (omega arith)
+loop-again c = search rules
 
 returns-2 : tie.Need-returns-2 invariant-loop decreases-loop
-returns-2 c = none_left c.before.loop.invariant (omega arith)
+returns-2 c = search rules
 
 pub behind-spaces-spec : {M : Type 1} → statement M
 behind-spaces-spec =

@@ -3,8 +3,7 @@ use mathlib.Core.Path.{sym, ap, ◌∙◌}
 use mir.Syntax.{w64}
 use mir.ValLaws.{to_z-of_z}
 use borrow.Author.Rules.{rules, sfits_of}
-use Rattle.numbers.specs.Int.{word_of}
-use Rattle.rooms.specs.Cells.{payload_of}
+use Rattle.rooms.specs.Cells.{word_of, payload_of}
 use borrow.Author.Rules.{rules}
 use Rattle.rooms_cells.proofs.packing.payload_of.Statement.{statement}
 use Rattle.rooms_cells.proofs.packing.payload_of.Tie as tie

@@ -12,8 +12,8 @@ use Rattle.rooms_comparison.proofs.equality.+elements_entries_pair.Lts-pair as p
 use Rattle.rooms_comparison.proofs.equality.+elements_entries_pair.{statement}
 use Rattle.rooms_comparison.proofs.equality.+elements_entries_pair.Tie.{close}
 use Rattle.rooms_comparison.proofs.equality.+elements_entries_pair.Proof.Kit.{elements-claims, entries-claims, pair-claims, μ-elements, μ-entries, μ-pair, elements-at, entries_at, pair-at}
-use Rattle.rooms_comparison.proofs.equality.+elements_entries_pair.Proof.Elements.{elements-Inv-loop, elements-μ-loop, elements-cast-at, elements-cast-other, elements-cast-left, elements-loop-holds, elements-cell-at-requires, elements-cell-at-requires-2, elements-pair-requires, elements-enum-known-more, elements-enum-known-more-2, elements-returns, elements-enum-known-more-3, elements-returns-2, elements-add-at, elements-add-other, elements-sub-left, elements-loop-less, elements-loop-again, elements-returns-3}
-use Rattle.rooms_comparison.proofs.equality.+elements_entries_pair.Proof.Entries.{entries-Inv-loop, entries-μ-loop, entries-cast-at, entries-cast-left, entries-loop-holds, entries-cell-at-requires, entries-find-requires, entries-enum-known-cell, entries-add-cell-at, entries-cell-at-requires-2, entries-cell-at-requires-3, entries-pair-requires, entries-enum-known-more, entries-enum-known-more-2, entries-returns, entries-enum-known-more-3, entries-returns-2, entries-enum-known-looked, entries-returns-3, entries-enum-known-looked-2, entries-returns-4, entries-add-at, entries-sub-left, entries-loop-less, entries-loop-again, entries-returns-5}
+use Rattle.rooms_comparison.proofs.equality.+elements_entries_pair.Proof.Elements.{elements-Inv-loop, elements-μ-loop, elements-loop-holds, elements-cell-at-requires, elements-cell-at-requires-2, elements-pair-requires, elements-enum-known-more, elements-enum-known-more-2, elements-returns, elements-enum-known-more-3, elements-returns-2, elements-add-at, elements-add-other, elements-sub-left, elements-loop-less, elements-loop-again, elements-returns-3}
+use Rattle.rooms_comparison.proofs.equality.+elements_entries_pair.Proof.Entries.{entries-Inv-loop, entries-μ-loop, entries-loop-holds, entries-cell-at-requires, entries-find-requires, entries-enum-known-cell, entries-add-cell-at, entries-cell-at-requires-2, entries-cell-at-requires-3, entries-pair-requires, entries-enum-known-more, entries-enum-known-more-2, entries-returns, entries-enum-known-more-3, entries-returns-2, entries-enum-known-looked, entries-returns-3, entries-enum-known-looked-2, entries-returns-4, entries-add-at, entries-sub-left, entries-loop-less, entries-loop-again, entries-returns-5}
 use Rattle.rooms_comparison.proofs.equality.+elements_entries_pair.Proof.Pair.{pair-returns, pair-returns-2, pair-sub-within, pair-add-pairs, pair-parts-of-requires, pair-enum-known-space, pair-parts-of-requires-2, pair-enum-known-there, pair-returns-3, pair-elements-requires, pair-enum-told, pair-enum-told-2, pair-enum-told-3, pair-enum-known-space-2, pair-parts-of-requires-3, pair-enum-told-4, pair-enum-known-there-2, pair-returns-4, pair-entries-requires, pair-enum-told-5, pair-enum-told-6, pair-enum-known-space-3, pair-parts-of-requires-4, pair-enum-told-7, pair-enum-told-8, pair-enum-known-there-3, pair-cast-cell-at, pair-cell-at-requires, pair-cast-cell-at-2, pair-cell-at-requires-2, pair-pair-requires, pair-enum-told-9, pair-enum-told-10, pair-plain-equal-requires, pair-verdict-requires, pair-returns-5, pair-returns-6, pair-returns-7, pair-returns-8, pair-returns-9, pair-returns-10, pair-returns-11, pair-returns-12, pair-returns-13, pair-returns-14, pair-returns-15, pair-returns-16, pair-returns-17}
 
 pub +elements-entries-pair-spec : {M : Type 1} → statement M
@@ -22,9 +22,6 @@ pub +elements-entries-pair-spec : {M : Type 1} → statement M
     elements.Post
     elements-Inv-loop
     elements-μ-loop
-    (elements-cast-at t)
-    (elements-cast-other t)
-    (elements-cast-left t)
     (elements-loop-holds t)
     (elements-cell-at-requires t)
     (elements-cell-at-requires-2 t)
@@ -45,8 +42,6 @@ pub +elements-entries-pair-spec : {M : Type 1} → statement M
     entries.Post
     entries-Inv-loop
     entries-μ-loop
-    (entries-cast-at t)
-    (entries-cast-left t)
     (entries-loop-holds t)
     (entries-cell-at-requires t)
     (entries-find-requires t)

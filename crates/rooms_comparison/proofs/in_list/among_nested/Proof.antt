@@ -10,19 +10,13 @@ use Rattle.rooms_comparison.proofs.in_list.among_nested.Statement.{statement}
 use Rattle.rooms_comparison.proofs.in_list.among_nested.Tie as tie
 
 abbrev invariant-loop : tie.invariant-loop
-invariant-loop literal binding-cells binding-text cells text limit v steps space at₀ left₀ pairs₀ at left pairs = (at + left ≤ 200000) × (among_in limit (rooms literal binding-cells binding-text cells text) v space at left pairs ≡ among_in limit (rooms literal binding-cells binding-text cells text) v space at₀ left₀ pairs₀)
+invariant-loop literal binding-cells binding-text cells text limit v space first length steps at₀ left₀ pairs₀ at left pairs = (at + left ≤ 200000) × (among_in limit (rooms literal binding-cells binding-text cells text) v space at left pairs ≡ among_in limit (rooms literal binding-cells binding-text cells text) v space first length steps)
 
 abbrev decreases-loop : tie.decreases-loop
-decreases-loop literal binding-cells binding-text cells text limit v steps space at₀ left₀ pairs₀ at left pairs = left
-
-cast-at : tie.Need-overflow-cast-at invariant-loop decreases-loop
-cast-at c = search rules
-
-cast-left : tie.Need-overflow-cast-left invariant-loop decreases-loop
-cast-left c = search rules
+decreases-loop literal binding-cells binding-text cells text limit v space first length steps at₀ left₀ pairs₀ at left pairs = left
 
 loop-holds : tie.Need-loop-init invariant-loop decreases-loop
-loop-holds c = (omega (arith, c.struct-known2.given.1.0.fits, c.struct-known2.given.1.1.0.fits), refl)
+loop-holds c = (omega (arith, c.before.before.before.before.before.ranges.first.fits, c.before.before.before.before.before.ranges.length.fits), refl)
 
 cell-at-requires : tie.Need-cell-at-requires invariant-loop decreases-loop
 cell-at-requires c κs = search rules
@@ -35,7 +29,7 @@ enum-known-more c = search rules
 
 returns : tie.Need-returns invariant-loop decreases-loop
 unfolding cell_at
-returns c = among_same c.before.before.before.before.before.before.before.before.before.before.before.before.before.before.args.limit (rooms c.before.before.before.before.before.before.before.before.before.before.before.before.before.before.args.literal.now c.before.before.before.before.before.before.before.before.before.before.before.before.before.before.args.binding-cells.now c.before.before.before.before.before.before.before.before.before.before.before.before.before.before.args.binding-text.now c.before.before.before.before.before.before.before.before.before.before.before.before.before.before.args.cells.now c.before.before.before.before.before.before.before.before.before.before.before.before.before.before.args.text.now) c.before.before.before.before.before.before.before.before.before.before.before.before.before.before.args.value c.before.before.before.before.before.before.before.before.before.before.before.before.before.before.args.run.space c.before.before.before.before.before.before.loop.at c.before.before.before.before.before.before.loop.left c.before.before.before.before.before.before.loop.pairs c.before.more.given.0.0 c.before.before.before.equal.result c.before.before.before.before.before.loop-test.true (c.before.before.before.equal.ensures ∙ (λ i. equal_pairs c.before.before.before.before.before.before.before.before.before.before.before.before.before.before.args.limit (rooms c.before.before.before.before.before.before.before.before.before.before.before.before.before.before.args.literal.now c.before.before.before.before.before.before.before.before.before.before.before.before.before.before.args.binding-cells.now c.before.before.before.before.before.before.before.before.before.before.before.before.before.before.args.binding-text.now c.before.before.before.before.before.before.before.before.before.before.before.before.before.before.args.cells.now c.before.before.before.before.before.before.before.before.before.before.before.before.before.before.args.text.now) c.before.before.before.before.before.before.before.before.before.before.before.before.before.before.args.value (c.before.before.before.before.Cell-at.ensures i) c.before.before.before.before.before.before.loop.pairs)) c.before.more.given.1 ∙ c.before.before.before.before.before.before.loop.invariant.1
+returns c = among_same c.before.before.before.before.before.before.before.before.before.before.before.before.args.limit (rooms c.before.before.before.before.before.before.before.before.before.before.before.before.args.literal.now c.before.before.before.before.before.before.before.before.before.before.before.before.args.binding-cells.now c.before.before.before.before.before.before.before.before.before.before.before.before.args.binding-text.now c.before.before.before.before.before.before.before.before.before.before.before.before.args.cells.now c.before.before.before.before.before.before.before.before.before.before.before.before.args.text.now) c.before.before.before.before.before.before.before.before.before.before.before.before.args.value c.before.before.before.before.before.before.before.before.before.before.before.before.args.space c.before.before.before.before.before.before.loop.at c.before.before.before.before.before.before.loop.left c.before.before.before.before.before.before.loop.pairs c.before.more.given.0.0 c.before.before.before.equal.result c.before.before.before.before.before.loop-test.true (c.before.before.before.equal.ensures ∙ (λ i. equal_pairs c.before.before.before.before.before.before.before.before.before.before.before.before.args.limit (rooms c.before.before.before.before.before.before.before.before.before.before.before.before.args.literal.now c.before.before.before.before.before.before.before.before.before.before.before.before.args.binding-cells.now c.before.before.before.before.before.before.before.before.before.before.before.before.args.binding-text.now c.before.before.before.before.before.before.before.before.before.before.before.before.args.cells.now c.before.before.before.before.before.before.before.before.before.before.before.before.args.text.now) c.before.before.before.before.before.before.before.before.before.before.before.before.args.value (c.before.before.before.before.Cell-at.ensures i) c.before.before.before.before.before.before.loop.pairs)) c.before.more.given.1 ∙ c.before.before.before.before.before.before.loop.invariant.1
 
 enum-known-more-2 : tie.Need-enum-known-more-2 invariant-loop decreases-loop
 enum-known-more-2 c = search rules
@@ -45,7 +39,7 @@ enum-known-more-3 c = search rules
 
 returns-2 : tie.Need-returns-2 invariant-loop decreases-loop
 unfolding cell_at
-returns-2 c = among-out c.before.before.before.before.before.before.before.before.before.before.before.before.before.before.args.limit (rooms c.before.before.before.before.before.before.before.before.before.before.before.before.before.before.args.literal.now c.before.before.before.before.before.before.before.before.before.before.before.before.before.before.args.binding-cells.now c.before.before.before.before.before.before.before.before.before.before.before.before.before.before.args.binding-text.now c.before.before.before.before.before.before.before.before.before.before.before.before.before.before.args.cells.now c.before.before.before.before.before.before.before.before.before.before.before.before.before.before.args.text.now) c.before.before.before.before.before.before.before.before.before.before.before.before.before.before.args.value c.before.before.before.before.before.before.before.before.before.before.before.before.before.before.args.run.space c.before.before.before.before.before.before.loop.at c.before.before.before.before.before.before.loop.left c.before.before.before.before.before.before.loop.pairs c.before.more3.given.0.0 c.before.before.before.equal.result c.before.before.before.before.before.loop-test.true (c.before.before.before.equal.ensures ∙ (λ i. equal_pairs c.before.before.before.before.before.before.before.before.before.before.before.before.before.before.args.limit (rooms c.before.before.before.before.before.before.before.before.before.before.before.before.before.before.args.literal.now c.before.before.before.before.before.before.before.before.before.before.before.before.before.before.args.binding-cells.now c.before.before.before.before.before.before.before.before.before.before.before.before.before.before.args.binding-text.now c.before.before.before.before.before.before.before.before.before.before.before.before.before.before.args.cells.now c.before.before.before.before.before.before.before.before.before.before.before.before.before.before.args.text.now) c.before.before.before.before.before.before.before.before.before.before.before.before.before.before.args.value (c.before.before.before.before.Cell-at.ensures i) c.before.before.before.before.before.before.loop.pairs)) c.before.more3.given.1 ∙ c.before.before.before.before.before.before.loop.invariant.1
+returns-2 c = among-out c.before.before.before.before.before.before.before.before.before.before.before.before.args.limit (rooms c.before.before.before.before.before.before.before.before.before.before.before.before.args.literal.now c.before.before.before.before.before.before.before.before.before.before.before.before.args.binding-cells.now c.before.before.before.before.before.before.before.before.before.before.before.before.args.binding-text.now c.before.before.before.before.before.before.before.before.before.before.before.before.args.cells.now c.before.before.before.before.before.before.before.before.before.before.before.before.args.text.now) c.before.before.before.before.before.before.before.before.before.before.before.before.args.value c.before.before.before.before.before.before.before.before.before.before.before.before.args.space c.before.before.before.before.before.before.loop.at c.before.before.before.before.before.before.loop.left c.before.before.before.before.before.before.loop.pairs c.before.more3.given.0.0 c.before.before.before.equal.result c.before.before.before.before.before.loop-test.true (c.before.before.before.equal.ensures ∙ (λ i. equal_pairs c.before.before.before.before.before.before.before.before.before.before.before.before.args.limit (rooms c.before.before.before.before.before.before.before.before.before.before.before.before.args.literal.now c.before.before.before.before.before.before.before.before.before.before.before.before.args.binding-cells.now c.before.before.before.before.before.before.before.before.before.before.before.before.args.binding-text.now c.before.before.before.before.before.before.before.before.before.before.before.before.args.cells.now c.before.before.before.before.before.before.before.before.before.before.before.before.args.text.now) c.before.before.before.before.before.before.before.before.before.before.before.before.args.value (c.before.before.before.before.Cell-at.ensures i) c.before.before.before.before.before.before.loop.pairs)) c.before.more3.given.1 ∙ c.before.before.before.before.before.before.loop.invariant.1
 
 add_at : tie.Need-overflow-add-at invariant-loop decreases-loop
 add_at c = search rules
@@ -58,10 +52,10 @@ loop-less c = search rules
 
 loop-again : tie.Need-loop-preserved invariant-loop decreases-loop
 unfolding cell_at
-loop-again c = (omega arith, among-on c.before.before.before.before.before.before.before.before.before.before.before.before.before.before.args.limit (rooms c.before.before.before.before.before.before.before.before.before.before.before.before.before.before.args.literal.now c.before.before.before.before.before.before.before.before.before.before.before.before.before.before.args.binding-cells.now c.before.before.before.before.before.before.before.before.before.before.before.before.before.before.args.binding-text.now c.before.before.before.before.before.before.before.before.before.before.before.before.before.before.args.cells.now c.before.before.before.before.before.before.before.before.before.before.before.before.before.before.args.text.now) c.before.before.before.before.before.before.before.before.before.before.before.before.before.before.args.value c.before.before.before.before.before.before.before.before.before.before.before.before.before.before.args.run.space c.before.before.before.before.before.before.loop.at c.before.before.before.before.before.before.loop.left c.before.before.before.before.before.before.loop.pairs c.before.more2.given.0.0 c.before.before.before.equal.result c.before.before.before.before.before.loop-test.true (c.before.before.before.equal.ensures ∙ (λ i. equal_pairs c.before.before.before.before.before.before.before.before.before.before.before.before.before.before.args.limit (rooms c.before.before.before.before.before.before.before.before.before.before.before.before.before.before.args.literal.now c.before.before.before.before.before.before.before.before.before.before.before.before.before.before.args.binding-cells.now c.before.before.before.before.before.before.before.before.before.before.before.before.before.before.args.binding-text.now c.before.before.before.before.before.before.before.before.before.before.before.before.before.before.args.cells.now c.before.before.before.before.before.before.before.before.before.before.before.before.before.before.args.text.now) c.before.before.before.before.before.before.before.before.before.before.before.before.before.before.args.value (c.before.before.before.before.Cell-at.ensures i) c.before.before.before.before.before.before.loop.pairs)) c.before.more2.given.1 ∙ c.before.before.before.before.before.before.loop.invariant.1)
+loop-again c = (omega arith, among-on c.before.before.before.before.before.before.before.before.before.before.before.before.args.limit (rooms c.before.before.before.before.before.before.before.before.before.before.before.before.args.literal.now c.before.before.before.before.before.before.before.before.before.before.before.before.args.binding-cells.now c.before.before.before.before.before.before.before.before.before.before.before.before.args.binding-text.now c.before.before.before.before.before.before.before.before.before.before.before.before.args.cells.now c.before.before.before.before.before.before.before.before.before.before.before.before.args.text.now) c.before.before.before.before.before.before.before.before.before.before.before.before.args.value c.before.before.before.before.before.before.before.before.before.before.before.before.args.space c.before.before.before.before.before.before.loop.at c.before.before.before.before.before.before.loop.left c.before.before.before.before.before.before.loop.pairs c.before.more2.given.0.0 c.before.before.before.equal.result c.before.before.before.before.before.loop-test.true (c.before.before.before.equal.ensures ∙ (λ i. equal_pairs c.before.before.before.before.before.before.before.before.before.before.before.before.args.limit (rooms c.before.before.before.before.before.before.before.before.before.before.before.before.args.literal.now c.before.before.before.before.before.before.before.before.before.before.before.before.args.binding-cells.now c.before.before.before.before.before.before.before.before.before.before.before.before.args.binding-text.now c.before.before.before.before.before.before.before.before.before.before.before.before.args.cells.now c.before.before.before.before.before.before.before.before.before.before.before.before.args.text.now) c.before.before.before.before.before.before.before.before.before.before.before.before.args.value (c.before.before.before.before.Cell-at.ensures i) c.before.before.before.before.before.before.loop.pairs)) c.before.more2.given.1 ∙ c.before.before.before.before.before.before.loop.invariant.1)
 
 returns-3 : tie.Need-returns-3 invariant-loop decreases-loop
-returns-3 c = among_none c.before.before.before.before.before.before.before.before.before.args.limit (rooms c.before.before.before.before.before.before.before.before.before.args.literal.now c.before.before.before.before.before.before.before.before.before.args.binding-cells.now c.before.before.before.before.before.before.before.before.before.args.binding-text.now c.before.before.before.before.before.before.before.before.before.args.cells.now c.before.before.before.before.before.before.before.before.before.args.text.now) c.before.before.before.before.before.before.before.before.before.args.value c.before.before.before.before.before.before.before.before.before.args.run.space c.before.loop.at c.before.loop.left c.before.loop.pairs c.loop-test.false ∙ c.before.loop.invariant.1
+returns-3 c = among_none c.before.before.before.before.before.before.before.args.limit (rooms c.before.before.before.before.before.before.before.args.literal.now c.before.before.before.before.before.before.before.args.binding-cells.now c.before.before.before.before.before.before.before.args.binding-text.now c.before.before.before.before.before.before.before.args.cells.now c.before.before.before.before.before.before.before.args.text.now) c.before.before.before.before.before.before.before.args.value c.before.before.before.before.before.before.before.args.space c.before.loop.at c.before.loop.left c.before.loop.pairs c.loop-test.false ∙ c.before.loop.invariant.1
 
 pub among-nested-spec : {M : Type 1} → statement M
 among-nested-spec =
@@ -69,8 +63,6 @@ among-nested-spec =
     (tie.spec
     invariant-loop
     decreases-loop
-    cast-at
-    cast-left
     loop-holds
     cell-at-requires
     equal-requires

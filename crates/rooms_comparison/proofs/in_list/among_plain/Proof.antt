@@ -11,25 +11,19 @@ use Rattle.rooms_comparison.proofs.in_list.among_plain.Statement.{statement}
 use Rattle.rooms_comparison.proofs.in_list.among_plain.Tie as tie
 
 abbrev invariant-loop : tie.invariant-loop
-invariant-loop literal binding-cells binding-text cells text limit value steps space at₀ left₀ pairs₀ at left pairs = (at + left ≤ 200000) × (among_in limit (rooms literal binding-cells binding-text cells text) value space at left pairs ≡ among_in limit (rooms literal binding-cells binding-text cells text) value space at₀ left₀ pairs₀)
+invariant-loop literal binding-cells binding-text cells text limit value space first length steps at₀ left₀ pairs₀ at left pairs = (at + left ≤ 200000) × (among_in limit (rooms literal binding-cells binding-text cells text) value space at left pairs ≡ among_in limit (rooms literal binding-cells binding-text cells text) value space first length steps)
 
 abbrev decreases-loop : tie.decreases-loop
-decreases-loop literal binding-cells binding-text cells text limit value steps space at₀ left₀ pairs₀ at left pairs = left
-
-cast-at : tie.Need-overflow-cast-at invariant-loop decreases-loop
-cast-at c = search rules
-
-cast-left : tie.Need-overflow-cast-left invariant-loop decreases-loop
-cast-left c = search rules
+decreases-loop literal binding-cells binding-text cells text limit value space first length steps at₀ left₀ pairs₀ at left pairs = left
 
 loop-holds : tie.Need-loop-init invariant-loop decreases-loop
-loop-holds c = (omega (arith, c.struct-known2.given.1.0.fits, c.struct-known2.given.1.1.0.fits), refl)
+loop-holds c = (omega (arith, c.before.before.before.before.before.ranges.first.fits, c.before.before.before.before.before.ranges.length.fits), refl)
 
 returns : tie.Need-returns invariant-loop decreases-loop
 returns c =
     let l = c.before.before.loop in
-    let s = c.before.before.before.before.before.before.before.before.before.before in
-    plain_out s.args.limit s.args.literal.now s.args.binding-cells.now s.args.binding-text.now s.args.cells.now s.args.text.now s.args.value s.requires s.args.run.space l.at l.left l.pairs c.before.loop-test.true c.if1.true ∙ l.invariant.1
+    let s = c.before.before.before.before.before.before.before.before in
+    plain_out s.args.limit s.args.literal.now s.args.binding-cells.now s.args.binding-text.now s.args.cells.now s.args.text.now s.args.value s.requires s.args.space l.at l.left l.pairs c.before.loop-test.true c.if1.true ∙ l.invariant.1
 
 add-pairs : tie.Need-overflow-add-pairs invariant-loop decreases-loop
 add-pairs c = search rules
@@ -43,8 +37,8 @@ plain-equal-requires c κs = search rules
 returns-2 : tie.Need-returns-2 invariant-loop decreases-loop
 returns-2 c =
     let l = c.before.before.before.before.before.loop in
-    let s = c.before.before.before.before.before.before.before.before.before.before.before.before.before in
-    plain-same s.args.limit s.args.literal.now s.args.binding-cells.now s.args.binding-text.now s.args.cells.now s.args.text.now s.args.value s.requires s.args.run.space l.at l.left l.pairs c.before.before.before.before.loop-test.true c.before.before.Cell-at.result c.before.plain-equal.result (omega arith) c.before.before.Cell-at.ensures c.before.plain-equal.ensures c.if2.true ∙ l.invariant.1
+    let s = c.before.before.before.before.before.before.before.before.before.before.before in
+    plain-same s.args.limit s.args.literal.now s.args.binding-cells.now s.args.binding-text.now s.args.cells.now s.args.text.now s.args.value s.requires s.args.space l.at l.left l.pairs c.before.before.before.before.loop-test.true c.before.before.Cell-at.result c.before.plain-equal.result (omega arith) c.before.before.Cell-at.ensures c.before.plain-equal.ensures c.if2.true ∙ l.invariant.1
 
 add_at : tie.Need-overflow-add-at invariant-loop decreases-loop
 add_at c = search rules
@@ -59,15 +53,15 @@ loop-again : tie.Need-loop-preserved invariant-loop decreases-loop
 loop-again c = (
   omega arith,
   let l = c.before.before.before.before.before.loop in
-      let s = c.before.before.before.before.before.before.before.before.before.before.before.before.before in
-      plain-on s.args.limit s.args.literal.now s.args.binding-cells.now s.args.binding-text.now s.args.cells.now s.args.text.now s.args.value s.requires s.args.run.space l.at l.left l.pairs c.before.before.before.before.loop-test.true c.before.before.Cell-at.result c.before.plain-equal.result (omega arith) c.before.before.Cell-at.ensures c.before.plain-equal.ensures c.if2.false ∙ l.invariant.1,
+      let s = c.before.before.before.before.before.before.before.before.before.before.before in
+      plain-on s.args.limit s.args.literal.now s.args.binding-cells.now s.args.binding-text.now s.args.cells.now s.args.text.now s.args.value s.requires s.args.space l.at l.left l.pairs c.before.before.before.before.loop-test.true c.before.before.Cell-at.result c.before.plain-equal.result (omega arith) c.before.before.Cell-at.ensures c.before.plain-equal.ensures c.if2.false ∙ l.invariant.1,
 )
 
 returns-3 : tie.Need-returns-3 invariant-loop decreases-loop
 returns-3 c =
     let l = c.before.loop in
-    let s = c.before.before.before.before.before.before.before.before.before in
-    among_none s.args.limit (rooms s.args.literal.now s.args.binding-cells.now s.args.binding-text.now s.args.cells.now s.args.text.now) s.args.value s.args.run.space l.at l.left l.pairs c.loop-test.false ∙ l.invariant.1
+    let s = c.before.before.before.before.before.before.before in
+    among_none s.args.limit (rooms s.args.literal.now s.args.binding-cells.now s.args.binding-text.now s.args.cells.now s.args.text.now) s.args.value s.args.space l.at l.left l.pairs c.loop-test.false ∙ l.invariant.1
 
 pub among-plain-spec : {M : Type 1} → statement M
 among-plain-spec =
@@ -75,8 +69,6 @@ among-plain-spec =
     (tie.spec
     invariant-loop
     decreases-loop
-    cast-at
-    cast-left
     loop-holds
     returns
     add-pairs

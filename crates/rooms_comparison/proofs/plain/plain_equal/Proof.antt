@@ -12,15 +12,11 @@ enum-known-first c = search rules
 enum-known-second : tie.Need-enum-known-second
 enum-known-second c = search rules
 
-ints-equal-requires : tie.Need-ints-equal-requires
-ints-equal-requires c κs = search rules
-
 returns : tie.Need-returns
 returns c =
-    let asked = c.before in
-    let left = asked.before.before.before.before.first in
-    let right = asked.before.second in
-    simp (left.given.1, right.given.1) (int_same left.given.0.0 right.given.0.0 _ (sfits_of asked.before.before.before.known-told.given.0.1) (sfits_of asked.known-told2.given.0.1) c.ints-equal.ensures)
+    let left = c.before.before.before.before.first in
+    let right = c.before.second in
+    simp (left.given.1, right.given.1) (int_same left.given.0.0 right.given.0.0 (sfits_of c.before.before.before.known-told.given.0.1) (sfits_of c.known-told2.given.0.1))
 
 key-equal-requires : tie.Need-key-equal-requires
 key-equal-requires c κs = search rules
@@ -31,4 +27,4 @@ returns-2 c = rw (⊎_elim (λ w. w.4 ∙ sym w.1.given.1) (λ w. w.1) c.before.
 pub plain-equal-spec : {M : Type 1} → statement M
 plain-equal-spec =
     tie.close
-    (tie.spec enum-known-first enum-known-second ints-equal-requires returns key-equal-requires returns-2)
+    (tie.spec enum-known-first enum-known-second returns key-equal-requires returns-2)

@@ -12,7 +12,7 @@ use Rattle.bindings.proofs.laying.lay_row.Reads as lay-row
 use Rattle.bindings.proofs.laying.lay_row.Kinds as lay-row-kinds
 use Rattle.bindings.proofs.laying.+lay_lay_row.Lts-lay_row as lay-row-lts
 use Rattle.bindings.proofs.laying.lay_literal.Reads as lay-literal-reads
-use Rattle.bindings_literals.proofs.literals.literal_or_absent.Reads as literal-or-absent-reads
+use Rattle.bindings_literals.proofs.literals.literal_at.Reads as literal-at-reads
 use Rattle.rooms_cells.proofs.write_cell.Reads as write-cell-reads
 use Rattle.rooms.proofs.value.nesting_of.Reads as nesting-of-reads
 use Rattle.rooms.proofs.value.deeper.Reads as deeper-reads
@@ -50,8 +50,8 @@ lay-claims t = (
   count-at-reads.Learnt,
   lay-row-below t,
   lay-row.Post,
-  literal-or-absent-reads.Asked,
-  literal-or-absent-reads.Learnt,
+  literal-at-reads.Asked,
+  literal-at-reads.Learnt,
   lay-literal-reads.Asked,
   lay-literal-reads.Learnt,
 )

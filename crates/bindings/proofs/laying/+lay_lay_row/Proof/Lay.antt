@@ -9,10 +9,10 @@ use Rattle.bindings.proofs.laying.+lay_lay_row.Lts-lay as lay-lts
 use Rattle.bindings.proofs.laying.+lay_lay_row.Proof.Kit.{lay_at, lay-claims}
 
 pub lay-kind-at-requires : (t : ℕ) → lay-lts.Need-kind-at-requires (lay-claims t) (lay_at t) lay.Post
-lay-kind-at-requires t c κs = let p = part-place c.before.before.before.before.args.table.now c.before.before.before.before.args.literal.now c.before.before.before.before.args.at c.before.before.before.before.requires.1.0 in omega (arith, p.start)
+lay-kind-at-requires t c κs = let p = part-place c.before.before.before.before.args.table.now c.before.before.before.before.args.literal.now c.before.before.before.before.args.at c.before.before.before.before.requires.1.0 in omega (arith, p.three)
 
 pub lay-first-operand-requires : (t : ℕ) → lay-lts.Need-first-operand-requires (lay-claims t) (lay_at t) lay.Post
-lay-first-operand-requires t c κs = let p = part-place c.before.before.before.before.before.before.args.table.now c.before.before.before.before.before.before.args.literal.now c.before.before.before.before.before.before.args.at c.before.before.before.before.before.before.requires.1.0 in (omega (arith, p.start), p.known)
+lay-first-operand-requires t c κs = let p = part-place c.before.before.before.before.before.before.args.table.now c.before.before.before.before.before.before.args.literal.now c.before.before.before.before.before.before.args.at c.before.before.before.before.before.before.requires.1.0 in (omega (arith, p.three), p.known)
 
 pub lay-count-at-requires : (t : ℕ) → lay-lts.Need-count-at-requires (lay-claims t) (lay_at t) lay.Post
 lay-count-at-requires t c κs = list-body c.before.before.before.before.before.before.before.args.table.now c.before.before.before.before.before.before.before.args.literal.now c.before.before.before.before.before.before.before.args.at c.before.before.before.before.before.before.before.requires.1.0 c.before.before.kind_at.result c.before.before.kind_at.ensures c.before.if1.true
@@ -39,7 +39,7 @@ pub lay-returns : (t : ℕ) → lay-lts.Need-returns (lay-claims t) (lay_at t) l
 lay-returns t c = list-laid c.before.before.before.before.before.before.before.before.before.before.before.before.before.before.before.before.args.table.now c.before.before.before.before.before.before.before.before.before.before.before.before.before.before.before.before.args.literal.now c.before.before.before.before.before.before.before.before.before.before.before.before.before.before.before.before.args.at c.before.before.before.before.before.before.before.before.before.before.before.before.before.before.before.before.requires.1.0 c.before.before.before.before.before.before.before.before.before.before.before.before.before.before.before.before.requires.1.1 c.before.before.before.before.before.before.before.before.before.before.before.before.before.before.before.before.args.used c.before.before.before.before.before.before.before.before.before.before.before.before.before.before.before.before.args.bytes c.before.before.before.before.before.before.before.before.before.before.before.before.before.before.before.before.requires.1.2 c.before.before.before.before.before.before.before.before.before.before.before.before.before.before.before.before.requires.1.3 c.before.before.before.before.before.before.before.before.before.before.before.before.before.before.before.before.requires.1.4 c.before.before.before.before.before.before.before.before.before.before.before.kind_at.result c.before.before.before.before.before.before.before.before.before.before.before.kind_at.ensures c.before.before.before.before.before.before.before.before.before.first-operand.result c.before.before.before.before.before.before.before.before.count_at.result c.before.before.before.before.before.before.before.before.before.first-operand.ensures c.before.before.before.before.before.before.before.before.count_at.ensures.0 c.before.before.before.before.before.before.before.before.before.before.if1.true c.before.before.before.before.before.before.before.before.before.before.before.before.before.before.before.before.args.cells.now c.before.before.before.before.before.before.before.before.before.before.before.before.before.before.before.before.args.text.now c.before.before.before.before.before.lay-row.new.1.1.0 c.before.before.before.before.before.lay-row.new.1.1.1.0 c.before.before.before.before.before.lay-row.result.nesting c.before.before.before.before.before.lay-row.result.cells c.before.before.before.before.before.lay-row.result.bytes c.before.before.before.before.before.lay-row.ensures.0 c.before.before.before.before.before.lay-row.ensures.1
 
 pub lay-first-operand-requires-2 : (t : ℕ) → lay-lts.Need-first-operand-requires-2 (lay-claims t) (lay_at t) lay.Post
-lay-first-operand-requires-2 t c κs = let p = part-place c.before.before.before.before.before.before.before.args.table.now c.before.before.before.before.before.before.before.args.literal.now c.before.before.before.before.before.before.before.args.at c.before.before.before.before.before.before.before.requires.1.0 in (omega (arith, p.start), p.known)
+lay-first-operand-requires-2 t c κs = let p = part-place c.before.before.before.before.before.before.before.args.table.now c.before.before.before.before.before.before.before.args.literal.now c.before.before.before.before.before.before.before.args.at c.before.before.before.before.before.before.before.requires.1.0 in (omega (arith, p.three), p.known)
 
 pub lay-count-at-requires-2 : (t : ℕ) → lay-lts.Need-count-at-requires-2 (lay-claims t) (lay_at t) lay.Post
 lay-count-at-requires-2 t c κs = map-body c.before.before.before.before.before.before.before.before.args.table.now c.before.before.before.before.before.before.before.before.args.literal.now c.before.before.before.before.before.before.before.before.args.at c.before.before.before.before.before.before.before.before.requires.1.0 c.before.before.before.kind_at.result c.before.before.before.kind_at.ensures c.before.if2.true
@@ -68,14 +68,14 @@ lay-same-length-4 t c = c.before.before.before.before.before.lay-row2.auto.1.1.1
 pub lay-returns-2 : (t : ℕ) → lay-lts.Need-returns-2 (lay-claims t) (lay_at t) lay.Post
 lay-returns-2 t c = map-laid c.before.before.before.before.before.before.before.before.before.before.before.before.before.before.before.before.before.args.table.now c.before.before.before.before.before.before.before.before.before.before.before.before.before.before.before.before.before.args.literal.now c.before.before.before.before.before.before.before.before.before.before.before.before.before.before.before.before.before.args.at c.before.before.before.before.before.before.before.before.before.before.before.before.before.before.before.before.before.requires.1.0 c.before.before.before.before.before.before.before.before.before.before.before.before.before.before.before.before.before.requires.1.1 c.before.before.before.before.before.before.before.before.before.before.before.before.before.before.before.before.before.args.used c.before.before.before.before.before.before.before.before.before.before.before.before.before.before.before.before.before.args.bytes c.before.before.before.before.before.before.before.before.before.before.before.before.before.before.before.before.before.requires.1.2 c.before.before.before.before.before.before.before.before.before.before.before.before.before.before.before.before.before.requires.1.3 c.before.before.before.before.before.before.before.before.before.before.before.before.before.before.before.before.before.requires.1.4 c.before.before.before.before.before.before.before.before.before.before.before.before.kind_at.result c.before.before.before.before.before.before.before.before.before.before.before.before.kind_at.ensures c.before.before.before.before.before.before.before.before.before.first-operand2.result c.before.before.before.before.before.before.before.before.count-at2.result c.before.before.before.before.before.before.before.before.before.first-operand2.ensures c.before.before.before.before.before.before.before.before.count-at2.ensures.0 c.before.before.before.before.before.before.before.before.before.before.if2.true c.before.before.before.before.before.before.before.before.before.before.before.before.before.before.before.before.before.args.cells.now c.before.before.before.before.before.before.before.before.before.before.before.before.before.before.before.before.before.args.text.now c.before.before.before.before.before.lay-row2.new.1.1.0 c.before.before.before.before.before.lay-row2.new.1.1.1.0 c.before.before.before.before.before.lay-row2.result.nesting c.before.before.before.before.before.lay-row2.result.cells c.before.before.before.before.before.lay-row2.result.bytes c.before.before.before.before.before.lay-row2.ensures.0 c.before.before.before.before.before.lay-row2.ensures.1
 
-pub lay-literal-or-absent-requires : (t : ℕ) → lay-lts.Need-literal-or-absent-requires (lay-claims t) (lay_at t) lay.Post
-lay-literal-or-absent-requires t c κs = let p = part-place c.before.before.before.before.before.before.before.before.args.table.now c.before.before.before.before.before.before.before.before.args.literal.now c.before.before.before.before.before.before.before.before.args.at c.before.before.before.before.before.before.before.before.requires.1.0 in (p.known, p.head)
+pub lay-literal-at-requires : (t : ℕ) → lay-lts.Need-literal-at-requires (lay-claims t) (lay_at t) lay.Post
+lay-literal-at-requires t c κs = let p = part-place c.before.before.before.before.before.before.before.before.args.table.now c.before.before.before.before.before.before.before.before.args.literal.now c.before.before.before.before.before.before.before.before.args.at c.before.before.before.before.before.before.before.before.requires.1.0 in (p.known, p.head)
 
 pub lay-lay-literal-requires : (t : ℕ) → lay-lts.Need-lay-literal-requires (lay-claims t) (lay_at t) lay.Post
-lay-lay-literal-requires t c κs = omega (arith, leaf-bytes c.before.before.before.before.before.before.before.before.before.args.table.now c.before.before.before.before.before.before.before.before.before.args.literal.now c.before.before.before.before.before.before.before.before.before.args.at (λ i. omega (arith, c.before.before.before.before.before.before.before.before.shared-slice-known.given i)) c.before.before.before.before.before.before.before.before.before.requires.1.0 c.literal-or-absent.result c.literal-or-absent.ensures c.before.before.before.before.kind_at.result c.before.before.before.before.kind_at.ensures c.before.before.before.if1.false c.before.before.if2.false, c.before.before.before.before.before.before.before.before.before.requires.1.4)
+lay-lay-literal-requires t c κs = omega (arith, leaf-bytes c.before.before.before.before.before.before.before.before.before.args.table.now c.before.before.before.before.before.before.before.before.before.args.literal.now c.before.before.before.before.before.before.before.before.before.args.at (λ i. omega (arith, c.before.before.before.before.before.before.before.before.shared-slice-known.given i)) c.before.before.before.before.before.before.before.before.before.requires.1.0 c.literal-at.result c.literal-at.ensures c.before.before.before.before.kind_at.result c.before.before.before.before.kind_at.ensures c.before.before.before.if1.false c.before.before.if2.false, c.before.before.before.before.before.before.before.before.before.requires.1.4)
 
 pub lay-same-length-5 : (t : ℕ) → lay-lts.Need-same-length-5 (lay-claims t) (lay_at t) lay.Post
 lay-same-length-5 t c = c.before.before.lay-literal.auto.1.0
 
 pub lay-returns-3 : (t : ℕ) → lay-lts.Need-returns-3 (lay-claims t) (lay_at t) lay.Post
-lay-returns-3 t c = rw (c.before.before.lay-literal.ensures.0, c.before.before.lay-literal.ensures.1) (leaf-laid c.before.before.before.before.before.before.before.before.before.before.before.before.args.table.now c.before.before.before.before.before.before.before.before.before.before.before.before.args.literal.now c.before.before.before.before.before.before.before.before.before.before.before.before.args.at (λ i. omega (arith, c.before.before.before.before.before.before.before.before.before.before.before.shared-slice-known.given i)) c.before.before.before.before.before.before.before.before.before.before.before.before.requires.1.0 c.before.before.before.literal-or-absent.result c.before.before.before.literal-or-absent.ensures c.before.before.before.before.before.before.before.kind_at.result c.before.before.before.before.before.before.before.kind_at.ensures c.before.before.before.before.before.before.if1.false c.before.before.before.before.before.if2.false _)
+lay-returns-3 t c = rw (c.before.before.lay-literal.ensures.0, c.before.before.lay-literal.ensures.1) (leaf-laid c.before.before.before.before.before.before.before.before.before.before.before.before.args.table.now c.before.before.before.before.before.before.before.before.before.before.before.before.args.literal.now c.before.before.before.before.before.before.before.before.before.before.before.before.args.at (λ i. omega (arith, c.before.before.before.before.before.before.before.before.before.before.before.shared-slice-known.given i)) c.before.before.before.before.before.before.before.before.before.before.before.before.requires.1.0 c.before.before.before.literal-at.result c.before.before.before.literal-at.ensures c.before.before.before.before.before.before.before.kind_at.result c.before.before.before.before.before.before.before.kind_at.ensures c.before.before.before.before.before.before.if1.false c.before.before.before.before.before.if2.false _)

@@ -2,7 +2,7 @@
 use borrow.Author.Rules.{rules}
 use native.Mathlib.Omega.{arith}
 use Rattle.bindings_literals.proofs.Rows.{part-place}
-use Rattle.bindings_bringing.proofs.LayLaws.{count-cells}
+use Rattle.bindings.proofs.LayLaws.{count-cells}
 use Rattle.bindings.proofs.LaySteps.{RowLeft, row-start, row_done, row_here, row-falls, row_fits, row-again}
 use Prim.Native.Nat.{ℕ}
 use Rattle.bindings.proofs.laying.lay_row.Reads as lay-row
@@ -34,7 +34,7 @@ pub lay-row-deeper-requires : (t : ℕ) → lay-row-lts.Need-deeper-requires (la
 lay-row-deeper-requires t c κs = search rules
 
 pub lay-row-end-at-requires : (t : ℕ) → lay-row-lts.Need-end-at-requires (lay-row-claims t) (lay-row-at t) lay-row.Post lay-row-Inv-loop lay-row-μ-loop
-lay-row-end-at-requires t c κs = let p = part-place c.before.before.before.before.before.before.before.before.before.before.before.before.before.before.before.before.before.before.before.args.table.now c.before.before.before.before.before.before.before.before.before.before.before.before.before.before.before.before.before.before.before.args.literal.now c.before.before.before.before.before.before.before.before.before.before.before.before.before.before.loop.at (row_here c.before.before.before.before.before.before.before.before.before.before.before.before.before.before.before.before.before.before.before.args.table.now c.before.before.before.before.before.before.before.before.before.before.before.before.before.before.before.before.before.before.before.args.literal.now c.before.before.before.before.before.before.before.before.before.before.before.before.before.before.before.before.before.before.before.args.first c.before.before.before.before.before.before.before.before.before.before.before.before.before.before.before.before.before.before.before.args.count c.before.before.before.before.before.before.before.before.before.before.before.before.before.before.before.before.before.before.before.args.used c.before.before.before.before.before.before.before.before.before.before.before.before.before.before.before.before.before.before.before.args.bytes c.before.before.before.before.before.before.before.before.before.before.before.before.before.before.before.before.before.before.before.args.cells.now c.before.before.before.before.before.before.before.before.before.before.before.before.before.before.before.before.before.before.before.args.text.now c.before.before.before.before.before.before.before.before.before.before.before.before.before.before.loop.cells c.before.before.before.before.before.before.before.before.before.before.before.before.before.before.loop.text c.before.before.before.before.before.before.before.before.before.before.before.before.before.before.loop.row.nesting c.before.before.before.before.before.before.before.before.before.before.before.before.before.before.loop.row.cells c.before.before.before.before.before.before.before.before.before.before.before.before.before.before.loop.row.bytes c.before.before.before.before.before.before.before.before.before.before.before.before.before.before.loop.at c.before.before.before.before.before.before.before.before.before.before.before.before.before.before.loop.left c.before.before.before.before.before.before.before.before.before.before.before.before.before.before.loop.to c.before.before.before.before.before.before.before.before.before.before.before.before.before.before.loop.invariant c.before.before.before.before.before.before.before.before.before.before.before.before.before.loop-test.true) in p.start
+lay-row-end-at-requires t c κs = let p = part-place c.before.before.before.before.before.before.before.before.before.before.before.before.before.before.before.before.before.before.before.args.table.now c.before.before.before.before.before.before.before.before.before.before.before.before.before.before.before.before.before.before.before.args.literal.now c.before.before.before.before.before.before.before.before.before.before.before.before.before.before.loop.at (row_here c.before.before.before.before.before.before.before.before.before.before.before.before.before.before.before.before.before.before.before.args.table.now c.before.before.before.before.before.before.before.before.before.before.before.before.before.before.before.before.before.before.before.args.literal.now c.before.before.before.before.before.before.before.before.before.before.before.before.before.before.before.before.before.before.before.args.first c.before.before.before.before.before.before.before.before.before.before.before.before.before.before.before.before.before.before.before.args.count c.before.before.before.before.before.before.before.before.before.before.before.before.before.before.before.before.before.before.before.args.used c.before.before.before.before.before.before.before.before.before.before.before.before.before.before.before.before.before.before.before.args.bytes c.before.before.before.before.before.before.before.before.before.before.before.before.before.before.before.before.before.before.before.args.cells.now c.before.before.before.before.before.before.before.before.before.before.before.before.before.before.before.before.before.before.before.args.text.now c.before.before.before.before.before.before.before.before.before.before.before.before.before.before.loop.cells c.before.before.before.before.before.before.before.before.before.before.before.before.before.before.loop.text c.before.before.before.before.before.before.before.before.before.before.before.before.before.before.loop.row.nesting c.before.before.before.before.before.before.before.before.before.before.before.before.before.before.loop.row.cells c.before.before.before.before.before.before.before.before.before.before.before.before.before.before.loop.row.bytes c.before.before.before.before.before.before.before.before.before.before.before.before.before.before.loop.at c.before.before.before.before.before.before.before.before.before.before.before.before.before.before.loop.left c.before.before.before.before.before.before.before.before.before.before.before.before.before.before.loop.to c.before.before.before.before.before.before.before.before.before.before.before.before.before.before.loop.invariant c.before.before.before.before.before.before.before.before.before.before.before.before.before.loop-test.true) in p.three
 
 pub lay-row-add-to : (t : ℕ) → lay-row-lts.Need-overflow-add-to (lay-row-claims t) (lay-row-at t) lay-row.Post lay-row-Inv-loop lay-row-μ-loop
 lay-row-add-to t c = let i = c.before.before.before.before.before.before.before.before.before.before.before.before.before.before.before.loop.invariant in omega (arith, i.place, i.most, c.before.before.before.before.before.before.before.before.before.before.before.before.before.before.loop-test.true)

@@ -14,19 +14,13 @@ use Rattle.rooms_comparison.proofs.equality.+elements_entries_pair.Lts-entries a
 use Rattle.rooms_comparison.proofs.equality.+elements_entries_pair.Proof.Kit.{entries-claims, entries_at}
 
 abbrev pub entries-Inv-loop : entries-lts.invariant-loop
-entries-Inv-loop literal binding-cells binding-text cells text limit depth those steps space there at₀ left₀ pairs₀ at left pairs = (at + left * 2 ≤ 200000) × (entries_equal (λ v w j. equal_in depth limit (rooms literal binding-cells binding-text cells text) v w j) limit (rooms literal binding-cells binding-text cells text) space at there those.first those.length left pairs ≡ entries_equal (λ v w j. equal_in depth limit (rooms literal binding-cells binding-text cells text) v w j) limit (rooms literal binding-cells binding-text cells text) space at₀ there those.first those.length left₀ pairs₀)
+entries-Inv-loop literal binding-cells binding-text cells text limit depth space first there from length steps at₀ left₀ pairs₀ at left pairs = (at + left * 2 ≤ 200000) × (entries_equal (λ v w j. equal_in depth limit (rooms literal binding-cells binding-text cells text) v w j) limit (rooms literal binding-cells binding-text cells text) space at there from length left pairs ≡ entries_equal (λ v w j. equal_in depth limit (rooms literal binding-cells binding-text cells text) v w j) limit (rooms literal binding-cells binding-text cells text) space first there from length length steps)
 
 abbrev pub entries-μ-loop : entries-lts.decreases-loop
-entries-μ-loop literal binding-cells binding-text cells text limit depth those steps space there at₀ left₀ pairs₀ at left pairs = left
-
-pub entries-cast-at : (t : ℕ) → entries-lts.Need-overflow-cast-at (entries-claims t) (entries_at t) entries.Post entries-Inv-loop entries-μ-loop
-entries-cast-at t c = search rules
-
-pub entries-cast-left : (t : ℕ) → entries-lts.Need-overflow-cast-left (entries-claims t) (entries_at t) entries.Post entries-Inv-loop entries-μ-loop
-entries-cast-left t c = search rules
+entries-μ-loop literal binding-cells binding-text cells text limit depth space first there from length steps at₀ left₀ pairs₀ at left pairs = left
 
 pub entries-loop-holds : (t : ℕ) → entries-lts.Need-loop-init (entries-claims t) (entries_at t) entries.Post entries-Inv-loop entries-μ-loop
-entries-loop-holds t c = (omega (arith, c.struct-known2.given.1.0.fits, c.struct-known2.given.1.1.0.fits), refl)
+entries-loop-holds t c = (omega (arith, c.before.before.before.before.before.ranges.first.fits, c.before.before.before.before.before.ranges.length.fits), refl)
 
 pub entries-cell-at-requires : (t : ℕ) → entries-lts.Need-cell-at-requires (entries-claims t) (entries_at t) entries.Post entries-Inv-loop entries-μ-loop
 entries-cell-at-requires t c κs = search rules
@@ -47,7 +41,7 @@ pub entries-cell-at-requires-3 : (t : ℕ) → entries-lts.Need-cell-at-requires
 entries-cell-at-requires-3 t c κs = search rules
 
 pub entries-pair-requires : (t : ℕ) → entries-lts.Need-pair-requires (entries-claims t) (entries_at t) entries.Post entries-Inv-loop entries-μ-loop
-entries-pair-requires t c κs = (omega (arith, c.before.before.before.before.before.before.before.before.before.before.before.before.before.before.before.before.requires.0), tt)
+entries-pair-requires t c κs = (omega (arith, c.before.before.before.before.before.before.before.before.before.before.before.before.before.before.requires.0), tt)
 
 pub entries-enum-known-more : (t : ℕ) → entries-lts.Need-enum-known-more (entries-claims t) (entries_at t) entries.Post entries-Inv-loop entries-μ-loop
 entries-enum-known-more t c = search rules
@@ -57,28 +51,28 @@ entries-enum-known-more-2 t c = search rules
 
 pub entries-returns : (t : ℕ) → entries-lts.Need-returns (entries-claims t) (entries_at t) entries.Post entries-Inv-loop entries-μ-loop
 unfolding cell_at
-entries-returns t c = entries-unlike (λ (v w : Value) (j : ℕ). equal_in c.before.before.before.before.before.before.before.before.before.before.before.before.before.before.before.before.before.before.before.before.args.depth c.before.before.before.before.before.before.before.before.before.before.before.before.before.before.before.before.before.before.before.before.args.limit (rooms c.before.before.before.before.before.before.before.before.before.before.before.before.before.before.before.before.before.before.before.before.args.literal.now c.before.before.before.before.before.before.before.before.before.before.before.before.before.before.before.before.before.before.before.before.args.binding-cells.now c.before.before.before.before.before.before.before.before.before.before.before.before.before.before.before.before.before.before.before.before.args.binding-text.now c.before.before.before.before.before.before.before.before.before.before.before.before.before.before.before.before.before.before.before.before.args.cells.now c.before.before.before.before.before.before.before.before.before.before.before.before.before.before.before.before.before.before.before.before.args.text.now) v w j) c.before.before.before.before.before.before.before.before.before.before.before.before.before.before.before.before.before.before.before.before.args.limit (rooms c.before.before.before.before.before.before.before.before.before.before.before.before.before.before.before.before.before.before.before.before.args.literal.now c.before.before.before.before.before.before.before.before.before.before.before.before.before.before.before.before.before.before.before.before.args.binding-cells.now c.before.before.before.before.before.before.before.before.before.before.before.before.before.before.before.before.before.before.before.before.args.binding-text.now c.before.before.before.before.before.before.before.before.before.before.before.before.before.before.before.before.before.before.before.before.args.cells.now c.before.before.before.before.before.before.before.before.before.before.before.before.before.before.before.before.before.before.before.before.args.text.now) c.before.before.before.before.before.before.before.before.before.before.before.before.before.before.before.before.before.before.before.before.args.these.space c.before.before.before.before.before.before.before.before.before.before.before.before.before.before.before.before.before.before.before.before.args.those.space c.before.before.before.before.before.before.before.before.before.before.before.before.before.before.before.before.before.before.before.before.args.those.first c.before.before.before.before.before.before.before.before.before.before.before.before.before.before.before.before.before.before.before.before.args.those.length c.before.before.before.before.before.before.before.before.before.before.before.before.loop.at c.before.before.before.before.before.before.before.before.before.before.before.before.loop.left c.before.before.before.before.before.before.before.before.before.before.before.before.loop.pairs c.before.before.before.before.before.before.before.cell.given.0.0 c.before.before.before.before.before.before.before.cell.given.0.1.0 c.before.more2.given.0.0 c.before.before.before.before.before.before.before.before.before.find.result c.before.before.before.pair.result c.before.before.before.before.before.before.before.before.before.before.before.loop-test.true (c.before.before.before.before.before.before.before.before.before.find.ensures ∙ (λ i. find_in c.before.before.before.before.before.before.before.before.before.before.before.before.before.before.before.before.before.before.before.before.args.limit (rooms c.before.before.before.before.before.before.before.before.before.before.before.before.before.before.before.before.before.before.before.before.args.literal.now c.before.before.before.before.before.before.before.before.before.before.before.before.before.before.before.before.before.before.before.before.args.binding-cells.now c.before.before.before.before.before.before.before.before.before.before.before.before.before.before.before.before.before.before.before.before.args.binding-text.now c.before.before.before.before.before.before.before.before.before.before.before.before.before.before.before.before.before.before.before.before.args.cells.now c.before.before.before.before.before.before.before.before.before.before.before.before.before.before.before.before.before.before.before.before.args.text.now) (c.before.before.before.before.before.before.before.before.before.before.Cell-at.ensures i) c.before.before.before.before.before.before.before.before.before.before.before.before.before.before.before.before.before.before.before.before.args.those.space c.before.before.before.before.before.before.before.before.before.before.before.before.before.before.before.before.before.before.before.before.args.those.first c.before.before.before.before.before.before.before.before.before.before.before.before.before.before.before.before.before.before.before.before.args.those.length c.before.before.before.before.before.before.before.before.before.before.before.before.loop.pairs)) c.before.before.before.before.before.before.before.cell.given.1 (c.before.before.before.pair.ensures ∙ (λ i. equal_in c.before.before.before.before.before.before.before.before.before.before.before.before.before.before.before.before.before.before.before.before.args.depth c.before.before.before.before.before.before.before.before.before.before.before.before.before.before.before.before.before.before.before.before.args.limit (rooms c.before.before.before.before.before.before.before.before.before.before.before.before.before.before.before.before.before.before.before.before.args.literal.now c.before.before.before.before.before.before.before.before.before.before.before.before.before.before.before.before.before.before.before.before.args.binding-cells.now c.before.before.before.before.before.before.before.before.before.before.before.before.before.before.before.before.before.before.before.before.args.binding-text.now c.before.before.before.before.before.before.before.before.before.before.before.before.before.before.before.before.before.before.before.before.args.cells.now c.before.before.before.before.before.before.before.before.before.before.before.before.before.before.before.before.before.before.before.before.args.text.now) (c.before.before.before.before.before.cell-at2.ensures i) (c.before.before.before.before.cell-at3.ensures i) c.before.before.before.before.before.before.before.cell.given.0.1.0)) c.before.more2.given.1 ∙ c.before.before.before.before.before.before.before.before.before.before.before.before.loop.invariant.1
+entries-returns t c = entries-unlike (λ (v w : Value) (j : ℕ). equal_in c.before.before.before.before.before.before.before.before.before.before.before.before.before.before.before.before.before.before.args.depth c.before.before.before.before.before.before.before.before.before.before.before.before.before.before.before.before.before.before.args.limit (rooms c.before.before.before.before.before.before.before.before.before.before.before.before.before.before.before.before.before.before.args.literal.now c.before.before.before.before.before.before.before.before.before.before.before.before.before.before.before.before.before.before.args.binding-cells.now c.before.before.before.before.before.before.before.before.before.before.before.before.before.before.before.before.before.before.args.binding-text.now c.before.before.before.before.before.before.before.before.before.before.before.before.before.before.before.before.before.before.args.cells.now c.before.before.before.before.before.before.before.before.before.before.before.before.before.before.before.before.before.before.args.text.now) v w j) c.before.before.before.before.before.before.before.before.before.before.before.before.before.before.before.before.before.before.args.limit (rooms c.before.before.before.before.before.before.before.before.before.before.before.before.before.before.before.before.before.before.args.literal.now c.before.before.before.before.before.before.before.before.before.before.before.before.before.before.before.before.before.before.args.binding-cells.now c.before.before.before.before.before.before.before.before.before.before.before.before.before.before.before.before.before.before.args.binding-text.now c.before.before.before.before.before.before.before.before.before.before.before.before.before.before.before.before.before.before.args.cells.now c.before.before.before.before.before.before.before.before.before.before.before.before.before.before.before.before.before.before.args.text.now) c.before.before.before.before.before.before.before.before.before.before.before.before.before.before.before.before.before.before.args.space c.before.before.before.before.before.before.before.before.before.before.before.before.before.before.before.before.before.before.args.there c.before.before.before.before.before.before.before.before.before.before.before.before.before.before.before.before.before.before.args.from c.before.before.before.before.before.before.before.before.before.before.before.before.before.before.before.before.before.before.args.length c.before.before.before.before.before.before.before.before.before.before.before.before.loop.at c.before.before.before.before.before.before.before.before.before.before.before.before.loop.left c.before.before.before.before.before.before.before.before.before.before.before.before.loop.pairs c.before.before.before.before.before.before.before.cell.given.0.0 c.before.before.before.before.before.before.before.cell.given.0.1.0 c.before.more2.given.0.0 c.before.before.before.before.before.before.before.before.before.find.result c.before.before.before.pair.result c.before.before.before.before.before.before.before.before.before.before.before.loop-test.true (c.before.before.before.before.before.before.before.before.before.find.ensures ∙ (λ i. find_in c.before.before.before.before.before.before.before.before.before.before.before.before.before.before.before.before.before.before.args.limit (rooms c.before.before.before.before.before.before.before.before.before.before.before.before.before.before.before.before.before.before.args.literal.now c.before.before.before.before.before.before.before.before.before.before.before.before.before.before.before.before.before.before.args.binding-cells.now c.before.before.before.before.before.before.before.before.before.before.before.before.before.before.before.before.before.before.args.binding-text.now c.before.before.before.before.before.before.before.before.before.before.before.before.before.before.before.before.before.before.args.cells.now c.before.before.before.before.before.before.before.before.before.before.before.before.before.before.before.before.before.before.args.text.now) (c.before.before.before.before.before.before.before.before.before.before.Cell-at.ensures i) c.before.before.before.before.before.before.before.before.before.before.before.before.before.before.before.before.before.before.args.there c.before.before.before.before.before.before.before.before.before.before.before.before.before.before.before.before.before.before.args.from c.before.before.before.before.before.before.before.before.before.before.before.before.before.before.before.before.before.before.args.length c.before.before.before.before.before.before.before.before.before.before.before.before.loop.pairs)) c.before.before.before.before.before.before.before.cell.given.1 (c.before.before.before.pair.ensures ∙ (λ i. equal_in c.before.before.before.before.before.before.before.before.before.before.before.before.before.before.before.before.before.before.args.depth c.before.before.before.before.before.before.before.before.before.before.before.before.before.before.before.before.before.before.args.limit (rooms c.before.before.before.before.before.before.before.before.before.before.before.before.before.before.before.before.before.before.args.literal.now c.before.before.before.before.before.before.before.before.before.before.before.before.before.before.before.before.before.before.args.binding-cells.now c.before.before.before.before.before.before.before.before.before.before.before.before.before.before.before.before.before.before.args.binding-text.now c.before.before.before.before.before.before.before.before.before.before.before.before.before.before.before.before.before.before.args.cells.now c.before.before.before.before.before.before.before.before.before.before.before.before.before.before.before.before.before.before.args.text.now) (c.before.before.before.before.before.cell-at2.ensures i) (c.before.before.before.before.cell-at3.ensures i) c.before.before.before.before.before.before.before.cell.given.0.1.0)) c.before.more2.given.1 ∙ c.before.before.before.before.before.before.before.before.before.before.before.before.loop.invariant.1
 
 pub entries-enum-known-more-3 : (t : ℕ) → entries-lts.Need-enum-known-more-3 (entries-claims t) (entries_at t) entries.Post entries-Inv-loop entries-μ-loop
 entries-enum-known-more-3 t c = search rules
 
 pub entries-returns-2 : (t : ℕ) → entries-lts.Need-returns-2 (entries-claims t) (entries_at t) entries.Post entries-Inv-loop entries-μ-loop
 unfolding cell_at
-entries-returns-2 t c = entries-out (λ (v w : Value) (j : ℕ). equal_in c.before.before.before.before.before.before.before.before.before.before.before.before.before.before.before.before.before.before.before.before.args.depth c.before.before.before.before.before.before.before.before.before.before.before.before.before.before.before.before.before.before.before.before.args.limit (rooms c.before.before.before.before.before.before.before.before.before.before.before.before.before.before.before.before.before.before.before.before.args.literal.now c.before.before.before.before.before.before.before.before.before.before.before.before.before.before.before.before.before.before.before.before.args.binding-cells.now c.before.before.before.before.before.before.before.before.before.before.before.before.before.before.before.before.before.before.before.before.args.binding-text.now c.before.before.before.before.before.before.before.before.before.before.before.before.before.before.before.before.before.before.before.before.args.cells.now c.before.before.before.before.before.before.before.before.before.before.before.before.before.before.before.before.before.before.before.before.args.text.now) v w j) c.before.before.before.before.before.before.before.before.before.before.before.before.before.before.before.before.before.before.before.before.args.limit (rooms c.before.before.before.before.before.before.before.before.before.before.before.before.before.before.before.before.before.before.before.before.args.literal.now c.before.before.before.before.before.before.before.before.before.before.before.before.before.before.before.before.before.before.before.before.args.binding-cells.now c.before.before.before.before.before.before.before.before.before.before.before.before.before.before.before.before.before.before.before.before.args.binding-text.now c.before.before.before.before.before.before.before.before.before.before.before.before.before.before.before.before.before.before.before.before.args.cells.now c.before.before.before.before.before.before.before.before.before.before.before.before.before.before.before.before.before.before.before.before.args.text.now) c.before.before.before.before.before.before.before.before.before.before.before.before.before.before.before.before.before.before.before.before.args.these.space c.before.before.before.before.before.before.before.before.before.before.before.before.before.before.before.before.before.before.before.before.args.those.space c.before.before.before.before.before.before.before.before.before.before.before.before.before.before.before.before.before.before.before.before.args.those.first c.before.before.before.before.before.before.before.before.before.before.before.before.before.before.before.before.before.before.before.before.args.those.length c.before.before.before.before.before.before.before.before.before.before.before.before.loop.at c.before.before.before.before.before.before.before.before.before.before.before.before.loop.left c.before.before.before.before.before.before.before.before.before.before.before.before.loop.pairs c.before.before.before.before.before.before.before.cell.given.0.0 c.before.before.before.before.before.before.before.cell.given.0.1.0 c.before.more3.given.0.0 c.before.before.before.before.before.before.before.before.before.find.result c.before.before.before.pair.result c.before.before.before.before.before.before.before.before.before.before.before.loop-test.true (c.before.before.before.before.before.before.before.before.before.find.ensures ∙ (λ i. find_in c.before.before.before.before.before.before.before.before.before.before.before.before.before.before.before.before.before.before.before.before.args.limit (rooms c.before.before.before.before.before.before.before.before.before.before.before.before.before.before.before.before.before.before.before.before.args.literal.now c.before.before.before.before.before.before.before.before.before.before.before.before.before.before.before.before.before.before.before.before.args.binding-cells.now c.before.before.before.before.before.before.before.before.before.before.before.before.before.before.before.before.before.before.before.before.args.binding-text.now c.before.before.before.before.before.before.before.before.before.before.before.before.before.before.before.before.before.before.before.before.args.cells.now c.before.before.before.before.before.before.before.before.before.before.before.before.before.before.before.before.before.before.before.before.args.text.now) (c.before.before.before.before.before.before.before.before.before.before.Cell-at.ensures i) c.before.before.before.before.before.before.before.before.before.before.before.before.before.before.before.before.before.before.before.before.args.those.space c.before.before.before.before.before.before.before.before.before.before.before.before.before.before.before.before.before.before.before.before.args.those.first c.before.before.before.before.before.before.before.before.before.before.before.before.before.before.before.before.before.before.before.before.args.those.length c.before.before.before.before.before.before.before.before.before.before.before.before.loop.pairs)) c.before.before.before.before.before.before.before.cell.given.1 (c.before.before.before.pair.ensures ∙ (λ i. equal_in c.before.before.before.before.before.before.before.before.before.before.before.before.before.before.before.before.before.before.before.before.args.depth c.before.before.before.before.before.before.before.before.before.before.before.before.before.before.before.before.before.before.before.before.args.limit (rooms c.before.before.before.before.before.before.before.before.before.before.before.before.before.before.before.before.before.before.before.before.args.literal.now c.before.before.before.before.before.before.before.before.before.before.before.before.before.before.before.before.before.before.before.before.args.binding-cells.now c.before.before.before.before.before.before.before.before.before.before.before.before.before.before.before.before.before.before.before.before.args.binding-text.now c.before.before.before.before.before.before.before.before.before.before.before.before.before.before.before.before.before.before.before.before.args.cells.now c.before.before.before.before.before.before.before.before.before.before.before.before.before.before.before.before.before.before.before.before.args.text.now) (c.before.before.before.before.before.cell-at2.ensures i) (c.before.before.before.before.cell-at3.ensures i) c.before.before.before.before.before.before.before.cell.given.0.1.0)) c.before.more3.given.1 ∙ c.before.before.before.before.before.before.before.before.before.before.before.before.loop.invariant.1
+entries-returns-2 t c = entries-out (λ (v w : Value) (j : ℕ). equal_in c.before.before.before.before.before.before.before.before.before.before.before.before.before.before.before.before.before.before.args.depth c.before.before.before.before.before.before.before.before.before.before.before.before.before.before.before.before.before.before.args.limit (rooms c.before.before.before.before.before.before.before.before.before.before.before.before.before.before.before.before.before.before.args.literal.now c.before.before.before.before.before.before.before.before.before.before.before.before.before.before.before.before.before.before.args.binding-cells.now c.before.before.before.before.before.before.before.before.before.before.before.before.before.before.before.before.before.before.args.binding-text.now c.before.before.before.before.before.before.before.before.before.before.before.before.before.before.before.before.before.before.args.cells.now c.before.before.before.before.before.before.before.before.before.before.before.before.before.before.before.before.before.before.args.text.now) v w j) c.before.before.before.before.before.before.before.before.before.before.before.before.before.before.before.before.before.before.args.limit (rooms c.before.before.before.before.before.before.before.before.before.before.before.before.before.before.before.before.before.before.args.literal.now c.before.before.before.before.before.before.before.before.before.before.before.before.before.before.before.before.before.before.args.binding-cells.now c.before.before.before.before.before.before.before.before.before.before.before.before.before.before.before.before.before.before.args.binding-text.now c.before.before.before.before.before.before.before.before.before.before.before.before.before.before.before.before.before.before.args.cells.now c.before.before.before.before.before.before.before.before.before.before.before.before.before.before.before.before.before.before.args.text.now) c.before.before.before.before.before.before.before.before.before.before.before.before.before.before.before.before.before.before.args.space c.before.before.before.before.before.before.before.before.before.before.before.before.before.before.before.before.before.before.args.there c.before.before.before.before.before.before.before.before.before.before.before.before.before.before.before.before.before.before.args.from c.before.before.before.before.before.before.before.before.before.before.before.before.before.before.before.before.before.before.args.length c.before.before.before.before.before.before.before.before.before.before.before.before.loop.at c.before.before.before.before.before.before.before.before.before.before.before.before.loop.left c.before.before.before.before.before.before.before.before.before.before.before.before.loop.pairs c.before.before.before.before.before.before.before.cell.given.0.0 c.before.before.before.before.before.before.before.cell.given.0.1.0 c.before.more3.given.0.0 c.before.before.before.before.before.before.before.before.before.find.result c.before.before.before.pair.result c.before.before.before.before.before.before.before.before.before.before.before.loop-test.true (c.before.before.before.before.before.before.before.before.before.find.ensures ∙ (λ i. find_in c.before.before.before.before.before.before.before.before.before.before.before.before.before.before.before.before.before.before.args.limit (rooms c.before.before.before.before.before.before.before.before.before.before.before.before.before.before.before.before.before.before.args.literal.now c.before.before.before.before.before.before.before.before.before.before.before.before.before.before.before.before.before.before.args.binding-cells.now c.before.before.before.before.before.before.before.before.before.before.before.before.before.before.before.before.before.before.args.binding-text.now c.before.before.before.before.before.before.before.before.before.before.before.before.before.before.before.before.before.before.args.cells.now c.before.before.before.before.before.before.before.before.before.before.before.before.before.before.before.before.before.before.args.text.now) (c.before.before.before.before.before.before.before.before.before.before.Cell-at.ensures i) c.before.before.before.before.before.before.before.before.before.before.before.before.before.before.before.before.before.before.args.there c.before.before.before.before.before.before.before.before.before.before.before.before.before.before.before.before.before.before.args.from c.before.before.before.before.before.before.before.before.before.before.before.before.before.before.before.before.before.before.args.length c.before.before.before.before.before.before.before.before.before.before.before.before.loop.pairs)) c.before.before.before.before.before.before.before.cell.given.1 (c.before.before.before.pair.ensures ∙ (λ i. equal_in c.before.before.before.before.before.before.before.before.before.before.before.before.before.before.before.before.before.before.args.depth c.before.before.before.before.before.before.before.before.before.before.before.before.before.before.before.before.before.before.args.limit (rooms c.before.before.before.before.before.before.before.before.before.before.before.before.before.before.before.before.before.before.args.literal.now c.before.before.before.before.before.before.before.before.before.before.before.before.before.before.before.before.before.before.args.binding-cells.now c.before.before.before.before.before.before.before.before.before.before.before.before.before.before.before.before.before.before.args.binding-text.now c.before.before.before.before.before.before.before.before.before.before.before.before.before.before.before.before.before.before.args.cells.now c.before.before.before.before.before.before.before.before.before.before.before.before.before.before.before.before.before.before.args.text.now) (c.before.before.before.before.before.cell-at2.ensures i) (c.before.before.before.before.cell-at3.ensures i) c.before.before.before.before.before.before.before.cell.given.0.1.0)) c.before.more3.given.1 ∙ c.before.before.before.before.before.before.before.before.before.before.before.before.loop.invariant.1
 
 pub entries-enum-known-looked : (t : ℕ) → entries-lts.Need-enum-known-looked (entries-claims t) (entries_at t) entries.Post entries-Inv-loop entries-μ-loop
 entries-enum-known-looked t c = search rules
 
 pub entries-returns-3 : (t : ℕ) → entries-lts.Need-returns-3 (entries-claims t) (entries_at t) entries.Post entries-Inv-loop entries-μ-loop
 unfolding cell_at
-entries-returns-3 t c = entries-missing (λ (v w : Value) (j : ℕ). equal_in c.before.before.before.before.before.before.before.before.before.before.before.before.before.before.args.depth c.before.before.before.before.before.before.before.before.before.before.before.before.before.before.args.limit (rooms c.before.before.before.before.before.before.before.before.before.before.before.before.before.before.args.literal.now c.before.before.before.before.before.before.before.before.before.before.before.before.before.before.args.binding-cells.now c.before.before.before.before.before.before.before.before.before.before.before.before.before.before.args.binding-text.now c.before.before.before.before.before.before.before.before.before.before.before.before.before.before.args.cells.now c.before.before.before.before.before.before.before.before.before.before.before.before.before.before.args.text.now) v w j) c.before.before.before.before.before.before.before.before.before.before.before.before.before.before.args.limit (rooms c.before.before.before.before.before.before.before.before.before.before.before.before.before.before.args.literal.now c.before.before.before.before.before.before.before.before.before.before.before.before.before.before.args.binding-cells.now c.before.before.before.before.before.before.before.before.before.before.before.before.before.before.args.binding-text.now c.before.before.before.before.before.before.before.before.before.before.before.before.before.before.args.cells.now c.before.before.before.before.before.before.before.before.before.before.before.before.before.before.args.text.now) c.before.before.before.before.before.before.before.before.before.before.before.before.before.before.args.these.space c.before.before.before.before.before.before.before.before.before.before.before.before.before.before.args.those.space c.before.before.before.before.before.before.before.before.before.before.before.before.before.before.args.those.first c.before.before.before.before.before.before.before.before.before.before.before.before.before.before.args.those.length c.before.before.before.before.before.before.loop.at c.before.before.before.before.before.before.loop.left c.before.before.before.before.before.before.loop.pairs c.before.looked.given.0.0 c.before.before.before.find.result c.before.before.before.before.before.loop-test.true (c.before.before.before.find.ensures ∙ (λ i. find_in c.before.before.before.before.before.before.before.before.before.before.before.before.before.before.args.limit (rooms c.before.before.before.before.before.before.before.before.before.before.before.before.before.before.args.literal.now c.before.before.before.before.before.before.before.before.before.before.before.before.before.before.args.binding-cells.now c.before.before.before.before.before.before.before.before.before.before.before.before.before.before.args.binding-text.now c.before.before.before.before.before.before.before.before.before.before.before.before.before.before.args.cells.now c.before.before.before.before.before.before.before.before.before.before.before.before.before.before.args.text.now) (c.before.before.before.before.Cell-at.ensures i) c.before.before.before.before.before.before.before.before.before.before.before.before.before.before.args.those.space c.before.before.before.before.before.before.before.before.before.before.before.before.before.before.args.those.first c.before.before.before.before.before.before.before.before.before.before.before.before.before.before.args.those.length c.before.before.before.before.before.before.loop.pairs)) c.before.looked.given.1 ∙ c.before.before.before.before.before.before.loop.invariant.1
+entries-returns-3 t c = entries-missing (λ (v w : Value) (j : ℕ). equal_in c.before.before.before.before.before.before.before.before.before.before.before.before.args.depth c.before.before.before.before.before.before.before.before.before.before.before.before.args.limit (rooms c.before.before.before.before.before.before.before.before.before.before.before.before.args.literal.now c.before.before.before.before.before.before.before.before.before.before.before.before.args.binding-cells.now c.before.before.before.before.before.before.before.before.before.before.before.before.args.binding-text.now c.before.before.before.before.before.before.before.before.before.before.before.before.args.cells.now c.before.before.before.before.before.before.before.before.before.before.before.before.args.text.now) v w j) c.before.before.before.before.before.before.before.before.before.before.before.before.args.limit (rooms c.before.before.before.before.before.before.before.before.before.before.before.before.args.literal.now c.before.before.before.before.before.before.before.before.before.before.before.before.args.binding-cells.now c.before.before.before.before.before.before.before.before.before.before.before.before.args.binding-text.now c.before.before.before.before.before.before.before.before.before.before.before.before.args.cells.now c.before.before.before.before.before.before.before.before.before.before.before.before.args.text.now) c.before.before.before.before.before.before.before.before.before.before.before.before.args.space c.before.before.before.before.before.before.before.before.before.before.before.before.args.there c.before.before.before.before.before.before.before.before.before.before.before.before.args.from c.before.before.before.before.before.before.before.before.before.before.before.before.args.length c.before.before.before.before.before.before.loop.at c.before.before.before.before.before.before.loop.left c.before.before.before.before.before.before.loop.pairs c.before.looked.given.0.0 c.before.before.before.find.result c.before.before.before.before.before.loop-test.true (c.before.before.before.find.ensures ∙ (λ i. find_in c.before.before.before.before.before.before.before.before.before.before.before.before.args.limit (rooms c.before.before.before.before.before.before.before.before.before.before.before.before.args.literal.now c.before.before.before.before.before.before.before.before.before.before.before.before.args.binding-cells.now c.before.before.before.before.before.before.before.before.before.before.before.before.args.binding-text.now c.before.before.before.before.before.before.before.before.before.before.before.before.args.cells.now c.before.before.before.before.before.before.before.before.before.before.before.before.args.text.now) (c.before.before.before.before.Cell-at.ensures i) c.before.before.before.before.before.before.before.before.before.before.before.before.args.there c.before.before.before.before.before.before.before.before.before.before.before.before.args.from c.before.before.before.before.before.before.before.before.before.before.before.before.args.length c.before.before.before.before.before.before.loop.pairs)) c.before.looked.given.1 ∙ c.before.before.before.before.before.before.loop.invariant.1
 
 pub entries-enum-known-looked-2 : (t : ℕ) → entries-lts.Need-enum-known-looked-2 (entries-claims t) (entries_at t) entries.Post entries-Inv-loop entries-μ-loop
 entries-enum-known-looked-2 t c = search rules
 
 pub entries-returns-4 : (t : ℕ) → entries-lts.Need-returns-4 (entries-claims t) (entries_at t) entries.Post entries-Inv-loop entries-μ-loop
 unfolding cell_at
-entries-returns-4 t c = entries-unfound (λ (v w : Value) (j : ℕ). equal_in c.before.before.before.before.before.before.before.before.before.before.before.before.before.before.args.depth c.before.before.before.before.before.before.before.before.before.before.before.before.before.before.args.limit (rooms c.before.before.before.before.before.before.before.before.before.before.before.before.before.before.args.literal.now c.before.before.before.before.before.before.before.before.before.before.before.before.before.before.args.binding-cells.now c.before.before.before.before.before.before.before.before.before.before.before.before.before.before.args.binding-text.now c.before.before.before.before.before.before.before.before.before.before.before.before.before.before.args.cells.now c.before.before.before.before.before.before.before.before.before.before.before.before.before.before.args.text.now) v w j) c.before.before.before.before.before.before.before.before.before.before.before.before.before.before.args.limit (rooms c.before.before.before.before.before.before.before.before.before.before.before.before.before.before.args.literal.now c.before.before.before.before.before.before.before.before.before.before.before.before.before.before.args.binding-cells.now c.before.before.before.before.before.before.before.before.before.before.before.before.before.before.args.binding-text.now c.before.before.before.before.before.before.before.before.before.before.before.before.before.before.args.cells.now c.before.before.before.before.before.before.before.before.before.before.before.before.before.before.args.text.now) c.before.before.before.before.before.before.before.before.before.before.before.before.before.before.args.these.space c.before.before.before.before.before.before.before.before.before.before.before.before.before.before.args.those.space c.before.before.before.before.before.before.before.before.before.before.before.before.before.before.args.those.first c.before.before.before.before.before.before.before.before.before.before.before.before.before.before.args.those.length c.before.before.before.before.before.before.loop.at c.before.before.before.before.before.before.loop.left c.before.before.before.before.before.before.loop.pairs c.before.looked2.given.0.0 c.before.before.before.find.result c.before.before.before.before.before.loop-test.true (c.before.before.before.find.ensures ∙ (λ i. find_in c.before.before.before.before.before.before.before.before.before.before.before.before.before.before.args.limit (rooms c.before.before.before.before.before.before.before.before.before.before.before.before.before.before.args.literal.now c.before.before.before.before.before.before.before.before.before.before.before.before.before.before.args.binding-cells.now c.before.before.before.before.before.before.before.before.before.before.before.before.before.before.args.binding-text.now c.before.before.before.before.before.before.before.before.before.before.before.before.before.before.args.cells.now c.before.before.before.before.before.before.before.before.before.before.before.before.before.before.args.text.now) (c.before.before.before.before.Cell-at.ensures i) c.before.before.before.before.before.before.before.before.before.before.before.before.before.before.args.those.space c.before.before.before.before.before.before.before.before.before.before.before.before.before.before.args.those.first c.before.before.before.before.before.before.before.before.before.before.before.before.before.before.args.those.length c.before.before.before.before.before.before.loop.pairs)) c.before.looked2.given.1 ∙ c.before.before.before.before.before.before.loop.invariant.1
+entries-returns-4 t c = entries-unfound (λ (v w : Value) (j : ℕ). equal_in c.before.before.before.before.before.before.before.before.before.before.before.before.args.depth c.before.before.before.before.before.before.before.before.before.before.before.before.args.limit (rooms c.before.before.before.before.before.before.before.before.before.before.before.before.args.literal.now c.before.before.before.before.before.before.before.before.before.before.before.before.args.binding-cells.now c.before.before.before.before.before.before.before.before.before.before.before.before.args.binding-text.now c.before.before.before.before.before.before.before.before.before.before.before.before.args.cells.now c.before.before.before.before.before.before.before.before.before.before.before.before.args.text.now) v w j) c.before.before.before.before.before.before.before.before.before.before.before.before.args.limit (rooms c.before.before.before.before.before.before.before.before.before.before.before.before.args.literal.now c.before.before.before.before.before.before.before.before.before.before.before.before.args.binding-cells.now c.before.before.before.before.before.before.before.before.before.before.before.before.args.binding-text.now c.before.before.before.before.before.before.before.before.before.before.before.before.args.cells.now c.before.before.before.before.before.before.before.before.before.before.before.before.args.text.now) c.before.before.before.before.before.before.before.before.before.before.before.before.args.space c.before.before.before.before.before.before.before.before.before.before.before.before.args.there c.before.before.before.before.before.before.before.before.before.before.before.before.args.from c.before.before.before.before.before.before.before.before.before.before.before.before.args.length c.before.before.before.before.before.before.loop.at c.before.before.before.before.before.before.loop.left c.before.before.before.before.before.before.loop.pairs c.before.looked2.given.0.0 c.before.before.before.find.result c.before.before.before.before.before.loop-test.true (c.before.before.before.find.ensures ∙ (λ i. find_in c.before.before.before.before.before.before.before.before.before.before.before.before.args.limit (rooms c.before.before.before.before.before.before.before.before.before.before.before.before.args.literal.now c.before.before.before.before.before.before.before.before.before.before.before.before.args.binding-cells.now c.before.before.before.before.before.before.before.before.before.before.before.before.args.binding-text.now c.before.before.before.before.before.before.before.before.before.before.before.before.args.cells.now c.before.before.before.before.before.before.before.before.before.before.before.before.args.text.now) (c.before.before.before.before.Cell-at.ensures i) c.before.before.before.before.before.before.before.before.before.before.before.before.args.there c.before.before.before.before.before.before.before.before.before.before.before.before.args.from c.before.before.before.before.before.before.before.before.before.before.before.before.args.length c.before.before.before.before.before.before.loop.pairs)) c.before.looked2.given.1 ∙ c.before.before.before.before.before.before.loop.invariant.1
 
 pub entries-add-at : (t : ℕ) → entries-lts.Need-overflow-add-at (entries-claims t) (entries_at t) entries.Post entries-Inv-loop entries-μ-loop
 entries-add-at t c = search rules
@@ -91,7 +85,7 @@ entries-loop-less t c = search rules
 
 pub entries-loop-again : (t : ℕ) → entries-lts.Need-loop-preserved (entries-claims t) (entries_at t) entries.Post entries-Inv-loop entries-μ-loop
 unfolding cell_at
-entries-loop-again t c = (omega arith, entries-on (λ (v w : Value) (j : ℕ). equal_in c.before.before.before.before.before.before.before.before.before.before.before.before.before.before.before.before.before.before.before.before.args.depth c.before.before.before.before.before.before.before.before.before.before.before.before.before.before.before.before.before.before.before.before.args.limit (rooms c.before.before.before.before.before.before.before.before.before.before.before.before.before.before.before.before.before.before.before.before.args.literal.now c.before.before.before.before.before.before.before.before.before.before.before.before.before.before.before.before.before.before.before.before.args.binding-cells.now c.before.before.before.before.before.before.before.before.before.before.before.before.before.before.before.before.before.before.before.before.args.binding-text.now c.before.before.before.before.before.before.before.before.before.before.before.before.before.before.before.before.before.before.before.before.args.cells.now c.before.before.before.before.before.before.before.before.before.before.before.before.before.before.before.before.before.before.before.before.args.text.now) v w j) c.before.before.before.before.before.before.before.before.before.before.before.before.before.before.before.before.before.before.before.before.args.limit (rooms c.before.before.before.before.before.before.before.before.before.before.before.before.before.before.before.before.before.before.before.before.args.literal.now c.before.before.before.before.before.before.before.before.before.before.before.before.before.before.before.before.before.before.before.before.args.binding-cells.now c.before.before.before.before.before.before.before.before.before.before.before.before.before.before.before.before.before.before.before.before.args.binding-text.now c.before.before.before.before.before.before.before.before.before.before.before.before.before.before.before.before.before.before.before.before.args.cells.now c.before.before.before.before.before.before.before.before.before.before.before.before.before.before.before.before.before.before.before.before.args.text.now) c.before.before.before.before.before.before.before.before.before.before.before.before.before.before.before.before.before.before.before.before.args.these.space c.before.before.before.before.before.before.before.before.before.before.before.before.before.before.before.before.before.before.before.before.args.those.space c.before.before.before.before.before.before.before.before.before.before.before.before.before.before.before.before.before.before.before.before.args.those.first c.before.before.before.before.before.before.before.before.before.before.before.before.before.before.before.before.before.before.before.before.args.those.length c.before.before.before.before.before.before.before.before.before.before.before.before.loop.at c.before.before.before.before.before.before.before.before.before.before.before.before.loop.left c.before.before.before.before.before.before.before.before.before.before.before.before.loop.pairs c.before.before.before.before.before.before.before.cell.given.0.0 c.before.before.before.before.before.before.before.cell.given.0.1.0 c.before.more.given.0.0 c.before.before.before.before.before.before.before.before.before.find.result c.before.before.before.pair.result c.before.before.before.before.before.before.before.before.before.before.before.loop-test.true (c.before.before.before.before.before.before.before.before.before.find.ensures ∙ (λ i. find_in c.before.before.before.before.before.before.before.before.before.before.before.before.before.before.before.before.before.before.before.before.args.limit (rooms c.before.before.before.before.before.before.before.before.before.before.before.before.before.before.before.before.before.before.before.before.args.literal.now c.before.before.before.before.before.before.before.before.before.before.before.before.before.before.before.before.before.before.before.before.args.binding-cells.now c.before.before.before.before.before.before.before.before.before.before.before.before.before.before.before.before.before.before.before.before.args.binding-text.now c.before.before.before.before.before.before.before.before.before.before.before.before.before.before.before.before.before.before.before.before.args.cells.now c.before.before.before.before.before.before.before.before.before.before.before.before.before.before.before.before.before.before.before.before.args.text.now) (c.before.before.before.before.before.before.before.before.before.before.Cell-at.ensures i) c.before.before.before.before.before.before.before.before.before.before.before.before.before.before.before.before.before.before.before.before.args.those.space c.before.before.before.before.before.before.before.before.before.before.before.before.before.before.before.before.before.before.before.before.args.those.first c.before.before.before.before.before.before.before.before.before.before.before.before.before.before.before.before.before.before.before.before.args.those.length c.before.before.before.before.before.before.before.before.before.before.before.before.loop.pairs)) c.before.before.before.before.before.before.before.cell.given.1 (c.before.before.before.pair.ensures ∙ (λ i. equal_in c.before.before.before.before.before.before.before.before.before.before.before.before.before.before.before.before.before.before.before.before.args.depth c.before.before.before.before.before.before.before.before.before.before.before.before.before.before.before.before.before.before.before.before.args.limit (rooms c.before.before.before.before.before.before.before.before.before.before.before.before.before.before.before.before.before.before.before.before.args.literal.now c.before.before.before.before.before.before.before.before.before.before.before.before.before.before.before.before.before.before.before.before.args.binding-cells.now c.before.before.before.before.before.before.before.before.before.before.before.before.before.before.before.before.before.before.before.before.args.binding-text.now c.before.before.before.before.before.before.before.before.before.before.before.before.before.before.before.before.before.before.before.before.args.cells.now c.before.before.before.before.before.before.before.before.before.before.before.before.before.before.before.before.before.before.before.before.args.text.now) (c.before.before.before.before.before.cell-at2.ensures i) (c.before.before.before.before.cell-at3.ensures i) c.before.before.before.before.before.before.before.cell.given.0.1.0)) c.before.more.given.1 ∙ c.before.before.before.before.before.before.before.before.before.before.before.before.loop.invariant.1)
+entries-loop-again t c = (omega arith, entries-on (λ (v w : Value) (j : ℕ). equal_in c.before.before.before.before.before.before.before.before.before.before.before.before.before.before.before.before.before.before.args.depth c.before.before.before.before.before.before.before.before.before.before.before.before.before.before.before.before.before.before.args.limit (rooms c.before.before.before.before.before.before.before.before.before.before.before.before.before.before.before.before.before.before.args.literal.now c.before.before.before.before.before.before.before.before.before.before.before.before.before.before.before.before.before.before.args.binding-cells.now c.before.before.before.before.before.before.before.before.before.before.before.before.before.before.before.before.before.before.args.binding-text.now c.before.before.before.before.before.before.before.before.before.before.before.before.before.before.before.before.before.before.args.cells.now c.before.before.before.before.before.before.before.before.before.before.before.before.before.before.before.before.before.before.args.text.now) v w j) c.before.before.before.before.before.before.before.before.before.before.before.before.before.before.before.before.before.before.args.limit (rooms c.before.before.before.before.before.before.before.before.before.before.before.before.before.before.before.before.before.before.args.literal.now c.before.before.before.before.before.before.before.before.before.before.before.before.before.before.before.before.before.before.args.binding-cells.now c.before.before.before.before.before.before.before.before.before.before.before.before.before.before.before.before.before.before.args.binding-text.now c.before.before.before.before.before.before.before.before.before.before.before.before.before.before.before.before.before.before.args.cells.now c.before.before.before.before.before.before.before.before.before.before.before.before.before.before.before.before.before.before.args.text.now) c.before.before.before.before.before.before.before.before.before.before.before.before.before.before.before.before.before.before.args.space c.before.before.before.before.before.before.before.before.before.before.before.before.before.before.before.before.before.before.args.there c.before.before.before.before.before.before.before.before.before.before.before.before.before.before.before.before.before.before.args.from c.before.before.before.before.before.before.before.before.before.before.before.before.before.before.before.before.before.before.args.length c.before.before.before.before.before.before.before.before.before.before.before.before.loop.at c.before.before.before.before.before.before.before.before.before.before.before.before.loop.left c.before.before.before.before.before.before.before.before.before.before.before.before.loop.pairs c.before.before.before.before.before.before.before.cell.given.0.0 c.before.before.before.before.before.before.before.cell.given.0.1.0 c.before.more.given.0.0 c.before.before.before.before.before.before.before.before.before.find.result c.before.before.before.pair.result c.before.before.before.before.before.before.before.before.before.before.before.loop-test.true (c.before.before.before.before.before.before.before.before.before.find.ensures ∙ (λ i. find_in c.before.before.before.before.before.before.before.before.before.before.before.before.before.before.before.before.before.before.args.limit (rooms c.before.before.before.before.before.before.before.before.before.before.before.before.before.before.before.before.before.before.args.literal.now c.before.before.before.before.before.before.before.before.before.before.before.before.before.before.before.before.before.before.args.binding-cells.now c.before.before.before.before.before.before.before.before.before.before.before.before.before.before.before.before.before.before.args.binding-text.now c.before.before.before.before.before.before.before.before.before.before.before.before.before.before.before.before.before.before.args.cells.now c.before.before.before.before.before.before.before.before.before.before.before.before.before.before.before.before.before.before.args.text.now) (c.before.before.before.before.before.before.before.before.before.before.Cell-at.ensures i) c.before.before.before.before.before.before.before.before.before.before.before.before.before.before.before.before.before.before.args.there c.before.before.before.before.before.before.before.before.before.before.before.before.before.before.before.before.before.before.args.from c.before.before.before.before.before.before.before.before.before.before.before.before.before.before.before.before.before.before.args.length c.before.before.before.before.before.before.before.before.before.before.before.before.loop.pairs)) c.before.before.before.before.before.before.before.cell.given.1 (c.before.before.before.pair.ensures ∙ (λ i. equal_in c.before.before.before.before.before.before.before.before.before.before.before.before.before.before.before.before.before.before.args.depth c.before.before.before.before.before.before.before.before.before.before.before.before.before.before.before.before.before.before.args.limit (rooms c.before.before.before.before.before.before.before.before.before.before.before.before.before.before.before.before.before.before.args.literal.now c.before.before.before.before.before.before.before.before.before.before.before.before.before.before.before.before.before.before.args.binding-cells.now c.before.before.before.before.before.before.before.before.before.before.before.before.before.before.before.before.before.before.args.binding-text.now c.before.before.before.before.before.before.before.before.before.before.before.before.before.before.before.before.before.before.args.cells.now c.before.before.before.before.before.before.before.before.before.before.before.before.before.before.before.before.before.before.args.text.now) (c.before.before.before.before.before.cell-at2.ensures i) (c.before.before.before.before.cell-at3.ensures i) c.before.before.before.before.before.before.before.cell.given.0.1.0)) c.before.more.given.1 ∙ c.before.before.before.before.before.before.before.before.before.before.before.before.loop.invariant.1)
 
 pub entries-returns-5 : (t : ℕ) → entries-lts.Need-returns-5 (entries-claims t) (entries_at t) entries.Post entries-Inv-loop entries-μ-loop
-entries-returns-5 t c = entries_none (λ (v w : Value) (j : ℕ). equal_in c.before.before.before.before.before.before.before.before.before.args.depth c.before.before.before.before.before.before.before.before.before.args.limit (rooms c.before.before.before.before.before.before.before.before.before.args.literal.now c.before.before.before.before.before.before.before.before.before.args.binding-cells.now c.before.before.before.before.before.before.before.before.before.args.binding-text.now c.before.before.before.before.before.before.before.before.before.args.cells.now c.before.before.before.before.before.before.before.before.before.args.text.now) v w j) c.before.before.before.before.before.before.before.before.before.args.limit (rooms c.before.before.before.before.before.before.before.before.before.args.literal.now c.before.before.before.before.before.before.before.before.before.args.binding-cells.now c.before.before.before.before.before.before.before.before.before.args.binding-text.now c.before.before.before.before.before.before.before.before.before.args.cells.now c.before.before.before.before.before.before.before.before.before.args.text.now) c.before.before.before.before.before.before.before.before.before.args.these.space c.before.before.before.before.before.before.before.before.before.args.those.space c.before.before.before.before.before.before.before.before.before.args.those.first c.before.before.before.before.before.before.before.before.before.args.those.length c.before.loop.at c.before.loop.left c.before.loop.pairs c.loop-test.false ∙ c.before.loop.invariant.1
+entries-returns-5 t c = entries_none (λ (v w : Value) (j : ℕ). equal_in c.before.before.before.before.before.before.before.args.depth c.before.before.before.before.before.before.before.args.limit (rooms c.before.before.before.before.before.before.before.args.literal.now c.before.before.before.before.before.before.before.args.binding-cells.now c.before.before.before.before.before.before.before.args.binding-text.now c.before.before.before.before.before.before.before.args.cells.now c.before.before.before.before.before.before.before.args.text.now) v w j) c.before.before.before.before.before.before.before.args.limit (rooms c.before.before.before.before.before.before.before.args.literal.now c.before.before.before.before.before.before.before.args.binding-cells.now c.before.before.before.before.before.before.before.args.binding-text.now c.before.before.before.before.before.before.before.args.cells.now c.before.before.before.before.before.before.before.args.text.now) c.before.before.before.before.before.before.before.args.space c.before.before.before.before.before.before.before.args.there c.before.before.before.before.before.before.before.args.from c.before.before.before.before.before.before.before.args.length c.before.loop.at c.before.loop.left c.before.loop.pairs c.loop-test.false ∙ c.before.loop.invariant.1

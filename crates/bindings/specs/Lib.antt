@@ -1,0 +1,2 @@
+-- What the contracts cite: bringing in (`Bringing`).
+pub mod Bringing
