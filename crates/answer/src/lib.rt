@@ -13,7 +13,7 @@ use rooms_taking::{clear_cells, clear_text};
 
 const MOST_STEPS: usize = 1000000;
 
-#[derive(Drop)]
+#[derive(Clone, Copy)]
 pub enum Answer {
     // A refusal's number, and the place at fault.
     Refused(u8, usize),

@@ -13,7 +13,7 @@ const OPTIONAL_OF: u8 = 15;
 
 const ABSENT: u8 = 16;
 
-#[derive(Drop)]
+#[derive(Clone, Copy)]
 pub enum Truth {
     Is(bool),
     NoBool,

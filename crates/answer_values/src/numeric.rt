@@ -8,7 +8,7 @@ use numbers::double::to_bits;
 use numbers::order::Number;
 use rooms::value::{Plain, Value, plain_of};
 
-#[derive(Drop)]
+#[derive(Clone, Copy)]
 pub enum Numeric {
     Int(i64),
     Uint(u64),

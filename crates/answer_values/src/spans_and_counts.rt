@@ -5,7 +5,7 @@ ghost use Rattle.answer_values.specs.SpansAndCounts.{span_in, count_in};
 
 use rooms::value::{Parts, Plain, TextSpace, Value, parts_of, plain_of};
 
-#[derive(Drop)]
+#[derive(Clone, Copy)]
 pub enum Span {
     // The space, the first byte and the length.
     At(TextSpace, u16, u16),

@@ -14,7 +14,7 @@ use table_check::refusals::{
     BINDING_ROOM_FULL, NAME_BOUND, NOT_A_LITERAL, UNSOUND_BINDING, WRONG_FIELD,
 };
 
-#[derive(Drop)]
+#[derive(Clone, Copy)]
 pub enum Answer {
     Done,
     // A refusal's number, and the place at fault.
@@ -22,7 +22,7 @@ pub enum Answer {
 }
 
 // The answer, with the bindings afterwards: of a refusal, those that were.
-#[derive(Drop)]
+#[derive(Clone, Copy)]
 pub struct Brought {
     pub answer: Answer,
     pub bindings: Bindings,

@@ -18,7 +18,7 @@ use table_layout::kinds::{LIST, MAP};
 use table_layout::outline::{end_at, first_operand, kind_at};
 
 // What was laid down, and how much is used afterwards.
-#[derive(Drop)]
+#[derive(Clone, Copy)]
 pub struct Laid {
     pub value: Value,
     pub cells: usize,
@@ -26,7 +26,7 @@ pub struct Laid {
 }
 
 // The parts of a container: the deepest nesting among them, and how much is used afterwards.
-#[derive(Drop)]
+#[derive(Clone, Copy)]
 struct Row {
     nesting: u8,
     cells: usize,

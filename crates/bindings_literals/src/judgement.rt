@@ -4,13 +4,13 @@ ghost use Rattle.std.specs.Prelude.{◌≡◌, ◌+◌, ◌<◌, max};
 ghost use Rattle.bindings_literals.specs.Judging.{first_of, joined_of, with_key, deepened_of, nothing_judged};
 
 // The place of a record at fault, or that there is none.
-#[derive(Drop)]
+#[derive(Clone, Copy)]
 pub enum Fault {
     At(usize),
     Nowhere,
 }
 
-#[derive(Drop)]
+#[derive(Clone, Copy)]
 pub struct Judged {
     // The first record that is no literal, List or Map.
     pub other: Fault,

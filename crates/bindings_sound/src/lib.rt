@@ -14,14 +14,14 @@ use rooms_cells::read_cell;
 use rooms_taking::{cell_room, text_room};
 
 // What the names hold, and how much of the lent cells and text is used.
-#[derive(Drop)]
+#[derive(Clone, Copy)]
 pub struct Bindings {
     pub scope: Scope,
     pub cells: usize,
     pub bytes: usize,
 }
 
-#[derive(Drop)]
+#[derive(Clone, Copy)]
 pub enum Soundness {
     Sound,
     // The first bad cell; 0 where no cell is bad, but a slot or a used count.

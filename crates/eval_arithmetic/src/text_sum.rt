@@ -12,7 +12,7 @@ use rooms::value::{Plain, TextSpace, Value, plain_of};
 use rooms_taking::Taken;
 
 // What two texts make, one after the other at the end of the evaluation's text.
-#[derive(Drop)]
+#[derive(Clone, Copy)]
 pub enum Joined {
     At(u16, u16, Used),
     Full,

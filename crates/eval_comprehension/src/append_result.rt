@@ -15,7 +15,7 @@ use rooms_taking::{Taken, take_cells};
 pub const MOST_RUNS: usize = 2048;
 
 // How many runs of cells, how many elements in them, and the nesting of a list of those.
-#[derive(Drop)]
+#[derive(Clone, Copy)]
 pub struct Collected {
     pub runs: usize,
     pub count: usize,

@@ -9,7 +9,7 @@ use rooms_taking::copying::copy_cells;
 use rooms_taking::{Taken, take_cells};
 
 // A turn's elements: their first cell, how many, and the nesting of their list.
-#[derive(Drop)]
+#[derive(Clone, Copy)]
 pub enum Gather {
     Run(u16, u16, u8, Used),
     Ends(Outcome),

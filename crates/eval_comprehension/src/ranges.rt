@@ -7,7 +7,7 @@ ghost use Rattle.eval_comprehension.specs.Ranges.{range_seen};
 use rooms::value::{CellSpace, Parts, Value, parts_of};
 
 // What is iterated over: space, first cell, how many, and how far from one to the next.
-#[derive(Drop)]
+#[derive(Clone, Copy)]
 pub enum Range {
     Over(CellSpace, u16, u16, u16),
     Not,

@@ -12,21 +12,21 @@ use rooms::value::Value;
 // ---- pending errors
 
 // A step of `accumulator && ..` or `accumulator || ..` holds errors pending.
-#[derive(Drop)]
+#[derive(Clone, Copy)]
 pub enum Folds {
     With(Fold),
     No,
 }
 
 // An error that a later item may still clear, with its place.
-#[derive(Drop)]
+#[derive(Clone, Copy)]
 pub enum Pending {
     Nothing,
     Held(Error, usize),
 }
 
 // What becomes of a step's outcome.
-#[derive(Drop)]
+#[derive(Clone, Copy)]
 pub enum Step {
     Bind(Value, Used),
     Hold(Pending, Used),

@@ -13,7 +13,7 @@ use rooms::value::{CellSpace, DEEPEST, Value, is_key};
 use rooms_taking::Taken;
 
 // The cells of a record that begins: the first of them, and how many parts it has.
-#[derive(Drop)]
+#[derive(Clone, Copy)]
 pub enum Begun {
     At(u16, u16, Used),
     Full,
@@ -34,7 +34,7 @@ pub fn begin(cells: &mut [u64], parts: usize, count: usize, used: Used) -> Begun
 // ---- marks
 
 // What an element or an entry's value adds.
-#[derive(Drop)]
+#[derive(Clone, Copy)]
 pub enum Part {
     Is(Value),
     Nothing,
@@ -43,7 +43,7 @@ pub enum Part {
 // ---- elements
 
 // The parts that are ready: how many, and how deep the deepest nests.
-#[derive(Drop)]
+#[derive(Clone, Copy)]
 pub struct Ready {
     pub count: usize,
     pub deep: u8,
@@ -71,7 +71,7 @@ pub fn whole_list(first: u16, ready: Ready, used: Used) -> Outcome
 // ---- entries
 
 // A key that may be one, or what goes out in its place.
-#[derive(Drop)]
+#[derive(Clone, Copy)]
 pub enum Key {
     Is(Value, Used),
     Ends(Outcome),
@@ -93,7 +93,7 @@ pub fn key_of(operand: Outcome, at: usize) -> Key
     }
 }
 
-#[derive(Drop)]
+#[derive(Clone, Copy)]
 pub enum Entry {
     Made(Ready, Used),
     Ends(Outcome),

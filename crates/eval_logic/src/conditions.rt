@@ -6,7 +6,7 @@ use eval_outcomes::outcomes::{Truth, truth_of};
 use machine::outcome::{Error, Outcome, Used};
 
 // What a condition or a guard says, or the outcome that is the answer instead.
-#[derive(Drop)]
+#[derive(Clone, Copy)]
 pub enum Asked {
     Holds(Used),
     Fails(Used),

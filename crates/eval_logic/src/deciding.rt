@@ -37,7 +37,7 @@ pub fn absorbs(fold: Fold, seen: Truth) -> bool
 }
 
 // Whether the right operand is begun; if not, the left outcome is the answer.
-#[derive(Drop)]
+#[derive(Clone, Copy)]
 pub enum Go {
     Stop,
     On(Used),

@@ -1,18 +1,18 @@
 // The operators and functions of records with operands.
-#[derive(Drop)]
+#[derive(Clone, Copy)]
 pub enum Unary {
     Not,
     Negate,
     NotStrictlyFalse,
 }
 
-#[derive(Drop)]
+#[derive(Clone, Copy)]
 pub enum Fold {
     And,
     Or,
 }
 
-#[derive(Drop)]
+#[derive(Clone, Copy)]
 pub enum Arith {
     Add,
     Subtract,
@@ -21,7 +21,7 @@ pub enum Arith {
     Remainder,
 }
 
-#[derive(Drop)]
+#[derive(Clone, Copy)]
 pub enum Comparison {
     Less,
     LessEquals,
@@ -29,7 +29,7 @@ pub enum Comparison {
     GreaterEquals,
 }
 
-#[derive(Drop)]
+#[derive(Clone, Copy)]
 pub enum Binary {
     Logic(Fold),
     Equals,
@@ -43,7 +43,7 @@ pub enum Binary {
 }
 
 // The functions of one operand.
-#[derive(Drop)]
+#[derive(Clone, Copy)]
 pub enum Function {
     Size,
     Of,

@@ -76,7 +76,7 @@ pub fn out_of_cells(used: Used) -> Outcome
 }
 
 // What a value is as a Bool.
-#[derive(Drop)]
+#[derive(Clone, Copy)]
 pub enum Truth {
     Yes,
     No,
@@ -104,7 +104,7 @@ pub fn truth_of(v: Value) -> Truth
 }
 
 // What a value is as an Optional.
-#[derive(Drop)]
+#[derive(Clone, Copy)]
 pub enum Optional {
     Not,
     None,

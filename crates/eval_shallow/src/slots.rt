@@ -10,7 +10,7 @@ use table_layout::kinds::{BINARY, FUNCTION, HAS_VALUE, OPTIONAL_OF, SELECT, SIZE
 use table_layout::outline::{end_at, first_operand, kind_at};
 
 // The places of the operands of an operator, a select or a function of one argument.
-#[derive(Drop)]
+#[derive(Clone, Copy)]
 pub enum Sides {
     Neither,
     One(usize),
@@ -18,14 +18,14 @@ pub enum Sides {
 }
 
 // The slots of two literals or names; 0 for a literal and where there is no second, whose value is not looked at.
-#[derive(Drop)]
+#[derive(Clone, Copy)]
 pub enum Pair {
     No,
     Slots(usize, usize),
 }
 
 // Those of two such pairs.
-#[derive(Drop)]
+#[derive(Clone, Copy)]
 pub enum Quad {
     No,
     Slots(usize, usize, usize, usize),

@@ -18,7 +18,7 @@ use table_layout::kinds::{ADD, AND, BINARY, CONDITIONAL, LIST, NAME, OR};
 use table_layout::outline::{end_at, first_operand, kind_at};
 
 // The names and the operands of a comprehension that its loop needs.
-#[derive(Drop)]
+#[derive(Clone, Copy)]
 pub struct Places {
     pub accumulator: usize,
     pub item: usize,
@@ -81,7 +81,7 @@ pub fn folds_at(table: &[u8], literal: &[u8], step: usize, accumulator: usize) -
 // ---- the append path
 
 // Where the items list stands; the place of a guard comes before it.
-#[derive(Drop)]
+#[derive(Clone, Copy)]
 pub enum Path {
     Plain(usize),
     Guarded(usize, usize),
@@ -89,7 +89,7 @@ pub enum Path {
 }
 
 // A List record that is appended to the accumulator.
-#[derive(Drop)]
+#[derive(Clone, Copy)]
 pub enum Listed {
     At(usize),
     No,

@@ -59,7 +59,7 @@ pub fn binary_of(number: u8) -> Binary
 // ---- which record it is
 
 // How a record is evaluated.
-#[derive(Drop)]
+#[derive(Clone, Copy)]
 pub enum Shape {
     // A literal or a name.
     Leaf,

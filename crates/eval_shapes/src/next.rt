@@ -8,7 +8,7 @@ use eval_outcomes::operators::{Binary, Function, Unary};
 use machine::outcome::{Outcome, Used};
 
 // One operand is begun, or two.
-#[derive(Drop)]
+#[derive(Clone, Copy)]
 pub enum Fixed {
     Unary(Unary),
     Binary(Binary),
@@ -20,7 +20,7 @@ pub enum Fixed {
 }
 
 // The place of another operand to begin, or the answer.
-#[derive(Drop)]
+#[derive(Clone, Copy)]
 pub enum Next {
     At(usize, Used),
     Stop(Outcome),

@@ -4,14 +4,14 @@ use numbers::error::ArithmeticError;
 use rooms::value::Value;
 
 // Steps made, cells taken, bytes of text written.
-#[derive(Drop)]
+#[derive(Clone, Copy)]
 pub struct Used {
     pub steps: usize,
     pub cells: usize,
     pub bytes: usize,
 }
 
-#[derive(Drop)]
+#[derive(Clone, Copy)]
 pub enum Error {
     UndeclaredReference,
     // UnexpectedType: a Bool is wanted.
@@ -30,7 +30,7 @@ pub enum Error {
     IterableWanted,
 }
 
-#[derive(Drop)]
+#[derive(Clone, Copy)]
 pub enum Limit {
     Steps,
     Cells,
@@ -38,7 +38,7 @@ pub enum Limit {
     Nesting,
 }
 
-#[derive(Drop)]
+#[derive(Clone, Copy)]
 pub enum Outcome {
     Value(Value, Used),
     Error(Error, usize, Used),

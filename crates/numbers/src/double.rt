@@ -5,7 +5,7 @@ ghost use Rattle.numbers.specs.Double.{bits_of, double_of, add_of, sub_of, mul_o
 ghost use Rattle.std.specs.Float.{binary64};
 ghost use Rattle.std.specs.Float.Ieee.{to_bits, of_bits};
 
-#[derive(Drop)]
+#[derive(Clone, Copy)]
 pub enum Double {
     // Every number and infinity. (A float NaN here stands for the NaN that arithmetic gives.)
     Plain(f64),

@@ -2,7 +2,7 @@
 ghost use Rattle.std.specs.Prelude.{◌≡◌};
 ghost use Rattle.numbers.specs.Error.{number_of};
 
-#[derive(Drop)]
+#[derive(Clone, Copy)]
 pub enum ArithmeticError {
     Overflow,
     DivisionByZero,

@@ -5,7 +5,7 @@ ghost use Rattle.numbers.specs.Int.{answer, add_of, sub_of, mul_of, neg_of, div_
 use crate::error::ArithmeticError;
 use crate::uint::UintAnswer;
 
-#[derive(Drop)]
+#[derive(Clone, Copy)]
 pub enum IntAnswer {
     Value(i64),
     Error(ArithmeticError),

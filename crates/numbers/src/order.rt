@@ -1,14 +1,14 @@
 // A number of any kind, and how two of them stand.
 use crate::double::Double;
 
-#[derive(Drop)]
+#[derive(Clone, Copy)]
 pub enum Number {
     Int(i64),
     Uint(u64),
     Double(Double),
 }
 
-#[derive(Drop)]
+#[derive(Clone, Copy)]
 pub enum Order {
     Less,
     Equal,

@@ -4,7 +4,7 @@ ghost use Rattle.numbers.specs.Uint.{add_of, sub_of, mul_of, div_of, rem_of};
 
 use crate::error::ArithmeticError;
 
-#[derive(Drop)]
+#[derive(Clone, Copy)]
 pub enum UintAnswer {
     Value(u64),
     Error(ArithmeticError),

@@ -74,7 +74,7 @@ fn signed_sizes(left: bool, a: u64, right: bool, b: u64) -> Order
 }
 
 // The size of a Double cut to a whole number, and whether that cut anything off; or 2 ^ 64 and above.
-#[derive(Drop)]
+#[derive(Clone, Copy)]
 enum Size {
     Parts(u64, bool),
     Huge,

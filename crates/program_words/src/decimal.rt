@@ -4,7 +4,7 @@ ghost use Rattle.program_words.specs.Decimal.{number_of};
 ghost use Rattle.program_words.specs.Decimal.{longer as Decimal·longer};
 
 // The number, or that the word spells none.
-#[derive(Drop)]
+#[derive(Clone, Copy)]
 pub enum Number {
     Is(usize),
     No,

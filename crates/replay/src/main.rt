@@ -70,7 +70,7 @@ fn answer_room() -> [u8; LONGEST_LINE]
 }
 
 // Kept between two parts of the input: how much of the next line was read, and what the lines before left.
-#[derive(Drop)]
+#[derive(Clone, Copy)]
 struct State {
     length: usize,
     bench: Bench,

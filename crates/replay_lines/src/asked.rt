@@ -3,7 +3,7 @@ use crate::line::is_over;
 use crate::spelled::{Spelled, bytes_from, number_from};
 
 // What an `eval` line lends, and how many bytes it spells.
-#[derive(Drop)]
+#[derive(Clone, Copy)]
 pub struct Lent {
     pub steps: usize,
     pub cells: usize,
@@ -12,7 +12,7 @@ pub struct Lent {
     pub table: usize,
 }
 
-#[derive(Drop)]
+#[derive(Clone, Copy)]
 pub enum Asked {
     For(Lent),
     Nothing,

@@ -36,7 +36,7 @@ fn bring(
 }
 
 // The name that a line binds, and how many bytes of text and of table it spells.
-#[derive(Drop)]
+#[derive(Clone, Copy)]
 enum Bound {
     As(usize, usize, usize),
     Nothing,

@@ -1,7 +1,7 @@
 // Which command a line's first word is.
 use text::bytes::equal;
 
-#[derive(Drop)]
+#[derive(Clone, Copy)]
 pub enum Command {
     Room,
     Bind,

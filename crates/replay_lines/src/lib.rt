@@ -11,7 +11,7 @@ pub mod line;
 pub mod spelled;
 
 // What stands between two lines: how many there were, and the binding room, its lengths and what is bound in it.
-#[derive(Drop)]
+#[derive(Clone, Copy)]
 pub struct Bench {
     pub lines: usize,
     pub cells: usize,
@@ -20,7 +20,7 @@ pub struct Bench {
 }
 
 // What is to be said of a line.
-#[derive(Drop)]
+#[derive(Clone, Copy)]
 pub enum Said {
     Nothing,
     Brought(Answer),
@@ -29,7 +29,7 @@ pub enum Said {
 }
 
 // What a line comes to.
-#[derive(Drop)]
+#[derive(Clone, Copy)]
 pub struct Done {
     pub said: Said,
     pub bench: Bench,

@@ -4,7 +4,7 @@ use program_words::decimal::{Number, number_of};
 use program_words::hexadecimal::put_bytes;
 
 // The number, or how many bytes there are, and where the word ends; or that it spells none.
-#[derive(Drop)]
+#[derive(Clone, Copy)]
 pub enum Spelled {
     Is(usize, usize),
     No,

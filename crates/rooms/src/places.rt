@@ -2,13 +2,13 @@
 use crate::value::{CellSpace, TextSpace};
 
 // Where a text or cells lie, if a head and a payload say it.
-#[derive(Drop)]
+#[derive(Clone, Copy)]
 pub enum TextPlace {
     At(TextSpace, u16, u16),
     Nowhere,
 }
 
-#[derive(Drop)]
+#[derive(Clone, Copy)]
 pub enum CellPlace {
     At(CellSpace, u16, u16),
     Nowhere,

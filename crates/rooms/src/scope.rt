@@ -8,7 +8,7 @@ use crate::value::Value;
 pub const NAMES: usize = 128;
 
 // `Value::Absent` where the name has no value: a slot is no larger than a value.
-#[derive(Drop)]
+#[derive(Clone, Copy)]
 pub struct Slot {
     pub value: Value,
 }
@@ -19,7 +19,7 @@ impl Slot {
     };
 }
 
-#[derive(Drop)]
+#[derive(Clone, Copy)]
 pub struct Scope {
     pub slots: [Slot; NAMES],
 }

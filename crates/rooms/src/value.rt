@@ -7,7 +7,7 @@ use numbers::double::Double;
 use numbers::order::Number;
 
 // The spaces that text lies in: a table's literals, what bindings brought, what the run made.
-#[derive(Drop)]
+#[derive(Clone, Copy)]
 pub enum TextSpace {
     Literal,
     Binding,
@@ -15,13 +15,13 @@ pub enum TextSpace {
 }
 
 // The spaces that cells lie in.
-#[derive(Drop)]
+#[derive(Clone, Copy)]
 pub enum CellSpace {
     Binding,
     Evaluation,
 }
 
-#[derive(Drop)]
+#[derive(Clone, Copy)]
 pub enum Value {
     Null,
     Bool(bool),
@@ -46,7 +46,7 @@ pub enum Value {
 }
 
 // What a value is made of.
-#[derive(Drop)]
+#[derive(Clone, Copy)]
 pub enum Parts {
     // Where they lie: space, first cell, length.
     Elements(CellSpace, u16, u16),
@@ -98,7 +98,7 @@ pub fn double_value(bits: u64) -> Value
 }
 
 // A value that is no container and no present Optional.
-#[derive(Drop)]
+#[derive(Clone, Copy)]
 pub enum Plain {
     Null,
     Bool(bool),

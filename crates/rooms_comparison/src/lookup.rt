@@ -8,7 +8,7 @@ use rooms::value::{CellSpace, Value};
 use rooms_cells::cell_at;
 
 // What a look-up came to, with the pairs counted so far: the cell of the entry's value, no entry, or the limit.
-#[derive(Drop)]
+#[derive(Clone, Copy)]
 pub enum Found {
     At(usize, usize),
     Missing(usize),

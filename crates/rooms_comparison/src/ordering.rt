@@ -13,7 +13,7 @@ use rooms_text::parts_compare;
 use text::bytes::TextOrder;
 
 // How two values stand, or that they have no order.
-#[derive(Drop)]
+#[derive(Clone, Copy)]
 pub enum Compared {
     Is(Order),
     Unlike,

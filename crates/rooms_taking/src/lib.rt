@@ -11,7 +11,7 @@ const MOST_CELLS: usize = 4096;
 const MOST_BYTES: usize = 16384;
 
 // How much is used after more was taken, or that there is not enough room.
-#[derive(Drop)]
+#[derive(Clone, Copy)]
 pub enum Taken {
     To(usize),
     Full,

@@ -6,7 +6,7 @@ use crate::part_points;
 use rooms::value::Value;
 
 // How much a value holds, or that it has no size.
-#[derive(Drop)]
+#[derive(Clone, Copy)]
 pub enum Size {
     Is(u16),
     Unsized,
@@ -29,7 +29,7 @@ pub fn size_in(literal: &[u8], binding_text: &[u8], text: &[u8], value: Value) -
 }
 
 // Where an index falls in a list: on an element, on none, or that it is no index.
-#[derive(Drop)]
+#[derive(Clone, Copy)]
 pub enum Position {
     At(usize),
     Outside,

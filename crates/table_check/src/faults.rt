@@ -8,7 +8,7 @@ use crate::refusals::{MISPLACED_MARK, NO_FAULT, RECORD_NESTING, WRONG_FIELD};
 use table_layout::kinds::{LIST, MAP, MARK};
 
 // Which of a record's operands may be marked.
-#[derive(Drop)]
+#[derive(Clone, Copy)]
 pub enum Marks {
     Nowhere,
     // Each of a list.

@@ -53,7 +53,7 @@ fn extent_fits(count: usize, head: usize, extent: usize) -> bool
 }
 
 // The head of a record.
-#[derive(Drop)]
+#[derive(Clone, Copy)]
 pub enum Head {
     // Its kind, how many operands it has, where they begin and where it ends.
     Whole(u8, usize, usize, usize),

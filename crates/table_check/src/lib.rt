@@ -15,7 +15,7 @@ use crate::records::Read;
 use crate::refusals::{BYTES_AFTER_ROOT, LONGEST_TABLE, RECORD_LEVELS, TABLE_LENGTH};
 
 // What is said of a table.
-#[derive(Drop)]
+#[derive(Clone, Copy)]
 pub enum Checked {
     Accepted,
     // A refusal's number, and the place at fault.

@@ -7,7 +7,7 @@ use crate::heads::Head;
 use crate::refusals::{NO_FAULT, WRONG_EXTENT};
 
 // What was read.
-#[derive(Drop)]
+#[derive(Clone, Copy)]
 pub enum Read {
     // Where it ends.
     Ends(usize),

@@ -7,7 +7,7 @@ ghost use Rattle.table_layout.specs.Layout.{word_numbers, fields_at, word_at};
 use crate::words::{AFTER_NUMBER, FIELD_SIZE, FIELDS, SPAN_SIZE, word_at};
 
 // A part of the literal text.
-#[derive(Drop)]
+#[derive(Clone, Copy)]
 pub struct Span {
     pub offset: usize,
     pub size: usize,

@@ -10,7 +10,7 @@ use rooms::scope::Scope;
 use rooms_cells::read_cell;
 
 // How much is lent, and the bindings in it.
-#[derive(Drop)]
+#[derive(Clone, Copy)]
 pub struct Case {
     words: usize,
     bytes: usize,

@@ -3,7 +3,7 @@ use libc::STDOUT_FILENO;
 use numbers::error::ArithmeticError;
 use numbers::order::Order;
 
-#[derive(Drop)]
+#[derive(Clone, Copy)]
 pub enum Answer {
     Bits(u64),
     Error(ArithmeticError),

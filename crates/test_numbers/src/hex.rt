@@ -2,7 +2,7 @@
 use check::same;
 use program_words::hexadecimal::{put_bytes, word_at};
 
-#[derive(Drop)]
+#[derive(Clone, Copy)]
 pub enum Digits {
     Value(u64),
     Unreadable,

@@ -4,7 +4,7 @@ use crate::hex::Digits;
 use check::same;
 use numbers::order::Number;
 
-#[derive(Drop)]
+#[derive(Clone, Copy)]
 enum Operand {
     Number(Number),
     Unreadable,

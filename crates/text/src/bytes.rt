@@ -3,7 +3,7 @@ ghost use Rattle.std.specs.Prelude.{◌≡◌, min};
 ghost use Rattle.text.specs.Bytes.{order_of, equal_of};
 
 // Where the left text stands against the right one.
-#[derive(Drop)]
+#[derive(Clone, Copy)]
 pub enum TextOrder {
     Less,
     Equal,

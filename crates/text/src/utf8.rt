@@ -42,7 +42,7 @@ fn after_blocks(part: &[u8], first: usize, block: usize) -> usize
 }
 
 // How far sequences go.
-#[derive(Drop)]
+#[derive(Clone, Copy)]
 pub enum Reach {
     // To a place.
     To(usize),
