@@ -5,51 +5,51 @@ use borrow.Author.Rules.{rules}
 use Rattle.bindings.proofs.bring_in.Statement.{statement}
 use Rattle.bindings.proofs.bring_in.Tie as tie
 
-judge-all-requires : tie.Need-judge-all-requires
-judge-all-requires c κs = search rules
+judge_all-requires : tie.Need-judge_all-requires
+judge_all-requires c κs = search rules
 
-enum-known-answer : tie.Need-enum-known-answer
-enum-known-answer c = search rules
+enum_known-answer : tie.Need-enum_known-answer
+enum_known-answer c = search rules
 
-same_length : tie.Need-same-length
+same_length : tie.Need-same_length
 same_length c = search rules
 
-same-length-2 : tie.Need-same-length-2
-same-length-2 c = search rules
+same_length-2 : tie.Need-same_length-2
+same_length-2 c = search rules
 
 returns : tie.Need-returns
-returns c = brought-refused c.before.before.before.before.before.before.before.before.before.before.args.cells.now c.before.before.before.before.before.before.before.before.before.before.args.text.now c.before.before.before.before.before.before.before.before.before.before.args.bindings c.before.before.before.before.before.before.before.before.before.before.args.name c.before.before.before.before.before.before.before.before.before.before.args.table.now c.before.before.before.before.before.before.before.before.before.before.args.literal.now c.before.answer.given.0.0 c.before.answer.given.0.1.0 (sym c.before.answer.given.1 ∙ c.before.before.before.judge-all.ensures)
+returns c = brought-refused c.before.before.before.before.before.before.before.before.before.before.args.cells.now c.before.before.before.before.before.before.before.before.before.before.args.text.now c.before.before.before.before.before.before.before.before.before.before.args.bindings c.before.before.before.before.before.before.before.before.before.before.args.name c.before.before.before.before.before.before.before.before.before.before.args.table.now c.before.before.before.before.before.before.before.before.before.before.args.literal.now c.before.answer.given.0.0 c.before.answer.given.0.1.0 (sym c.before.answer.given.1 ∙ c.before.before.before.judge_all.ensures)
 
-enum_told : tie.Need-enum-told
+enum_told : tie.Need-enum_told
 enum_told c = search rules
 
 lay-requires : tie.Need-lay-requires
-lay-requires c κs = brought-asks c.before.before.before.before.before.before.before.before.before.before.before.args.cells.now c.before.before.before.before.before.before.before.before.before.before.before.args.text.now c.before.before.before.before.before.before.before.before.before.before.before.args.bindings c.before.before.before.before.before.before.before.before.before.before.before.args.name c.before.before.before.before.before.before.before.before.before.before.before.args.table.now c.before.before.before.before.before.before.before.before.before.before.before.args.literal.now (sym c.before.before.enum_told.given.1 ∙ c.before.before.before.before.judge-all.ensures)
+lay-requires c κs = brought-asks c.before.before.before.before.before.before.before.before.before.before.before.args.cells.now c.before.before.before.before.before.before.before.before.before.before.before.args.text.now c.before.before.before.before.before.before.before.before.before.before.before.args.bindings c.before.before.before.before.before.before.before.before.before.before.before.args.name c.before.before.before.before.before.before.before.before.before.before.before.args.table.now c.before.before.before.before.before.before.before.before.before.before.before.args.literal.now (sym c.before.before.enum_told.given.1 ∙ c.before.before.before.before.judge_all.ensures)
 
 with-requires : tie.Need-with-requires
 with-requires c κs = search rules
 
-same-length-3 : tie.Need-same-length-3
-same-length-3 c = c.before.before.before.before.before.before.lay.auto.1.1.0
+same_length-3 : tie.Need-same_length-3
+same_length-3 c = c.before.before.before.before.before.before.lay.auto.1.1.0
 
-same-length-4 : tie.Need-same-length-4
-same-length-4 c = c.before.before.before.before.before.before.lay.auto.1.1.1.0
+same_length-4 : tie.Need-same_length-4
+same_length-4 c = c.before.before.before.before.before.before.lay.auto.1.1.1.0
 
 returns-2 : tie.Need-returns-2
-returns-2 c = rw c.with.ensures (brought-done c.before.before.before.before.before.before.before.before.before.before.before.before.before.before.before.before.before.before.args.cells.now c.before.before.before.before.before.before.before.before.before.before.before.before.before.before.before.before.before.before.args.text.now c.before.before.before.before.before.before.before.before.before.before.before.before.before.before.before.before.before.before.args.bindings c.before.before.before.before.before.before.before.before.before.before.before.before.before.before.before.before.before.before.args.name c.before.before.before.before.before.before.before.before.before.before.before.before.before.before.before.before.before.before.args.table.now c.before.before.before.before.before.before.before.before.before.before.before.before.before.before.before.before.before.before.args.literal.now (sym c.before.before.before.before.before.before.before.before.before.enum_told.given.1 ∙ c.before.before.before.before.before.before.before.before.before.before.before.judge-all.ensures) c.before.before.before.before.before.before.lay.result.value c.before.before.before.before.before.before.lay.new.1.1.0 c.before.before.before.before.before.before.lay.new.1.1.1.0 c.before.before.before.before.before.before.lay.result.cells c.before.before.before.before.before.before.lay.result.bytes c.before.before.before.before.before.before.lay.ensures)
+returns-2 c = rw c.with.ensures (brought-done c.before.before.before.before.before.before.before.before.before.before.before.before.before.before.before.before.before.before.args.cells.now c.before.before.before.before.before.before.before.before.before.before.before.before.before.before.before.before.before.before.args.text.now c.before.before.before.before.before.before.before.before.before.before.before.before.before.before.before.before.before.before.args.bindings c.before.before.before.before.before.before.before.before.before.before.before.before.before.before.before.before.before.before.args.name c.before.before.before.before.before.before.before.before.before.before.before.before.before.before.before.before.before.before.args.table.now c.before.before.before.before.before.before.before.before.before.before.before.before.before.before.before.before.before.before.args.literal.now (sym c.before.before.before.before.before.before.before.before.before.enum_told.given.1 ∙ c.before.before.before.before.before.before.before.before.before.before.before.judge_all.ensures) c.before.before.before.before.before.before.lay.result.value c.before.before.before.before.before.before.lay.new.1.1.0 c.before.before.before.before.before.before.lay.new.1.1.1.0 c.before.before.before.before.before.before.lay.result.cells c.before.before.before.before.before.before.lay.result.bytes c.before.before.before.before.before.before.lay.ensures)
 
-pub bring-in-spec : {M : Type 1} → statement M
-bring-in-spec =
+pub bring_in_spec : {M : Type 1} → statement M
+bring_in_spec =
     tie.close
     (tie.spec
-    judge-all-requires
-    enum-known-answer
+    judge_all-requires
+    enum_known-answer
     same_length
-    same-length-2
+    same_length-2
     returns
     enum_told
     lay-requires
     with-requires
-    same-length-3
-    same-length-4
+    same_length-3
+    same_length-4
     returns-2)

@@ -9,5 +9,5 @@ empty-requires c κs = search rules
 returns : tie.Need-returns
 returns c = simp (← c.empty.ensures)
 
-pub empty-spec : {M : Type 1} → statement M
-empty-spec = tie.close (tie.spec empty-requires returns)
+pub empty_spec : {M : Type 1} → statement M
+empty_spec = tie.close (tie.spec empty-requires returns)

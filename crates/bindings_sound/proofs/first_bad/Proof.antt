@@ -18,43 +18,43 @@ decreases-loop cells text used bytes at₀ left₀ at left = left
 loop-holds : tie.Need-loop-init invariant-loop decreases-loop
 loop-holds c = (omega arith, refl)
 
-read-cell-requires : tie.Need-read-cell-requires invariant-loop decreases-loop
-read-cell-requires c κs = search rules
+read_cell-requires : tie.Need-read_cell-requires invariant-loop decreases-loop
+read_cell-requires c κs = search rules
 
-add-value-fits : tie.Need-overflow-add-value-fits invariant-loop decreases-loop
-add-value-fits c = omega (arith, c.before.before.before.before.before.ranges.used.fits)
+add-value_fits : tie.Need-overflow_add-value_fits invariant-loop decreases-loop
+add-value_fits c = omega (arith, c.before.before.before.before.before.ranges.used.fits)
 
-value-fits-requires : tie.Need-value-fits-requires invariant-loop decreases-loop
-value-fits-requires c κs = search rules
+value_fits-requires : tie.Need-value_fits-requires invariant-loop decreases-loop
+value_fits-requires c κs = search rules
 
 returns : tie.Need-returns invariant-loop decreases-loop
-returns c = bad-here c.before.before.before.before.before.before.before.args.cells.now c.before.before.before.before.before.before.before.args.text.now c.before.before.before.before.before.before.before.args.used c.before.before.before.before.before.before.before.args.bytes c.before.before.before.before.loop.at c.before.before.before.before.loop.left c.before.before.read_cell.result c.before.before.before.loop-test.true c.before.before.read_cell.ensures (sym c.before.value-fits.ensures ∙ not-true c.before.value-fits.result c.if1.true) ∙ c.before.before.before.before.loop.invariant.1
+returns c = bad-here c.before.before.before.before.before.before.before.args.cells.now c.before.before.before.before.before.before.before.args.text.now c.before.before.before.before.before.before.before.args.used c.before.before.before.before.before.before.before.args.bytes c.before.before.before.before.loop.at c.before.before.before.before.loop.left c.before.before.read_cell.result c.before.before.before.loop-test.true c.before.before.read_cell.ensures (sym c.before.value_fits.ensures ∙ not-true c.before.value_fits.result c.if1.true) ∙ c.before.before.before.before.loop.invariant.1
 
-add_at : tie.Need-overflow-add-at invariant-loop decreases-loop
+add_at : tie.Need-overflow_add-at invariant-loop decreases-loop
 add_at c = omega (arith, c.before.before.before.before.before.before.before.ranges.used.fits)
 
-sub-left : tie.Need-overflow-sub-left invariant-loop decreases-loop
+sub-left : tie.Need-overflow_sub-left invariant-loop decreases-loop
 sub-left c = search rules
 
 loop-less : tie.Need-loop-smaller invariant-loop decreases-loop
 loop-less c = omega arith
 
 loop-again : tie.Need-loop-preserved invariant-loop decreases-loop
-loop-again c = (omega arith, bad-on c.before.before.before.before.before.before.before.args.cells.now c.before.before.before.before.before.before.before.args.text.now c.before.before.before.before.before.before.before.args.used c.before.before.before.before.before.before.before.args.bytes c.before.before.before.before.loop.at c.before.before.before.before.loop.left c.before.before.read_cell.result c.before.before.before.loop-test.true c.before.before.read_cell.ensures (sym c.before.value-fits.ensures ∙ not-false c.before.value-fits.result c.if1.false) ∙ c.before.before.before.before.loop.invariant.1)
+loop-again c = (omega arith, bad-on c.before.before.before.before.before.before.before.args.cells.now c.before.before.before.before.before.before.before.args.text.now c.before.before.before.before.before.before.before.args.used c.before.before.before.before.before.before.before.args.bytes c.before.before.before.before.loop.at c.before.before.before.before.loop.left c.before.before.read_cell.result c.before.before.before.loop-test.true c.before.before.read_cell.ensures (sym c.before.value_fits.ensures ∙ not-false c.before.value_fits.result c.if1.false) ∙ c.before.before.before.before.loop.invariant.1)
 
 returns-2 : tie.Need-returns-2 invariant-loop decreases-loop
 returns-2 c = bad-none c.before.before.before.before.args.cells.now c.before.before.before.before.args.text.now c.before.before.before.before.args.used c.before.before.before.before.args.bytes c.before.loop.at c.before.loop.left c.loop-test.false ∙ c.before.loop.invariant.1
 
-pub first-bad-spec : {M : Type 1} → statement M
-first-bad-spec =
+pub first_bad_spec : {M : Type 1} → statement M
+first_bad_spec =
     tie.close
     (tie.spec
     invariant-loop
     decreases-loop
     loop-holds
-    read-cell-requires
-    add-value-fits
-    value-fits-requires
+    read_cell-requires
+    add-value_fits
+    value_fits-requires
     returns
     add_at
     sub-left

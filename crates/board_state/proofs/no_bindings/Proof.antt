@@ -18,5 +18,5 @@ returns : tie.Need-returns
 unfolding no_bindings
 returns c = ap (λ (s : Scope). record { scope = s; cells = 0; bytes = 0 }) (c.with.ensures ∙ ap (λ (s : Scope). stored s 0 Value.OptionalNone) c.before.empty.ensures)
 
-pub no-bindings-spec : {M : Type 1} → statement M
-no-bindings-spec = tie.close (tie.spec empty-requires with-requires returns)
+pub no_bindings_spec : {M : Type 1} → statement M
+no_bindings_spec = tie.close (tie.spec empty-requires with-requires returns)

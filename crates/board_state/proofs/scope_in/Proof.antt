@@ -22,22 +22,22 @@ empty-requires c κs = search rules
 loop-holds : tie.Need-loop-init invariant-loop decreases-loop
 loop-holds c = (refl, slots-none c.before.before.args.words.now c.empty.result.slots (ap (λ (s : Scope). s.slots) c.empty.ensures))
 
-says-absent-requires : tie.Need-says-absent-requires invariant-loop decreases-loop
-says-absent-requires c κs = search rules
+says_absent-requires : tie.Need-says_absent-requires invariant-loop decreases-loop
+says_absent-requires c κs = search rules
 
-slot-in-requires : tie.Need-slot-in-requires invariant-loop decreases-loop
-slot-in-requires c κs = search rules
+slot_in-requires : tie.Need-slot_in-requires invariant-loop decreases-loop
+slot_in-requires c κs = search rules
 
-mul-slot : tie.Need-overflow-mul-slot invariant-loop decreases-loop
+mul-slot : tie.Need-overflow_mul-slot invariant-loop decreases-loop
 mul-slot c = search rules
 
-element-set-from-slot : tie.Need-element-set-from-slot invariant-loop decreases-loop
-element-set-from-slot c = search rules
+element_set_from-slot : tie.Need-element_set_from-slot invariant-loop decreases-loop
+element_set_from-slot c = search rules
 
-add_at : tie.Need-overflow-add-at invariant-loop decreases-loop
+add_at : tie.Need-overflow_add-at invariant-loop decreases-loop
 add_at c = search rules
 
-sub-left : tie.Need-overflow-sub-left invariant-loop decreases-loop
+sub-left : tie.Need-overflow_sub-left invariant-loop decreases-loop
 sub-left c = search rules
 
 loop-less : tie.Need-loop-smaller invariant-loop decreases-loop
@@ -48,25 +48,25 @@ loop-again c = (
   omega arith,
   ⊎_elim
       (λ w. ap (λ (s : Scope). s.slots) w.2 ∙ slot-stored c.before.before.before.before.before.before.args.words.now c.before.before.before.loop.scope.slots w.1.result c.before.before.before.loop.at c.before.before.before.loop.left c.before.before.loop-test.true c.before.before.before.loop.invariant.1 w.1.ensures)
-      (λ w. ap (λ (s : Scope). s.slots) w.1 ∙ slot_kept c.before.before.before.before.before.before.args.words.now c.before.before.before.loop.scope.slots c.before.before.before.loop.at c.before.before.before.loop.left c.before.before.loop-test.true c.before.before.before.loop.invariant.1 (slot-absent c.before.before.before.before.before.before.args.words.now c.before.before.before.loop.at (sym c.before.says-absent.ensures ∙ not-false c.before.says-absent.result w.0.left)))
+      (λ w. ap (λ (s : Scope). s.slots) w.1 ∙ slot_kept c.before.before.before.before.before.before.args.words.now c.before.before.before.loop.scope.slots c.before.before.before.loop.at c.before.before.before.loop.left c.before.before.loop-test.true c.before.before.before.loop.invariant.1 (slot-absent c.before.before.before.before.before.before.args.words.now c.before.before.before.loop.at (sym c.before.says_absent.ensures ∙ not-false c.before.says_absent.result w.0.left)))
       c.if1.branch,
 )
 
 returns : tie.Need-returns invariant-loop decreases-loop
 returns c = slots-all c.before.before.before.before.args.words.now c.before.loop.scope c.before.loop.at c.before.loop.left c.loop-test.false c.before.loop.invariant.0 c.before.loop.invariant.1
 
-pub scope-in-spec : {M : Type 1} → statement M
-scope-in-spec =
+pub scope_in_spec : {M : Type 1} → statement M
+scope_in_spec =
     tie.close
     (tie.spec
     invariant-loop
     decreases-loop
     empty-requires
     loop-holds
-    says-absent-requires
-    slot-in-requires
+    says_absent-requires
+    slot_in-requires
     mul-slot
-    element-set-from-slot
+    element_set_from-slot
     add_at
     sub-left
     loop-less

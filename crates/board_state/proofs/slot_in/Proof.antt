@@ -5,31 +5,31 @@ use borrow.Author.Rules.{rules}
 use Rattle.board_state.proofs.slot_in.Statement.{statement}
 use Rattle.board_state.proofs.slot_in.Tie as tie
 
-says-absent-requires : tie.Need-says-absent-requires
-says-absent-requires c κs = search rules
+says_absent-requires : tie.Need-says_absent-requires
+says_absent-requires c κs = search rules
 
 returns : tie.Need-returns
-returns c = slot-absent c.before.before.before.args.words.now c.before.before.before.args.name (sym c.before.says-absent.ensures ∙ c.if1.true)
+returns c = slot-absent c.before.before.before.args.words.now c.before.before.before.args.name (sym c.before.says_absent.ensures ∙ c.if1.true)
 
-read-cell-requires : tie.Need-read-cell-requires
-read-cell-requires c κs = search rules
+read_cell-requires : tie.Need-read_cell-requires
+read_cell-requires c κs = search rules
 
-is-absent-requires : tie.Need-is-absent-requires
-is-absent-requires c κs = search rules
+is_absent-requires : tie.Need-is_absent-requires
+is_absent-requires c κs = search rules
 
 returns-2 : tie.Need-returns-2
-returns-2 c = slot-wrong c.before.before.before.before.before.before.args.words.now c.before.before.before.before.before.before.args.name c.before.before.read_cell.result c.before.before.read_cell.ensures (sym c.before.is-absent.ensures ∙ c.if2.true) (sym c.before.before.before.before.says-absent.ensures ∙ c.before.before.before.if1.false)
+returns-2 c = slot-wrong c.before.before.before.before.before.before.args.words.now c.before.before.before.before.before.before.args.name c.before.before.read_cell.result c.before.before.read_cell.ensures (sym c.before.is_absent.ensures ∙ c.if2.true) (sym c.before.before.before.before.says_absent.ensures ∙ c.before.before.before.if1.false)
 
 returns-3 : tie.Need-returns-3
-returns-3 c = slot-value c.before.before.before.before.before.before.args.words.now c.before.before.before.before.before.before.args.name c.before.before.read_cell.result c.before.before.read_cell.ensures (sym c.before.is-absent.ensures ∙ c.if2.false)
+returns-3 c = slot-value c.before.before.before.before.before.before.args.words.now c.before.before.before.before.before.before.args.name c.before.before.read_cell.result c.before.before.read_cell.ensures (sym c.before.is_absent.ensures ∙ c.if2.false)
 
-pub slot-in-spec : {M : Type 1} → statement M
-slot-in-spec =
+pub slot_in_spec : {M : Type 1} → statement M
+slot_in_spec =
     tie.close
     (tie.spec
-    says-absent-requires
+    says_absent-requires
     returns
-    read-cell-requires
-    is-absent-requires
+    read_cell-requires
+    is_absent-requires
     returns-2
     returns-3)

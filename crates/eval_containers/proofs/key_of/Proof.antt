@@ -3,17 +3,17 @@ use borrow.Author.Rules.{rules}
 use Rattle.eval_containers.proofs.key_of.Statement.{statement}
 use Rattle.eval_containers.proofs.key_of.Tie as tie
 
-enum-known-operand : tie.Need-enum-known-operand
-enum-known-operand c = search rules
+enum_known-operand : tie.Need-enum_known-operand
+enum_known-operand c = search rules
 
-is-key-requires : tie.Need-is-key-requires
-is-key-requires c κs = search rules
+is_key-requires : tie.Need-is_key-requires
+is_key-requires c κs = search rules
 
-enum-known-operand-2 : tie.Need-enum-known-operand-2
-enum-known-operand-2 c = search rules
+enum_known-operand-2 : tie.Need-enum_known-operand-2
+enum_known-operand-2 c = search rules
 
-enum-known-operand-3 : tie.Need-enum-known-operand-3
-enum-known-operand-3 c = search rules
+enum_known-operand-3 : tie.Need-enum_known-operand-3
+enum_known-operand-3 c = search rules
 
 returns : tie.Need-returns
 returns c = simp (c.before.before.before.operand.given.1, ← c.before.is_key.ensures, c.if1.true)
@@ -27,6 +27,6 @@ returns-3 c = simp c.before.operand2.given.1
 returns-4 : tie.Need-returns-4
 returns-4 c = simp c.before.operand3.given.1
 
-pub key-of-spec : {M : Type 1} → statement M
-key-of-spec =
-    tie.close (tie.spec enum-known-operand is-key-requires enum-known-operand-2 enum-known-operand-3 returns returns-2 returns-3 returns-4)
+pub key_of_spec : {M : Type 1} → statement M
+key_of_spec =
+    tie.close (tie.spec enum_known-operand is_key-requires enum_known-operand-2 enum_known-operand-3 returns returns-2 returns-3 returns-4)

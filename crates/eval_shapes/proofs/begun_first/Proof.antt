@@ -5,23 +5,23 @@ use Rattle.eval_shapes.proofs.NextLaws.{first-place, operand-start, default-plac
 use Rattle.eval_shapes.proofs.begun_first.Statement.{statement}
 use Rattle.eval_shapes.proofs.begun_first.Tie as tie
 
-enum_told : tie.Need-enum-told
+enum_told : tie.Need-enum_told
 enum_told c = search rules
 
-first-operand-requires : tie.Need-first-operand-requires
-first-operand-requires c κs = let h = sound-stands c.before.before.before.before.args.table.now c.before.before.before.before.args.literal.now c.before.before.before.before.args.at c.before.before.before.before.requires.0 in (h.here, h.known)
+first_operand-requires : tie.Need-first_operand-requires
+first_operand-requires c κs = let h = sound-stands c.before.before.before.before.args.table.now c.before.before.before.before.args.literal.now c.before.before.before.before.args.at c.before.before.before.before.requires.0 in (h.here, h.known)
 
-end-at-requires : tie.Need-end-at-requires
-end-at-requires c κs = operand-start c.before.before.before.before.before.args.table.now c.before.before.before.before.before.args.literal.now c.before.before.before.before.before.args.at c.before.before.before.before.before.requires.0 c.before.before.before.before.before.args.fixed c.before.before.before.before.before.requires.1 c.first-operand.result c.first-operand.ensures
+end_at-requires : tie.Need-end_at-requires
+end_at-requires c κs = operand-start c.before.before.before.before.before.args.table.now c.before.before.before.before.before.args.literal.now c.before.before.before.before.before.args.at c.before.before.before.before.before.requires.0 c.before.before.before.before.before.args.fixed c.before.before.before.before.before.requires.1 c.first_operand.result c.first_operand.ensures
 
-first-operand-requires-2 : tie.Need-first-operand-requires-2
-first-operand-requires-2 c κs = let h = sound-stands c.before.before.before.args.table.now c.before.before.before.args.literal.now c.before.before.before.args.at c.before.before.before.requires.0 in (h.here, h.known)
+first_operand-requires-2 : tie.Need-first_operand-requires-2
+first_operand-requires-2 c κs = let h = sound-stands c.before.before.before.args.table.now c.before.before.before.args.literal.now c.before.before.before.args.at c.before.before.before.requires.0 in (h.here, h.known)
 
 returns : tie.Need-returns
-returns c = default-place c.before.before.before.before.before.before.args.table.now c.before.before.before.before.before.before.args.literal.now c.before.before.before.before.before.before.args.at c.before.before.before.before.before.before.requires.0 c.before.before.before.before.before.before.args.fixed c.before.before.before.before.before.before.requires.1 c.before.first-operand.result c.before.first-operand.ensures c.before.before.enum_told.given.1 c.end-at.result c.end-at.ensures
+returns c = default-place c.before.before.before.before.before.before.args.table.now c.before.before.before.before.before.before.args.literal.now c.before.before.before.before.before.before.args.at c.before.before.before.before.before.before.requires.0 c.before.before.before.before.before.before.args.fixed c.before.before.before.before.before.before.requires.1 c.before.first_operand.result c.before.first_operand.ensures c.before.before.enum_told.given.1 c.end_at.result c.end_at.ensures
 
 returns-2 : tie.Need-returns-2
-returns-2 c = first-place c.before.before.before.before.args.table.now c.before.before.before.before.args.literal.now c.before.before.before.before.args.at c.before.before.before.before.requires.0 c.before.before.before.before.args.fixed c.before.before.before.before.requires.1 c.first-operand2.result c.first-operand2.ensures c.before.match.keys2
+returns-2 c = first-place c.before.before.before.before.args.table.now c.before.before.before.before.args.literal.now c.before.before.before.before.args.at c.before.before.before.before.requires.0 c.before.before.before.before.args.fixed c.before.before.before.before.requires.1 c.first_operand2.result c.first_operand2.ensures c.before.match.keys2
 
-pub begun-first-spec : {M : Type 1} → statement M
-begun-first-spec = tie.close (tie.spec enum_told first-operand-requires end-at-requires first-operand-requires-2 returns returns-2)
+pub begun_first_spec : {M : Type 1} → statement M
+begun_first_spec = tie.close (tie.spec enum_told first_operand-requires end_at-requires first_operand-requires-2 returns returns-2)

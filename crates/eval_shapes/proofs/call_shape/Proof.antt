@@ -27,5 +27,5 @@ returns-5 c = rw c.match.keys5
 returns-6 : tie.Need-returns-6
 returns-6 c = let r = c.match.rest in no_call c.before.args.number r.0.0.0.0.1 r.0.0.0.1 r.0.0.1 r.0.1 r.1
 
-pub call-shape-spec : {M : Type 1} → statement M
-call-shape-spec = tie.close (tie.spec returns returns-2 returns-3 returns-4 returns-5 returns-6)
+pub call_shape_spec : {M : Type 1} → statement M
+call_shape_spec = tie.close (tie.spec returns returns-2 returns-3 returns-4 returns-5 returns-6)

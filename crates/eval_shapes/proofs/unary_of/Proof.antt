@@ -15,5 +15,5 @@ returns-2 c = rw c.match.keys2
 returns-3 : tie.Need-returns-3
 returns-3 c = no-unary c.before.args.number c.match.rest.0.1 c.match.rest.1
 
-pub unary-of-spec : {M : Type 1} → statement M
-unary-of-spec = tie.close (tie.spec returns returns-2 returns-3)
+pub unary_of_spec : {M : Type 1} → statement M
+unary_of_spec = tie.close (tie.spec returns returns-2 returns-3)

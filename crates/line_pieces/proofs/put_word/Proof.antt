@@ -18,13 +18,13 @@ decreases-loop out₀ at word next₀ index₀ out next index = length word - in
 loop-holds : tie.Need-loop-init invariant-loop decreases-loop
 loop-holds c = (refl, omega arith, refl)
 
-shared-slice-read-put : tie.Need-shared-slice-read-put invariant-loop decreases-loop
-shared-slice-read-put c = search rules
+shared_slice_read-put : tie.Need-shared_slice_read-put invariant-loop decreases-loop
+shared_slice_read-put c = search rules
 
 put-requires : tie.Need-put-requires invariant-loop decreases-loop
 put-requires c κs = search rules
 
-add-index : tie.Need-overflow-add-index invariant-loop decreases-loop
+add-index : tie.Need-overflow_add-index invariant-loop decreases-loop
 add-index c = search rules
 
 loop-less : tie.Need-loop-smaller invariant-loop decreases-loop
@@ -39,20 +39,20 @@ loop-again c =
       word_on l.before.before.before.args.word.now l.loop.index (l.loop.next, l.loop.out) _ c.before.before.before.before.before.loop-test.true c.before.before.put.ensures ∙ l.loop.inv.2,
     )
 
-same_length : tie.Need-same-length invariant-loop decreases-loop
+same_length : tie.Need-same_length invariant-loop decreases-loop
 same_length c = search rules
 
 returns : tie.Need-returns invariant-loop decreases-loop
 returns c = word_over c.before.before.before.before.args.word.now c.before.loop.index (c.before.loop.next, c.before.loop.out) c.loop-test.false ∙ c.before.loop.invariant.2
 
-pub put-word-spec : {M : Type 1} → statement M
-put-word-spec =
+pub put_word_spec : {M : Type 1} → statement M
+put_word_spec =
     tie.close
     (tie.spec
     invariant-loop
     decreases-loop
     loop-holds
-    shared-slice-read-put
+    shared_slice_read-put
     put-requires
     add-index
     loop-less

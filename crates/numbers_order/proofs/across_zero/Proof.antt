@@ -22,5 +22,5 @@ returns-2 c = sym (unlike-some _ _ _ (some c.before) ∙ ap (λ (t : Bool). cond
 returns-3 : tie.Need-returns-3
 returns-3 c = sym (unlike-some _ _ _ (some c.before) ∙ ap (λ (t : Bool). cond t Less Greater) c.if3.false)
 
-pub across-zero-spec : {M : Type 1} → statement M
-across-zero-spec = tie.close (tie.spec returns returns-2 returns-3)
+pub across_zero_spec : {M : Type 1} → statement M
+across_zero_spec = tie.close (tie.spec returns returns-2 returns-3)

@@ -10,16 +10,16 @@ use Rattle.numbers_order.proofs.SizeLaws.{less-huge, less-parts, greater-parts, 
 use Rattle.numbers_order.proofs.against.Statement.{statement}
 use Rattle.numbers_order.proofs.against.Tie as tie
 
-size-of-requires : tie.Need-size-of-requires
-size-of-requires c κs = search rules
+size_of-requires : tie.Need-size_of-requires
+size_of-requires c κs = search rules
 
-enum-known-part : tie.Need-enum-known-part
-enum-known-part c = search rules
+enum_known-part : tie.Need-enum_known-part
+enum_known-part c = search rules
 
-enum_told : tie.Need-enum-told
+enum_told : tie.Need-enum_told
 enum_told c = search rules
 
-is-parts : (c : tie.After-known-told) → Parts c.before.part.given.0.0 c.before.part.given.0.1.0 ≡ cut (size_of c.before.before.before.before.args.bits)
+is-parts : (c : tie.After-known_told) → Parts c.before.part.given.0.0 c.before.part.given.0.1.0 ≡ cut (size_of c.before.before.before.before.args.bits)
 is-parts c = sym c.before.part.given.1 ∙ c.before.before.before.type_size.ensures
 
 returns : tie.Need-returns
@@ -37,12 +37,12 @@ returns-4 c = sym (size_less _ _ (more_parts _ _ _ _ (is-parts c.before.before.b
 returns-5 : tie.Need-returns-5
 returns-5 c = sym (size-equal _ _ (equal-parts _ _ _ _ (is-parts c.before.before.before) (omega (arith, c.before.if2.false, c.before.before.if1.false)) c.if3.false))
 
-pub against-spec : {M : Type 1} → statement M
-against-spec =
+pub against_spec : {M : Type 1} → statement M
+against_spec =
     tie.close
     (tie.spec
-    size-of-requires
-    enum-known-part
+    size_of-requires
+    enum_known-part
     enum_told
     returns
     returns-2

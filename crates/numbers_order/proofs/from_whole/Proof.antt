@@ -8,29 +8,29 @@ use Rattle.numbers_laws.proofs.WholeLaws.{whole-order, int-below, int-size}
 use Rattle.numbers_order.proofs.from_whole.Statement.{statement}
 use Rattle.numbers_order.proofs.from_whole.Tie as tie
 
-enum-known-other : tie.Need-enum-known-other
-enum-known-other c = search rules
+enum_known-other : tie.Need-enum_known-other
+enum_known-other c = search rules
 
 magnitude-requires : tie.Need-magnitude-requires
 magnitude-requires c κs = search rules
 
-signed-sizes-requires : tie.Need-signed-sizes-requires
-signed-sizes-requires c κs = search rules
+signed_sizes-requires : tie.Need-signed_sizes-requires
+signed_sizes-requires c κs = search rules
 
-enum-known-other-2 : tie.Need-enum-known-other-2
-enum-known-other-2 c = search rules
+enum_known-other-2 : tie.Need-enum_known-other-2
+enum_known-other-2 c = search rules
 
-signed-sizes-requires-2 : tie.Need-signed-sizes-requires-2
-signed-sizes-requires-2 c κs = search rules
+signed_sizes-requires-2 : tie.Need-signed_sizes-requires-2
+signed_sizes-requires-2 c κs = search rules
 
-enum-known-other-3 : tie.Need-enum-known-other-3
-enum-known-other-3 c = search rules
+enum_known-other-3 : tie.Need-enum_known-other-3
+enum_known-other-3 c = search rules
 
-to-bits-requires : tie.Need-to-bits-requires
-to-bits-requires c κs = search rules
+to_bits-requires : tie.Need-to_bits-requires
+to_bits-requires c κs = search rules
 
-whole-double-requires : tie.Need-whole-double-requires
-whole-double-requires c κs = search rules
+whole_double-requires : tie.Need-whole_double-requires
+whole_double-requires c κs = search rules
 
 returns : tie.Need-returns
 returns c =
@@ -38,8 +38,8 @@ returns c =
     let arm = told.before in
     let s = arm.before.before in
     let z = arm.other.given.0.0 in
-    let k = sfits_of told.known-told.given.0.1 in
-    c.signed-sizes.ensures
+    let k = sfits_of told.known_told.given.0.1 in
+    c.signed_sizes.ensures
     ∙ (λ i. signed_order s.args.below s.args.size (int-below z k i) (int-size z _ k c.before.magnitude.ensures i))
     ∙ sym (whole-order _ _ _ _)
     ∙ ap (λ (v : Number). order_of (whole_point s.args.below s.args.size) (number_point v)) (sym arm.other.given.1)
@@ -48,29 +48,29 @@ returns-2 : tie.Need-returns-2
 returns-2 c =
     let arm = c.before.before in
     let s = arm.before.before in
-    c.signed-sizes2.ensures ∙ sym (whole-order _ _ _ _)
+    c.signed_sizes2.ensures ∙ sym (whole-order _ _ _ _)
     ∙ ap (λ (v : Number). order_of (whole_point s.args.below s.args.size) (number_point v)) (sym arm.other2.given.1)
 
 returns-3 : tie.Need-returns-3
 returns-3 c =
     let arm = c.before.before.before in
     let s = arm.before.before in
-    c.whole-double.ensures
-    ∙ (λ i. order_of (whole_point s.args.below s.args.size) (point_of (c.before.to-bits.ensures i)))
+    c.whole_double.ensures
+    ∙ (λ i. order_of (whole_point s.args.below s.args.size) (point_of (c.before.to_bits.ensures i)))
     ∙ ap (λ (v : Number). order_of (whole_point s.args.below s.args.size) (number_point v)) (sym arm.other3.given.1)
 
-pub from-whole-spec : {M : Type 1} → statement M
-from-whole-spec =
+pub from_whole_spec : {M : Type 1} → statement M
+from_whole_spec =
     tie.close
     (tie.spec
-    enum-known-other
+    enum_known-other
     magnitude-requires
-    signed-sizes-requires
-    enum-known-other-2
-    signed-sizes-requires-2
-    enum-known-other-3
-    to-bits-requires
-    whole-double-requires
+    signed_sizes-requires
+    enum_known-other-2
+    signed_sizes-requires-2
+    enum_known-other-3
+    to_bits-requires
+    whole_double-requires
     returns
     returns-2
     returns-3)

@@ -31,16 +31,16 @@ returns-2 c =
     let e : field b ≡ suc (field b - 1) = omega (arith, c.before.if1.false) in
     sym (at_field b (suc (field b - 1)) e ∙ size_small (field b - 1) (b % 2 ^ 52) (low b) (omega (arith, c.if2.true)))
 
-add-significand : tie.Need-overflow-add-significand
+add-significand : tie.Need-overflow_add-significand
 add-significand c = search rules
 
-sub-shift : tie.Need-overflow-sub-shift
+sub-shift : tie.Need-overflow_sub-shift
 sub-shift c = search rules
 
-shr-whole : tie.Need-overflow-shr-whole
+shr-whole : tie.Need-overflow_shr-whole
 shr-whole c = search rules
 
-shl-t10 : tie.Need-overflow-shl-t10
+shl-t10 : tie.Need-overflow_shl-t10
 shl-t10 c = search rules
 
 returns-3 : tie.Need-returns-3
@@ -49,7 +49,7 @@ returns-3 c =
     let e : field b ≡ suc (field b - 1) = omega (arith, c.before.before.if1.false) in
     sym (at_field b (suc (field b - 1)) e ∙ size-mixed (field b - 1) (b % 2 ^ 52) (low b) (omega (arith, c.before.if2.false)) (omega (arith, c.if3.true)) (1075 - field b) (omega (arith, c.if3.true)))
 
-shl-t13 : tie.Need-overflow-shl-t13
+shl-t13 : tie.Need-overflow_shl-t13
 shl-t13 c = search rules
 
 returns-4 : tie.Need-returns-4
@@ -64,7 +64,7 @@ returns-5 c =
     let e : field b ≡ suc (field b - 1) = omega (arith, c.before.before.before.if1.false) in
     sym (at_field b (suc (field b - 1)) e ∙ size-huge (field b - 1) (b % 2 ^ 52) (omega (arith, c.if4.false)))
 
-pub size-of-spec : {M : Type 1} → statement M
-size-of-spec =
+pub size_of_spec : {M : Type 1} → statement M
+size_of_spec =
     tie.close
     (tie.spec returns returns-2 add-significand sub-shift shr-whole shl-t10 returns-3 shl-t13 returns-4 returns-5)

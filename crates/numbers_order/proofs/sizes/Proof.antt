@@ -14,5 +14,5 @@ returns-2 c = sym (size-equal _ _ c.if2.true)
 returns-3 : tie.Need-returns-3
 returns-3 c = sym (size-greater _ _ (omega (arith, c.before.if1.false, c.if2.false)))
 
-pub sizes-spec : {M : Type 1} → statement M
-sizes-spec = tie.close (tie.spec returns returns-2 returns-3)
+pub sizes_spec : {M : Type 1} → statement M
+sizes_spec = tie.close (tie.spec returns returns-2 returns-3)

@@ -18,11 +18,11 @@ against-requires c κs = search rules
 flip-requires : tie.Need-flip-requires
 flip-requires c κs = search rules
 
-across-zero-requires : tie.Need-across-zero-requires
-across-zero-requires c κs = search rules
+across_zero-requires : tie.Need-across_zero-requires
+across_zero-requires c κs = search rules
 
-across-zero-requires-2 : tie.Need-across-zero-requires-2
-across-zero-requires-2 c κs = search rules
+across_zero-requires-2 : tie.Need-across_zero-requires-2
+across_zero-requires-2 c κs = search rules
 
 against-requires-2 : tie.Need-against-requires-2
 against-requires-2 c κs = search rules
@@ -50,7 +50,7 @@ returns-3 c =
     let t = c.before in
     let e = t.before.before in
     let s = e.before in
-    c.across-zero.ensures
+    c.across_zero.ensures
     ∙ sym (whole-unlike _ _ s.ranges.size.fits (no-nan-test _ e.if1.false) false (le-leb _ _ t.before.if2.true))
     ∙ signed-whole _ false _ _ t.if3.false
 
@@ -59,7 +59,7 @@ returns-4 c =
     let t = c.before in
     let e = t.before.before in
     let s = e.before in
-    c.across-zero2.ensures
+    c.across_zero2.ensures
     ∙ sym (whole-unlike _ _ s.ranges.size.fits (no-nan-test _ e.if1.false) true (lt-leb _ _ t.before.if2.false))
     ∙ signed-whole _ true _ _ t.if4.true
 
@@ -72,15 +72,15 @@ returns-5 c =
     ∙ sym (whole_above _ _ s.ranges.size.fits (no-nan-test _ e.if1.false) (lt-leb _ _ t.before.if2.false))
     ∙ signed-whole _ false _ _ t.if4.false
 
-pub whole-double-spec : {M : Type 1} → statement M
-whole-double-spec =
+pub whole_double_spec : {M : Type 1} → statement M
+whole_double_spec =
     tie.close
     (tie.spec
     returns
     against-requires
     flip-requires
-    across-zero-requires
-    across-zero-requires-2
+    across_zero-requires
+    across_zero-requires-2
     against-requires-2
     returns-2
     returns-3

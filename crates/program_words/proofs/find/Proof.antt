@@ -16,13 +16,13 @@ decreases-loop bytes from byte at₀ at = length bytes - at
 loop-holds : tie.Need-loop-init invariant-loop decreases-loop
 loop-holds c = seek-start _ _ _
 
-shared-slice-read-if1 : tie.Need-shared-slice-read-if1 invariant-loop decreases-loop
-shared-slice-read-if1 c = search rules
+shared_slice_read-if1 : tie.Need-shared_slice_read-if1 invariant-loop decreases-loop
+shared_slice_read-if1 c = search rules
 
 returns : tie.Need-returns invariant-loop decreases-loop
 returns c = found_here c.before.before.before.loop.invariant (omega arith) (omega arith)
 
-add_at : tie.Need-overflow-add-at invariant-loop decreases-loop
+add_at : tie.Need-overflow_add-at invariant-loop decreases-loop
 add_at c = search rules
 
 loop-less : tie.Need-loop-smaller invariant-loop decreases-loop
@@ -41,7 +41,7 @@ find_spec =
     invariant-loop
     decreases-loop
     loop-holds
-    shared-slice-read-if1
+    shared_slice_read-if1
     returns
     add_at
     loop-less

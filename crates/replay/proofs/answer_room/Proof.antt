@@ -8,5 +8,5 @@ use Rattle.replay.proofs.answer_room.Tie as tie
 returns : tie.Need-returns
 returns c = sym {A = ℕ} {b = 1000128} (length-replicate {0} {A = ℕ} 1000128 0)
 
-pub answer-room-spec : {M : Type 1} → statement M
-answer-room-spec = tie.close (tie.spec returns)
+pub answer_room_spec : {M : Type 1} → statement M
+answer_room_spec = tie.close (tie.spec returns)

@@ -8,5 +8,5 @@ use Rattle.replay.proofs.line_room.Tie as tie
 returns : tie.Need-returns
 returns c = sym {A = ℕ} {b = 524288} (length-replicate {0} {A = ℕ} 524288 0)
 
-pub line-room-spec : {M : Type 1} → statement M
-line-room-spec = tie.close (tie.spec returns)
+pub line_room_spec : {M : Type 1} → statement M
+line_room_spec = tie.close (tie.spec returns)

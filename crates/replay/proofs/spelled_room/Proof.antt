@@ -8,5 +8,5 @@ use Rattle.replay.proofs.spelled_room.Tie as tie
 returns : tie.Need-returns
 returns c = sym {A = ℕ} {b = 262144} (length-replicate {0} {A = ℕ} 262144 0)
 
-pub spelled-room-spec : {M : Type 1} → statement M
-spelled-room-spec = tie.close (tie.spec returns)
+pub spelled_room_spec : {M : Type 1} → statement M
+spelled_room_spec = tie.close (tie.spec returns)

@@ -18,13 +18,13 @@ decreases-loop bytes₀ from count at₀ left₀ bytes at left = left
 loop-holds : tie.Need-loop-init invariant-loop decreases-loop
 loop-holds c = (refl, c.requires, refl)
 
-slice-write-bytes : tie.Need-slice-write-bytes invariant-loop decreases-loop
-slice-write-bytes c = search rules
+slice_write-bytes : tie.Need-slice_write-bytes invariant-loop decreases-loop
+slice_write-bytes c = search rules
 
-add_at : tie.Need-overflow-add-at invariant-loop decreases-loop
+add_at : tie.Need-overflow_add-at invariant-loop decreases-loop
 add_at c = search rules
 
-sub-left : tie.Need-overflow-sub-left invariant-loop decreases-loop
+sub-left : tie.Need-overflow_sub-left invariant-loop decreases-loop
 sub-left c = search rules
 
 loop-less : tie.Need-loop-smaller invariant-loop decreases-loop
@@ -33,20 +33,20 @@ loop-less c = search rules
 loop-again : tie.Need-loop-preserved invariant-loop decreases-loop
 loop-again c = (simp length-set (omega arith), omega arith, zero-on c.before.loop.bytes c.before.loop.at c.before.loop.left c.loop-test.true ∙ c.before.loop.invariant.2)
 
-same_length : tie.Need-same-length invariant-loop decreases-loop
+same_length : tie.Need-same_length invariant-loop decreases-loop
 same_length c = c.before.loop.invariant.0
 
 returns : tie.Need-returns invariant-loop decreases-loop
 returns c = zero-none c.before.loop.bytes c.before.loop.at c.before.loop.left c.loop-test.false ∙ c.before.loop.invariant.2
 
-pub clear-bytes-spec : {M : Type 1} → statement M
-clear-bytes-spec =
+pub clear_bytes_spec : {M : Type 1} → statement M
+clear_bytes_spec =
     tie.close
     (tie.spec
     invariant-loop
     decreases-loop
     loop-holds
-    slice-write-bytes
+    slice_write-bytes
     add_at
     sub-left
     loop-less

@@ -18,16 +18,16 @@ decreases-loop words₀ from count at₀ left₀ words at left = left
 loop-holds : tie.Need-loop-init invariant-loop decreases-loop
 loop-holds c = (refl, c.requires, refl)
 
-mul_words : tie.Need-overflow-mul-words invariant-loop decreases-loop
+mul_words : tie.Need-overflow_mul-words invariant-loop decreases-loop
 mul_words c = search rules
 
-slice-write-words : tie.Need-slice-write-words invariant-loop decreases-loop
-slice-write-words c = search rules
+slice_write-words : tie.Need-slice_write-words invariant-loop decreases-loop
+slice_write-words c = search rules
 
-add_at : tie.Need-overflow-add-at invariant-loop decreases-loop
+add_at : tie.Need-overflow_add-at invariant-loop decreases-loop
 add_at c = search rules
 
-sub-left : tie.Need-overflow-sub-left invariant-loop decreases-loop
+sub-left : tie.Need-overflow_sub-left invariant-loop decreases-loop
 sub-left c = search rules
 
 loop-less : tie.Need-loop-smaller invariant-loop decreases-loop
@@ -36,21 +36,21 @@ loop-less c = search rules
 loop-again : tie.Need-loop-preserved invariant-loop decreases-loop
 loop-again c = (simp length-set (omega arith), omega arith, zero-on c.before.loop.words c.before.loop.at c.before.loop.left c.loop-test.true ∙ c.before.loop.invariant.2)
 
-same_length : tie.Need-same-length invariant-loop decreases-loop
+same_length : tie.Need-same_length invariant-loop decreases-loop
 same_length c = c.before.loop.invariant.0
 
 returns : tie.Need-returns invariant-loop decreases-loop
 returns c = zero-none c.before.loop.words c.before.loop.at c.before.loop.left c.loop-test.false ∙ c.before.loop.invariant.2
 
-pub clear-words-spec : {M : Type 1} → statement M
-clear-words-spec =
+pub clear_words_spec : {M : Type 1} → statement M
+clear_words_spec =
     tie.close
     (tie.spec
     invariant-loop
     decreases-loop
     loop-holds
     mul_words
-    slice-write-words
+    slice_write-words
     add_at
     sub-left
     loop-less

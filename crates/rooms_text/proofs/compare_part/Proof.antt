@@ -3,7 +3,7 @@ use borrow.Author.Rules.{rules}
 use Rattle.rooms_text.proofs.compare_part.Statement.{statement}
 use Rattle.rooms_text.proofs.compare_part.Tie as tie
 
-enum_told : tie.Need-enum-told
+enum_told : tie.Need-enum_told
 enum_told c = search rules
 
 part-requires : tie.Need-part-requires
@@ -12,8 +12,8 @@ part-requires c κs = search rules
 compare-requires : tie.Need-compare-requires
 compare-requires c κs = search rules
 
-enum-told-2 : tie.Need-enum-told-2
-enum-told-2 c = search rules
+enum_told-2 : tie.Need-enum_told-2
+enum_told-2 c = search rules
 
 part-requires-2 : tie.Need-part-requires-2
 part-requires-2 c κs = search rules
@@ -21,8 +21,8 @@ part-requires-2 c κs = search rules
 compare-requires-2 : tie.Need-compare-requires-2
 compare-requires-2 c κs = search rules
 
-enum-told-3 : tie.Need-enum-told-3
-enum-told-3 c = search rules
+enum_told-3 : tie.Need-enum_told-3
+enum_told-3 c = search rules
 
 part-requires-3 : tie.Need-part-requires-3
 part-requires-3 c κs = search rules
@@ -34,22 +34,22 @@ returns : tie.Need-returns
 returns c = simp (c.before.before.enum_told.given.1, ← c.before.part.ensures, ← c.compare.ensures)
 
 returns-2 : tie.Need-returns-2
-returns-2 c = simp (c.before.before.enum-told2.given.1, ← c.before.part2.ensures, ← c.compare2.ensures)
+returns-2 c = simp (c.before.before.enum_told2.given.1, ← c.before.part2.ensures, ← c.compare2.ensures)
 
 returns-3 : tie.Need-returns-3
-returns-3 c = simp (c.before.before.enum-told3.given.1, ← c.before.part3.ensures, ← c.compare3.ensures)
+returns-3 c = simp (c.before.before.enum_told3.given.1, ← c.before.part3.ensures, ← c.compare3.ensures)
 
-pub compare-part-spec : {M : Type 1} → statement M
-compare-part-spec =
+pub compare_part_spec : {M : Type 1} → statement M
+compare_part_spec =
     tie.close
     (tie.spec
     enum_told
     part-requires
     compare-requires
-    enum-told-2
+    enum_told-2
     part-requires-2
     compare-requires-2
-    enum-told-3
+    enum_told-3
     part-requires-3
     compare-requires-3
     returns

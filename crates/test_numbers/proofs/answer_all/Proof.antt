@@ -17,22 +17,22 @@ loop-holds c = search rules
 find-requires : tie.Need-find-requires invariant-loop decreases-loop
 find-requires c κs = search rules
 
-sub-answer-line : tie.Need-overflow-sub-answer-line invariant-loop decreases-loop
-sub-answer-line c = search rules
+sub-answer_line : tie.Need-overflow_sub-answer_line invariant-loop decreases-loop
+sub-answer_line c = search rules
 
-part-answer-line-start : tie.Need-slice-bounds-answer-line-start invariant-loop decreases-loop
-part-answer-line-start c = search rules
+part-answer_line-start : tie.Need-slice_bounds-answer_line-start invariant-loop decreases-loop
+part-answer_line-start c = search rules
 
-part-answer-line-end : tie.Need-slice-bounds-answer-line-end invariant-loop decreases-loop
-part-answer-line-end c = search rules
+part-answer_line-end : tie.Need-slice_bounds-answer_line-end invariant-loop decreases-loop
+part-answer_line-end c = search rules
 
-answer-line-requires : tie.Need-answer-line-requires invariant-loop decreases-loop
-answer-line-requires c κs = search rules
+answer_line-requires : tie.Need-answer_line-requires invariant-loop decreases-loop
+answer_line-requires c κs = search rules
 
-add-from : tie.Need-overflow-add-from invariant-loop decreases-loop
+add-from : tie.Need-overflow_add-from invariant-loop decreases-loop
 add-from c = search rules
 
-add-cases : tie.Need-overflow-add-cases invariant-loop decreases-loop
+add-cases : tie.Need-overflow_add-cases invariant-loop decreases-loop
 add-cases c = search rules
 
 loop-less : tie.Need-loop-smaller invariant-loop decreases-loop
@@ -44,18 +44,18 @@ loop-again c = search rules
 returns : tie.Need-returns invariant-loop decreases-loop
 returns c = search rules
 
-pub answer-all-spec : {M : Type 1} → statement M
-answer-all-spec =
+pub answer_all_spec : {M : Type 1} → statement M
+answer_all_spec =
     tie.close
     (tie.spec
     invariant-loop
     decreases-loop
     loop-holds
     find-requires
-    sub-answer-line
-    part-answer-line-start
-    part-answer-line-end
-    answer-line-requires
+    sub-answer_line
+    part-answer_line-start
+    part-answer_line-end
+    answer_line-requires
     add-from
     add-cases
     loop-less

@@ -8,5 +8,5 @@ use Rattle.test_tables.proofs.room.Tie as tie
 returns : tie.Need-returns
 returns c = sym {A = ℕ} {b = 524288} (length-replicate {0} {A = ℕ} 524288 0)
 
-pub room-spec : {M : Type 1} → statement M
-room-spec = tie.close (tie.spec returns)
+pub room_spec : {M : Type 1} → statement M
+room_spec = tie.close (tie.spec returns)

@@ -4,14 +4,14 @@ use borrow.Author.Rules.{rules}
 use Rattle.answer_values.proofs.entries.entry_from.Statement.{statement}
 use Rattle.answer_values.proofs.entries.entry_from.Tie as tie
 
-mul-cell-at : tie.Need-overflow-mul-cell-at
-mul-cell-at c = search rules
+mul-cell_at : tie.Need-overflow_mul-cell_at
+mul-cell_at c = search rules
 
-add-cell-at : tie.Need-overflow-add-cell-at
-add-cell-at c = search rules
+add-cell_at : tie.Need-overflow_add-cell_at
+add-cell_at c = search rules
 
-cell-at-requires : tie.Need-cell-at-requires
-cell-at-requires c κs = search rules
+cell_at-requires : tie.Need-cell_at-requires
+cell_at-requires c κs = search rules
 
 returns : tie.Need-returns
 returns c = inside _ _ _ _ _ c.before.if1.true c.Cell-at.ensures
@@ -19,5 +19,5 @@ returns c = inside _ _ _ _ _ c.before.if1.true c.Cell-at.ensures
 returns-2 : tie.Need-returns-2
 returns-2 c = outside _ _ _ _ c.if1.false
 
-pub entry-from-spec : {M : Type 1} → statement M
-entry-from-spec = tie.close (tie.spec mul-cell-at add-cell-at cell-at-requires returns returns-2)
+pub entry_from_spec : {M : Type 1} → statement M
+entry_from_spec = tie.close (tie.spec mul-cell_at add-cell_at cell_at-requires returns returns-2)

@@ -3,35 +3,35 @@ use borrow.Author.Rules.{rules}
 use Rattle.answer_values.proofs.entries.value_of.Statement.{statement}
 use Rattle.answer_values.proofs.entries.value_of.Tie as tie
 
-parts-of-requires : tie.Need-parts-of-requires
-parts-of-requires c κs = search rules
+parts_of-requires : tie.Need-parts_of-requires
+parts_of-requires c κs = search rules
 
-enum_told : tie.Need-enum-told
+enum_told : tie.Need-enum_told
 enum_told c = search rules
 
-enum-known-parts : tie.Need-enum-known-parts
-enum-known-parts c = search rules
+enum_known-parts : tie.Need-enum_known-parts
+enum_known-parts c = search rules
 
-cast-entry-from : tie.Need-overflow-cast-entry-from
-cast-entry-from c = search rules
+cast-entry_from : tie.Need-overflow_cast-entry_from
+cast-entry_from c = search rules
 
-add-entry-from : tie.Need-overflow-add-entry-from
-add-entry-from c = search rules
+add-entry_from : tie.Need-overflow_add-entry_from
+add-entry_from c = search rules
 
-entry-from-requires : tie.Need-entry-from-requires
-entry-from-requires c κs = search rules
+entry_from-requires : tie.Need-entry_from-requires
+entry_from-requires c κs = search rules
 
-enum-told-2 : tie.Need-enum-told-2
-enum-told-2 c = search rules
+enum_told-2 : tie.Need-enum_told-2
+enum_told-2 c = search rules
 
-enum-told-3 : tie.Need-enum-told-3
-enum-told-3 c = search rules
+enum_told-3 : tie.Need-enum_told-3
+enum_told-3 c = search rules
 
 returns : tie.Need-returns
 returns c = search rules
 
 returns-2 : tie.Need-returns-2
-returns-2 c = simp (c.entry-from.ensures, ← c.before.before.before.before.parts-of.ensures, c.before.before.parts.given.1)
+returns-2 c = simp (c.entry_from.ensures, ← c.before.before.before.before.parts_of.ensures, c.before.before.parts.given.1)
 
 returns-3 : tie.Need-returns-3
 returns-3 c = search rules
@@ -39,18 +39,18 @@ returns-3 c = search rules
 returns-4 : tie.Need-returns-4
 returns-4 c = search rules
 
-pub value-of-spec : {M : Type 1} → statement M
-value-of-spec =
+pub value_of_spec : {M : Type 1} → statement M
+value_of_spec =
     tie.close
     (tie.spec
-    parts-of-requires
+    parts_of-requires
     enum_told
-    enum-known-parts
-    cast-entry-from
-    add-entry-from
-    entry-from-requires
-    enum-told-2
-    enum-told-3
+    enum_known-parts
+    cast-entry_from
+    add-entry_from
+    entry_from-requires
+    enum_told-2
+    enum_told-3
     returns
     returns-2
     returns-3

@@ -3,29 +3,29 @@ use borrow.Author.Rules.{rules}
 use Rattle.answer_values.proofs.kinds.truth_of.Statement.{statement}
 use Rattle.answer_values.proofs.kinds.truth_of.Tie as tie
 
-plain-of-requires : tie.Need-plain-of-requires
-plain-of-requires c κs = search rules
+plain_of-requires : tie.Need-plain_of-requires
+plain_of-requires c κs = search rules
 
-enum_told : tie.Need-enum-told
+enum_told : tie.Need-enum_told
 enum_told c = search rules
 
-enum-known-plain : tie.Need-enum-known-plain
-enum-known-plain c = search rules
+enum_known-plain : tie.Need-enum_known-plain
+enum_known-plain c = search rules
 
-enum-told-2 : tie.Need-enum-told-2
-enum-told-2 c = search rules
+enum_told-2 : tie.Need-enum_told-2
+enum_told-2 c = search rules
 
-enum-told-3 : tie.Need-enum-told-3
-enum-told-3 c = search rules
+enum_told-3 : tie.Need-enum_told-3
+enum_told-3 c = search rules
 
-enum-told-4 : tie.Need-enum-told-4
-enum-told-4 c = search rules
+enum_told-4 : tie.Need-enum_told-4
+enum_told-4 c = search rules
 
-enum-told-5 : tie.Need-enum-told-5
-enum-told-5 c = search rules
+enum_told-5 : tie.Need-enum_told-5
+enum_told-5 c = search rules
 
-enum-told-6 : tie.Need-enum-told-6
-enum-told-6 c = search rules
+enum_told-6 : tie.Need-enum_told-6
+enum_told-6 c = search rules
 
 returns : tie.Need-returns
 returns c = search rules
@@ -48,18 +48,18 @@ returns-6 c = search rules
 returns-7 : tie.Need-returns-7
 returns-7 c = search rules
 
-pub truth-of-spec : {M : Type 1} → statement M
-truth-of-spec =
+pub truth_of_spec : {M : Type 1} → statement M
+truth_of_spec =
     tie.close
     (tie.spec
-    plain-of-requires
+    plain_of-requires
     enum_told
-    enum-known-plain
-    enum-told-2
-    enum-told-3
-    enum-told-4
-    enum-told-5
-    enum-told-6
+    enum_known-plain
+    enum_told-2
+    enum_told-3
+    enum_told-4
+    enum_told-5
+    enum_told-6
     returns
     returns-2
     returns-3

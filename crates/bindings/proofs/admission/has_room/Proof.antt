@@ -13,5 +13,5 @@ returns c = sym (lt-leb (c.before.args.used + c.before.args.need) c.before.args.
 returns-2 : tie.Need-returns-2
 returns-2 c = room-left c.before.args.room c.before.args.used c.before.args.need c.if1.false
 
-pub has-room-spec : {M : Type 1} → statement M
-has-room-spec = tie.close (tie.spec returns returns-2)
+pub has_room_spec : {M : Type 1} → statement M
+has_room_spec = tie.close (tie.spec returns returns-2)

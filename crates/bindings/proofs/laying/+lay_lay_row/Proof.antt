@@ -8,54 +8,54 @@ use Rattle.bindings.proofs.laying.lay_row.Reads as lay-row
 use Rattle.bindings.proofs.laying.+lay_lay_row.Lts-lay_row as lay-row-lts
 use Rattle.bindings.proofs.laying.+lay_lay_row.{statement}
 use Rattle.bindings.proofs.laying.+lay_lay_row.Tie.{close}
-use Rattle.bindings.proofs.laying.+lay_lay_row.Proof.Kit.{μ-lay, μ-lay-row, lay_at, lay-row-at, lay-claims, lay-row-claims}
-use Rattle.bindings.proofs.laying.+lay_lay_row.Proof.Lay.{lay-kind-at-requires, lay-first-operand-requires, lay-count-at-requires, lay-lay-row-requires, lay-add-t20, lay-cast-t22, lay-cast-t23, lay-same-length, lay-same-length-2, lay-returns, lay-first-operand-requires-2, lay-count-at-requires-2, lay-mul-lay-row, lay-lay-row-requires-2, lay-add-t30, lay-cast-t32, lay-cast-t33, lay-same-length-3, lay-same-length-4, lay-returns-2, lay-literal-at-requires, lay-lay-literal-requires, lay-same-length-5, lay-returns-3}
-use Rattle.bindings.proofs.laying.+lay_lay_row.Proof.LayRow.{lay-row-Inv-loop, lay-row-μ-loop, lay-row-add-t15, lay-row-loop-holds, lay-row-lay-requires, lay-row-write-cell-requires, lay-row-nesting-of-requires, lay-row-deeper-requires, lay-row-end-at-requires, lay-row-add-to, lay-row-sub-left, lay-row-loop-less, lay-row-loop-again, lay-row-same-length, lay-row-same-length-2, lay-row-returns}
+use Rattle.bindings.proofs.laying.+lay_lay_row.Proof.Kit.{μ-lay, μ-lay_row, lay_at, lay_row-at, lay-claims, lay_row-claims}
+use Rattle.bindings.proofs.laying.+lay_lay_row.Proof.Lay.{lay-kind_at-requires, lay-first_operand-requires, lay-count_at-requires, lay-lay_row-requires, lay-add-t20, lay-cast-t22, lay-cast-t23, lay-same_length, lay-same_length-2, lay-returns, lay-first_operand-requires-2, lay-count_at-requires-2, lay-mul-lay_row, lay-lay_row-requires-2, lay-add-t30, lay-cast-t32, lay-cast-t33, lay-same_length-3, lay-same_length-4, lay-returns-2, lay-literal_at-requires, lay-lay_literal-requires, lay-same_length-5, lay-returns-3}
+use Rattle.bindings.proofs.laying.+lay_lay_row.Proof.LayRow.{lay_row-Inv-loop, lay_row-μ-loop, lay_row-add-t15, lay_row-loop-holds, lay_row-lay-requires, lay_row-write_cell-requires, lay_row-nesting_of-requires, lay_row-deeper-requires, lay_row-end_at-requires, lay_row-add-to, lay_row-sub-left, lay_row-loop-less, lay_row-loop-again, lay_row-same_length, lay_row-same_length-2, lay_row-returns}
 
-pub +lay-lay-row-spec : {M : Type 1} → statement M
-+lay-lay-row-spec = close μ-lay μ-lay-row (λ t. lay-lts.spec (lay-claims t)
+pub +lay_lay_row_spec : {M : Type 1} → statement M
++lay_lay_row_spec = close μ-lay μ-lay_row (λ t. lay-lts.spec (lay-claims t)
     (lay_at t)
     lay.Post
-    (lay-kind-at-requires t)
-    (lay-first-operand-requires t)
-    (lay-count-at-requires t)
-    (lay-lay-row-requires t)
+    (lay-kind_at-requires t)
+    (lay-first_operand-requires t)
+    (lay-count_at-requires t)
+    (lay-lay_row-requires t)
     (lay-add-t20 t)
     (lay-cast-t22 t)
     (lay-cast-t23 t)
-    (lay-same-length t)
-    (lay-same-length-2 t)
+    (lay-same_length t)
+    (lay-same_length-2 t)
     (lay-returns t)
-    (lay-first-operand-requires-2 t)
-    (lay-count-at-requires-2 t)
-    (lay-mul-lay-row t)
-    (lay-lay-row-requires-2 t)
+    (lay-first_operand-requires-2 t)
+    (lay-count_at-requires-2 t)
+    (lay-mul-lay_row t)
+    (lay-lay_row-requires-2 t)
     (lay-add-t30 t)
     (lay-cast-t32 t)
     (lay-cast-t33 t)
-    (lay-same-length-3 t)
-    (lay-same-length-4 t)
+    (lay-same_length-3 t)
+    (lay-same_length-4 t)
     (lay-returns-2 t)
-    (lay-literal-at-requires t)
-    (lay-lay-literal-requires t)
-    (lay-same-length-5 t)
+    (lay-literal_at-requires t)
+    (lay-lay_literal-requires t)
+    (lay-same_length-5 t)
     (lay-returns-3 t))
-    λ t. lay-row-lts.spec (lay-row-claims t)
-    (lay-row-at t)
+    λ t. lay-row-lts.spec (lay_row-claims t)
+    (lay_row-at t)
     lay-row.Post
-    lay-row-Inv-loop
-    lay-row-μ-loop
-    (lay-row-add-t15 t)
-    (lay-row-loop-holds t)
-    (lay-row-lay-requires t)
-    (lay-row-write-cell-requires t)
-    (lay-row-nesting-of-requires t)
-    (lay-row-deeper-requires t)
-    (lay-row-end-at-requires t)
-    (lay-row-add-to t)
-    (lay-row-sub-left t)
-    (lay-row-loop-less t)
-    (lay-row-loop-again t)
-    (lay-row-same-length t)
-    (lay-row-same-length-2 t)
-    (lay-row-returns t)
+    lay_row-Inv-loop
+    lay_row-μ-loop
+    (lay_row-add-t15 t)
+    (lay_row-loop-holds t)
+    (lay_row-lay-requires t)
+    (lay_row-write_cell-requires t)
+    (lay_row-nesting_of-requires t)
+    (lay_row-deeper-requires t)
+    (lay_row-end_at-requires t)
+    (lay_row-add-to t)
+    (lay_row-sub-left t)
+    (lay_row-loop-less t)
+    (lay_row-loop-again t)
+    (lay_row-same_length t)
+    (lay_row-same_length-2 t)
+    (lay_row-returns t)

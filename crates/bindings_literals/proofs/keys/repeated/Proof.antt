@@ -18,53 +18,53 @@ decreases-loop table literal first count key at₀ left₀ t9 t10 at left = left
 loop-holds : tie.Need-loop-init invariant-loop decreases-loop
 loop-holds c = (c.before.before.requires, refl)
 
-literal-at-requires : tie.Need-literal-at-requires invariant-loop decreases-loop
-literal-at-requires c κs = let f = first_entry c.before.before.before.before.args.table.now c.before.before.before.before.args.literal.now c.before.loop.left c.before.loop.at c.loop-test.true c.before.loop.invariant.0 in let p = sound-place c.before.before.before.before.args.table.now c.before.before.before.before.args.literal.now c.before.loop.at f.0 in (p.known, p.head)
+literal_at-requires : tie.Need-literal_at-requires invariant-loop decreases-loop
+literal_at-requires c κs = let f = first_entry c.before.before.before.before.args.table.now c.before.before.before.before.args.literal.now c.before.loop.left c.before.loop.at c.loop-test.true c.before.loop.invariant.0 in let p = sound-place c.before.before.before.before.args.table.now c.before.before.before.before.args.literal.now c.before.loop.at f.0 in (p.known, p.head)
 
-slice-aggregate-key-equal : tie.Need-slice-aggregate-key-equal invariant-loop decreases-loop
-slice-aggregate-key-equal c = search rules
+slice-aggregate-key_equal : tie.Need-slice-aggregate-key_equal invariant-loop decreases-loop
+slice-aggregate-key_equal c = search rules
 
-slice-aggregate-key-equal-2 : tie.Need-slice-aggregate-key-equal-2 invariant-loop decreases-loop
-slice-aggregate-key-equal-2 c = search rules
+slice-aggregate-key_equal-2 : tie.Need-slice-aggregate-key_equal-2 invariant-loop decreases-loop
+slice-aggregate-key_equal-2 c = search rules
 
-key-equal-requires : tie.Need-key-equal-requires invariant-loop decreases-loop
-key-equal-requires c κs = search rules
+key_equal-requires : tie.Need-key_equal-requires invariant-loop decreases-loop
+key_equal-requires c κs = search rules
 
 returns : tie.Need-returns invariant-loop decreases-loop
-returns c = repeated-found c.before.before.before.before.before.before.before.before.before.args.table.now c.before.before.before.before.before.before.before.before.before.args.literal.now c.before.before.before.before.before.before.before.before.before.args.key c.before.before.before.before.literal-at.result c.before.before.before.before.before.before.loop.left c.before.before.before.before.before.before.loop.at c.before.before.before.before.before.loop-test.true c.before.before.before.before.literal-at.ensures (sym c.before.key-equal.ensures ∙ c.if1.true) ∙ c.before.before.before.before.before.before.loop.invariant.1
+returns c = repeated-found c.before.before.before.before.before.before.before.before.before.args.table.now c.before.before.before.before.before.before.before.before.before.args.literal.now c.before.before.before.before.before.before.before.before.before.args.key c.before.before.before.before.literal_at.result c.before.before.before.before.before.before.loop.left c.before.before.before.before.before.before.loop.at c.before.before.before.before.before.loop-test.true c.before.before.before.before.literal_at.ensures (sym c.before.key_equal.ensures ∙ c.if1.true) ∙ c.before.before.before.before.before.before.loop.invariant.1
 
-end-at-requires : tie.Need-end-at-requires invariant-loop decreases-loop
-end-at-requires c κs = let f = first_entry c.before.before.before.before.before.before.before.before.before.args.table.now c.before.before.before.before.before.before.before.before.before.args.literal.now c.before.before.before.before.before.before.loop.left c.before.before.before.before.before.before.loop.at c.before.before.before.before.before.loop-test.true c.before.before.before.before.before.before.loop.invariant.0 in let p = sound-place c.before.before.before.before.before.before.before.before.before.args.table.now c.before.before.before.before.before.before.before.before.before.args.literal.now c.before.before.before.before.before.before.loop.at f.0 in p.three
+end_at-requires : tie.Need-end_at-requires invariant-loop decreases-loop
+end_at-requires c κs = let f = first_entry c.before.before.before.before.before.before.before.before.before.args.table.now c.before.before.before.before.before.before.before.before.before.args.literal.now c.before.before.before.before.before.before.loop.left c.before.before.before.before.before.before.loop.at c.before.before.before.before.before.loop-test.true c.before.before.before.before.before.before.loop.invariant.0 in let p = sound-place c.before.before.before.before.before.before.before.before.before.args.table.now c.before.before.before.before.before.before.before.before.before.args.literal.now c.before.before.before.before.before.before.loop.at f.0 in p.three
 
-end-at-requires-2 : tie.Need-end-at-requires-2 invariant-loop decreases-loop
-end-at-requires-2 c κs = let f = first_entry c.before.before.before.before.before.before.before.before.before.before.args.table.now c.before.before.before.before.before.before.before.before.before.before.args.literal.now c.before.before.before.before.before.before.before.loop.left c.before.before.before.before.before.before.before.loop.at c.before.before.before.before.before.before.loop-test.true c.before.before.before.before.before.before.before.loop.invariant.0 in let p = sound-place c.before.before.before.before.before.before.before.before.before.before.args.table.now c.before.before.before.before.before.before.before.before.before.before.args.literal.now c.before.before.before.before.before.before.before.loop.at f.0 in let r = part-place c.before.before.before.before.before.before.before.before.before.before.args.table.now c.before.before.before.before.before.before.before.before.before.before.args.literal.now _ f.1 in rw c.end-at.ensures r.three
+end_at-requires-2 : tie.Need-end_at-requires-2 invariant-loop decreases-loop
+end_at-requires-2 c κs = let f = first_entry c.before.before.before.before.before.before.before.before.before.before.args.table.now c.before.before.before.before.before.before.before.before.before.before.args.literal.now c.before.before.before.before.before.before.before.loop.left c.before.before.before.before.before.before.before.loop.at c.before.before.before.before.before.before.loop-test.true c.before.before.before.before.before.before.before.loop.invariant.0 in let p = sound-place c.before.before.before.before.before.before.before.before.before.before.args.table.now c.before.before.before.before.before.before.before.before.before.before.args.literal.now c.before.before.before.before.before.before.before.loop.at f.0 in let r = part-place c.before.before.before.before.before.before.before.before.before.before.args.table.now c.before.before.before.before.before.before.before.before.before.before.args.literal.now _ f.1 in rw c.end_at.ensures r.three
 
-sub-left : tie.Need-overflow-sub-left invariant-loop decreases-loop
+sub-left : tie.Need-overflow_sub-left invariant-loop decreases-loop
 sub-left c = search rules
 
 loop-less : tie.Need-loop-smaller invariant-loop decreases-loop
 loop-less c = omega arith
 
 loop-again : tie.Need-loop-preserved invariant-loop decreases-loop
-loop-again c = let f = first_entry c.before.before.before.before.before.before.before.before.before.before.before.args.table.now c.before.before.before.before.before.before.before.before.before.before.before.args.literal.now c.before.before.before.before.before.before.before.before.loop.left c.before.before.before.before.before.before.before.before.loop.at c.before.before.before.before.before.before.before.loop-test.true c.before.before.before.before.before.before.before.before.loop.invariant.0 in let p = sound-place c.before.before.before.before.before.before.before.before.before.before.before.args.table.now c.before.before.before.before.before.before.before.before.before.before.before.args.literal.now c.before.before.before.before.before.before.before.before.loop.at f.0 in (rw (c.end-at2.ensures, c.before.end-at.ensures) f.2, repeated-on c.before.before.before.before.before.before.before.before.before.before.before.args.table.now c.before.before.before.before.before.before.before.before.before.before.before.args.literal.now c.before.before.before.before.before.before.before.before.before.before.before.args.key c.before.before.before.before.before.before.literal-at.result c.before.before.before.before.before.before.before.before.loop.left c.before.before.before.before.before.before.before.before.loop.at c.before.before.before.before.before.before.before.loop-test.true c.before.before.before.before.before.before.literal-at.ensures (sym c.before.before.before.key-equal.ensures ∙ c.before.before.if1.false) c.before.end-at.result c.end-at2.result c.before.end-at.ensures c.end-at2.ensures ∙ c.before.before.before.before.before.before.before.before.loop.invariant.1)
+loop-again c = let f = first_entry c.before.before.before.before.before.before.before.before.before.before.before.args.table.now c.before.before.before.before.before.before.before.before.before.before.before.args.literal.now c.before.before.before.before.before.before.before.before.loop.left c.before.before.before.before.before.before.before.before.loop.at c.before.before.before.before.before.before.before.loop-test.true c.before.before.before.before.before.before.before.before.loop.invariant.0 in let p = sound-place c.before.before.before.before.before.before.before.before.before.before.before.args.table.now c.before.before.before.before.before.before.before.before.before.before.before.args.literal.now c.before.before.before.before.before.before.before.before.loop.at f.0 in (rw (c.end_at2.ensures, c.before.end_at.ensures) f.2, repeated-on c.before.before.before.before.before.before.before.before.before.before.before.args.table.now c.before.before.before.before.before.before.before.before.before.before.before.args.literal.now c.before.before.before.before.before.before.before.before.before.before.before.args.key c.before.before.before.before.before.before.literal_at.result c.before.before.before.before.before.before.before.before.loop.left c.before.before.before.before.before.before.before.before.loop.at c.before.before.before.before.before.before.before.loop-test.true c.before.before.before.before.before.before.literal_at.ensures (sym c.before.before.before.key_equal.ensures ∙ c.before.before.if1.false) c.before.end_at.result c.end_at2.result c.before.end_at.ensures c.end_at2.ensures ∙ c.before.before.before.before.before.before.before.before.loop.invariant.1)
 
 returns-2 : tie.Need-returns-2 invariant-loop decreases-loop
 returns-2 c = repeated-none c.before.before.before.before.args.table.now c.before.before.before.before.args.literal.now c.before.before.before.before.args.key c.before.loop.left c.before.loop.at c.loop-test.false ∙ c.before.loop.invariant.1
 
-pub repeated-spec : {M : Type 1} → statement M
-repeated-spec =
+pub repeated_spec : {M : Type 1} → statement M
+repeated_spec =
     tie.close
     (tie.spec
     invariant-loop
     decreases-loop
     loop-holds
-    literal-at-requires
-    slice-aggregate-key-equal
-    slice-aggregate-key-equal-2
-    key-equal-requires
+    literal_at-requires
+    slice-aggregate-key_equal
+    slice-aggregate-key_equal-2
+    key_equal-requires
     returns
-    end-at-requires
-    end-at-requires-2
+    end_at-requires
+    end_at-requires-2
     sub-left
     loop-less
     loop-again

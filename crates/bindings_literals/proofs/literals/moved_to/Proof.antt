@@ -6,44 +6,44 @@ use borrow.Author.Rules.{rules}
 use Rattle.bindings_literals.proofs.literals.moved_to.Statement.{statement}
 use Rattle.bindings_literals.proofs.literals.moved_to.Tie as tie
 
-enum_told : tie.Need-enum-told
+enum_told : tie.Need-enum_told
 enum_told c = search rules
 
-enum-known-v : tie.Need-enum-known-v
-enum-known-v c = search rules
+enum_known-v : tie.Need-enum_known-v
+enum_known-v c = search rules
 
-enum-known-v-2 : tie.Need-enum-known-v-2
-enum-known-v-2 c = search rules
+enum_known-v-2 : tie.Need-enum_known-v-2
+enum_known-v-2 c = search rules
 
-enum-known-v-3 : tie.Need-enum-known-v-3
-enum-known-v-3 c = search rules
+enum_known-v-3 : tie.Need-enum_known-v-3
+enum_known-v-3 c = search rules
 
-enum-known-v-4 : tie.Need-enum-known-v-4
-enum-known-v-4 c = search rules
+enum_known-v-4 : tie.Need-enum_known-v-4
+enum_known-v-4 c = search rules
 
-enum-known-v-5 : tie.Need-enum-known-v-5
-enum-known-v-5 c = search rules
+enum_known-v-5 : tie.Need-enum_known-v-5
+enum_known-v-5 c = search rules
 
-enum-known-v-6 : tie.Need-enum-known-v-6
-enum-known-v-6 c = search rules
+enum_known-v-6 : tie.Need-enum_known-v-6
+enum_known-v-6 c = search rules
 
-enum-known-v-7 : tie.Need-enum-known-v-7
-enum-known-v-7 c = search rules
+enum_known-v-7 : tie.Need-enum_known-v-7
+enum_known-v-7 c = search rules
 
-enum-known-v-8 : tie.Need-enum-known-v-8
-enum-known-v-8 c = search rules
+enum_known-v-8 : tie.Need-enum_known-v-8
+enum_known-v-8 c = search rules
 
-enum-known-v-9 : tie.Need-enum-known-v-9
-enum-known-v-9 c = search rules
+enum_known-v-9 : tie.Need-enum_known-v-9
+enum_known-v-9 c = search rules
 
-enum-told-2 : tie.Need-enum-told-2
-enum-told-2 c = search rules
+enum_told-2 : tie.Need-enum_told-2
+enum_told-2 c = search rules
 
-enum-known-v-10 : tie.Need-enum-known-v-10
-enum-known-v-10 c = search rules
+enum_known-v-10 : tie.Need-enum_known-v-10
+enum_known-v-10 c = search rules
 
-enum-told-3 : tie.Need-enum-told-3
-enum-told-3 c = search rules
+enum_told-3 : tie.Need-enum_told-3
+enum_told-3 c = search rules
 
 returns : tie.Need-returns
 returns c = search rules
@@ -52,7 +52,7 @@ returns-2 : tie.Need-returns-2
 returns-2 c = simp c.before.v.given.1
 
 returns-3 : tie.Need-returns-3
-returns-3 c = rw (to_z-of_z w64 c.before.v2.given.0.0 (sfits_of c.known-told2.given.0.1)) (simp c.before.v2.given.1)
+returns-3 c = rw (to_z-of_z w64 c.before.v2.given.0.0 (sfits_of c.known_told2.given.0.1)) (simp c.before.v2.given.1)
 
 returns-4 : tie.Need-returns-4
 returns-4 c = simp c.before.v3.given.1
@@ -84,23 +84,23 @@ returns-12 c = simp c.before.v10.given.1
 returns-13 : tie.Need-returns-13
 returns-13 c = search rules
 
-pub moved-to-spec : {M : Type 1} → statement M
-moved-to-spec =
+pub moved_to_spec : {M : Type 1} → statement M
+moved_to_spec =
     tie.close
     (tie.spec
     enum_told
-    enum-known-v
-    enum-known-v-2
-    enum-known-v-3
-    enum-known-v-4
-    enum-known-v-5
-    enum-known-v-6
-    enum-known-v-7
-    enum-known-v-8
-    enum-known-v-9
-    enum-told-2
-    enum-known-v-10
-    enum-told-3
+    enum_known-v
+    enum_known-v-2
+    enum_known-v-3
+    enum_known-v-4
+    enum_known-v-5
+    enum_known-v-6
+    enum_known-v-7
+    enum_known-v-8
+    enum_known-v-9
+    enum_told-2
+    enum_known-v-10
+    enum_told-3
     returns
     returns-2
     returns-3

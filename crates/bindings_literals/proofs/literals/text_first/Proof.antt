@@ -3,44 +3,44 @@ use borrow.Author.Rules.{rules}
 use Rattle.bindings_literals.proofs.literals.text_first.Statement.{statement}
 use Rattle.bindings_literals.proofs.literals.text_first.Tie as tie
 
-enum_told : tie.Need-enum-told
+enum_told : tie.Need-enum_told
 enum_told c = search rules
 
-enum-told-2 : tie.Need-enum-told-2
-enum-told-2 c = search rules
+enum_told-2 : tie.Need-enum_told-2
+enum_told-2 c = search rules
 
-enum-told-3 : tie.Need-enum-told-3
-enum-told-3 c = search rules
+enum_told-3 : tie.Need-enum_told-3
+enum_told-3 c = search rules
 
-enum-told-4 : tie.Need-enum-told-4
-enum-told-4 c = search rules
+enum_told-4 : tie.Need-enum_told-4
+enum_told-4 c = search rules
 
-enum-told-5 : tie.Need-enum-told-5
-enum-told-5 c = search rules
+enum_told-5 : tie.Need-enum_told-5
+enum_told-5 c = search rules
 
-enum-told-6 : tie.Need-enum-told-6
-enum-told-6 c = search rules
+enum_told-6 : tie.Need-enum_told-6
+enum_told-6 c = search rules
 
-enum-known-v : tie.Need-enum-known-v
-enum-known-v c = search rules
+enum_known-v : tie.Need-enum_known-v
+enum_known-v c = search rules
 
-enum-known-v-2 : tie.Need-enum-known-v-2
-enum-known-v-2 c = search rules
+enum_known-v-2 : tie.Need-enum_known-v-2
+enum_known-v-2 c = search rules
 
-enum-told-7 : tie.Need-enum-told-7
-enum-told-7 c = search rules
+enum_told-7 : tie.Need-enum_told-7
+enum_told-7 c = search rules
 
-enum-told-8 : tie.Need-enum-told-8
-enum-told-8 c = search rules
+enum_told-8 : tie.Need-enum_told-8
+enum_told-8 c = search rules
 
-enum-told-9 : tie.Need-enum-told-9
-enum-told-9 c = search rules
+enum_told-9 : tie.Need-enum_told-9
+enum_told-9 c = search rules
 
-enum-told-10 : tie.Need-enum-told-10
-enum-told-10 c = search rules
+enum_told-10 : tie.Need-enum_told-10
+enum_told-10 c = search rules
 
-enum-told-11 : tie.Need-enum-told-11
-enum-told-11 c = search rules
+enum_told-11 : tie.Need-enum_told-11
+enum_told-11 c = search rules
 
 returns : tie.Need-returns
 returns c = search rules
@@ -81,23 +81,23 @@ returns-12 c = search rules
 returns-13 : tie.Need-returns-13
 returns-13 c = search rules
 
-pub text-first-spec : {M : Type 1} → statement M
-text-first-spec =
+pub text_first_spec : {M : Type 1} → statement M
+text_first_spec =
     tie.close
     (tie.spec
     enum_told
-    enum-told-2
-    enum-told-3
-    enum-told-4
-    enum-told-5
-    enum-told-6
-    enum-known-v
-    enum-known-v-2
-    enum-told-7
-    enum-told-8
-    enum-told-9
-    enum-told-10
-    enum-told-11
+    enum_told-2
+    enum_told-3
+    enum_told-4
+    enum_told-5
+    enum_told-6
+    enum_known-v
+    enum_known-v-2
+    enum_told-7
+    enum_told-8
+    enum_told-9
+    enum_told-10
+    enum_told-11
     returns
     returns-2
     returns-3

@@ -17,39 +17,39 @@ decreases-loop cells first count most₀ at₀ left₀ most at left = left
 loop-holds : tie.Need-loop-init invariant-loop decreases-loop
 loop-holds c = (omega arith, max-zero _)
 
-read-cell-requires : tie.Need-read-cell-requires invariant-loop decreases-loop
-read-cell-requires c κs = search rules
+read_cell-requires : tie.Need-read_cell-requires invariant-loop decreases-loop
+read_cell-requires c κs = search rules
 
-nesting-of-requires : tie.Need-nesting-of-requires invariant-loop decreases-loop
-nesting-of-requires c κs = search rules
+nesting_of-requires : tie.Need-nesting_of-requires invariant-loop decreases-loop
+nesting_of-requires c κs = search rules
 
 deeper-requires : tie.Need-deeper-requires invariant-loop decreases-loop
 deeper-requires c κs = search rules
 
-add_at : tie.Need-overflow-add-at invariant-loop decreases-loop
+add_at : tie.Need-overflow_add-at invariant-loop decreases-loop
 add_at c = search rules
 
-sub-left : tie.Need-overflow-sub-left invariant-loop decreases-loop
+sub-left : tie.Need-overflow_sub-left invariant-loop decreases-loop
 sub-left c = search rules
 
 loop-less : tie.Need-loop-smaller invariant-loop decreases-loop
 loop-less c = search rules
 
 loop-again : tie.Need-loop-preserved invariant-loop decreases-loop
-loop-again c = (omega arith, deepest-on c.before.before.before.before.before.before.args.cells.now c.before.before.before.before.loop.most c.deeper.result c.before.before.before.before.loop.at c.before.before.before.before.loop.left c.before.before.read_cell.result c.before.before.before.loop-test.true c.before.before.read_cell.ensures (c.deeper.ensures ∙ ap (λ d. max c.before.before.before.before.loop.most d) c.before.nesting-of.ensures) ∙ c.before.before.before.before.loop.invariant.1)
+loop-again c = (omega arith, deepest-on c.before.before.before.before.before.before.args.cells.now c.before.before.before.before.loop.most c.deeper.result c.before.before.before.before.loop.at c.before.before.before.before.loop.left c.before.before.read_cell.result c.before.before.before.loop-test.true c.before.before.read_cell.ensures (c.deeper.ensures ∙ ap (λ d. max c.before.before.before.before.loop.most d) c.before.nesting_of.ensures) ∙ c.before.before.before.before.loop.invariant.1)
 
 returns : tie.Need-returns invariant-loop decreases-loop
 returns c = deepest-none c.before.before.before.args.cells.now c.before.loop.most c.before.loop.at c.before.loop.left c.loop-test.false ∙ c.before.loop.invariant.1
 
-pub deepest-spec : {M : Type 1} → statement M
-deepest-spec =
+pub deepest_spec : {M : Type 1} → statement M
+deepest_spec =
     tie.close
     (tie.spec
     invariant-loop
     decreases-loop
     loop-holds
-    read-cell-requires
-    nesting-of-requires
+    read_cell-requires
+    nesting_of-requires
     deeper-requires
     add_at
     sub-left

@@ -4,17 +4,17 @@ use borrow.Author.Rules.{rules}
 use Rattle.bindings_sound.proofs.references.span_fits.Statement.{statement}
 use Rattle.bindings_sound.proofs.references.span_fits.Tie as tie
 
-enum_told : tie.Need-enum-told
+enum_told : tie.Need-enum_told
 enum_told c = search rules
 
-enum-told-2 : tie.Need-enum-told-2
-enum-told-2 c = search rules
+enum_told-2 : tie.Need-enum_told-2
+enum_told-2 c = search rules
 
-add-result : tie.Need-overflow-add-result
+add-result : tie.Need-overflow_add-result
 add-result c = search rules
 
-enum-told-3 : tie.Need-enum-told-3
-enum-told-3 c = search rules
+enum_told-3 : tie.Need-enum_told-3
+enum_told-3 c = search rules
 
 returns : tie.Need-returns
 unfolding span_fits
@@ -22,12 +22,12 @@ returns c = rw c.enum_told.given.1
 
 returns-2 : tie.Need-returns-2
 unfolding span_fits
-returns-2 c = rw c.enum-told2.given.1
+returns-2 c = rw c.enum_told2.given.1
 
 returns-3 : tie.Need-returns-3
 unfolding span_fits
-returns-3 c = rw c.enum-told3.given.1
+returns-3 c = rw c.enum_told3.given.1
 
-pub span-fits-spec : {M : Type 1} → statement M
-span-fits-spec =
-    tie.close (tie.spec enum_told enum-told-2 add-result enum-told-3 returns returns-2 returns-3)
+pub span_fits_spec : {M : Type 1} → statement M
+span_fits_spec =
+    tie.close (tie.spec enum_told enum_told-2 add-result enum_told-3 returns returns-2 returns-3)

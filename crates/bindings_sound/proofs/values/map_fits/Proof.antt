@@ -6,23 +6,23 @@ use borrow.Author.Rules.{rules}
 use Rattle.bindings_sound.proofs.values.map_fits.Statement.{statement}
 use Rattle.bindings_sound.proofs.values.map_fits.Tie as tie
 
-mul-row-fits : tie.Need-overflow-mul-row-fits
-mul-row-fits c = search rules
+mul-row_fits : tie.Need-overflow_mul-row_fits
+mul-row_fits c = search rules
 
-row-fits-requires : tie.Need-row-fits-requires
-row-fits-requires c κs = omega (arith, c.before.before.ranges.length.fits)
+row_fits-requires : tie.Need-row_fits-requires
+row_fits-requires c κs = omega (arith, c.before.before.ranges.length.fits)
 
 returns : tie.Need-returns
 unfolding map_fits
 returns c = rw (← c.before.row_fits.ensures, not-true c.before.row_fits.result c.if1.true)
 
-keys-fit-requires : tie.Need-keys-fit-requires
-keys-fit-requires c κs = search rules
+keys_fit-requires : tie.Need-keys_fit-requires
+keys_fit-requires c κs = search rules
 
 returns-2 : tie.Need-returns-2
 unfolding map_fits
-returns-2 c = rw (← c.before.before.row_fits.ensures, not-false c.before.before.row_fits.result c.before.if1.false) c.keys-fit.ensures
+returns-2 c = rw (← c.before.before.row_fits.ensures, not-false c.before.before.row_fits.result c.before.if1.false) c.keys_fit.ensures
 
-pub map-fits-spec : {M : Type 1} → statement M
-map-fits-spec =
-    tie.close (tie.spec mul-row-fits row-fits-requires returns keys-fit-requires returns-2)
+pub map_fits_spec : {M : Type 1} → statement M
+map_fits_spec =
+    tie.close (tie.spec mul-row_fits row_fits-requires returns keys_fit-requires returns-2)

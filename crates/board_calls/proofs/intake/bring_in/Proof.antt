@@ -6,78 +6,78 @@ use Rattle.board_calls.proofs.intake.bring_in.Statement.{statement}
 use Rattle.board_calls.proofs.intake.bring_in.Tie as tie
 
 returns : tie.Need-returns
-returns c = let given = c.before.before.before.before.before.before.before.args in brings-none (binding_room given.state.now given.binding-cells.now given.binding-text.now) given.name given.table.now given.literal.now given.answer.now c.if1.true
+returns c = let given = c.before.before.before.before.before.before.before.args in brings-none (binding_room given.state.now given.binding_cells.now given.binding_text.now) given.name given.table.now given.literal.now given.answer.now c.if1.true
 
-bring-in-requires : tie.Need-bring-in-requires
-bring-in-requires c κs = search rules
+bring_in-requires : tie.Need-bring_in-requires
+bring_in-requires c κs = search rules
 
-enum_told : tie.Need-enum-told
+enum_told : tie.Need-enum_told
 enum_told c = search rules
 
-put-done-requires : tie.Need-put-done-requires
-put-done-requires c κs = search rules
+put_done-requires : tie.Need-put_done-requires
+put_done-requires c κs = search rules
 
-enum-known-said : tie.Need-enum-known-said
-enum-known-said c = search rules
+enum_known-said : tie.Need-enum_known-said
+enum_known-said c = search rules
 
-put-refusal-requires : tie.Need-put-refusal-requires
-put-refusal-requires c κs = search rules
+put_refusal-requires : tie.Need-put_refusal-requires
+put_refusal-requires c κs = search rules
 
-same_length : tie.Need-same-length
+same_length : tie.Need-same_length
 same_length c = search rules
 
-same-length-2 : tie.Need-same-length-2
-same-length-2 c = search rules
+same_length-2 : tie.Need-same_length-2
+same_length-2 c = search rules
 
-same-length-3 : tie.Need-same-length-3
-same-length-3 c = search rules
+same_length-3 : tie.Need-same_length-3
+same_length-3 c = search rules
 
-same-length-4 : tie.Need-same-length-4
-same-length-4 c = search rules
+same_length-4 : tie.Need-same_length-4
+same_length-4 c = search rules
 
 returns-2 : tie.Need-returns-2
 returns-2 c =
     let given = c.before.before.before.before.before.before.before.before.before.before.before.before.before.before.before.before.before.before.before.before.before.before.before.args in
-    brings-so (binding_room given.state.now given.binding-cells.now given.binding-text.now) given.name given.table.now given.literal.now given.answer.now c.before.before.before.before.before.before.before.before.before.before.before.before.bring-in.result _
-    (binding_room c.before.before.before.before.before.before.before.before.before.before.before.before.bring-in.new.0 c.before.before.before.before.before.before.before.before.before.before.before.before.bring-in.new.1.0 c.before.before.before.before.before.before.before.before.before.before.before.before.bring-in.new.1.1.0)
-    (c.before.before.put-done.result, c.before.before.put-done.new.0) c.before.before.before.before.before.before.before.before.before.before.before.before.before.before.before.before.if1.false c.before.before.before.before.before.before.before.before.before.before.before.before.bring-in.ensures c.before.before.before.before.enum_told.given.1 c.before.before.put-done.ensures
+    brings-so (binding_room given.state.now given.binding_cells.now given.binding_text.now) given.name given.table.now given.literal.now given.answer.now c.before.before.before.before.before.before.before.before.before.before.before.before.bring_in.result _
+    (binding_room c.before.before.before.before.before.before.before.before.before.before.before.before.bring_in.new.0 c.before.before.before.before.before.before.before.before.before.before.before.before.bring_in.new.1.0 c.before.before.before.before.before.before.before.before.before.before.before.before.bring_in.new.1.1.0)
+    (c.before.before.put_done.result, c.before.before.put_done.new.0) c.before.before.before.before.before.before.before.before.before.before.before.before.before.before.before.before.if1.false c.before.before.before.before.before.before.before.before.before.before.before.before.bring_in.ensures c.before.before.before.before.enum_told.given.1 c.before.before.put_done.ensures
 
-same-length-5 : tie.Need-same-length-5
-same-length-5 c = search rules
+same_length-5 : tie.Need-same_length-5
+same_length-5 c = search rules
 
-same-length-6 : tie.Need-same-length-6
-same-length-6 c = search rules
+same_length-6 : tie.Need-same_length-6
+same_length-6 c = search rules
 
-same-length-7 : tie.Need-same-length-7
-same-length-7 c = search rules
+same_length-7 : tie.Need-same_length-7
+same_length-7 c = search rules
 
-same-length-8 : tie.Need-same-length-8
-same-length-8 c = search rules
+same_length-8 : tie.Need-same_length-8
+same_length-8 c = search rules
 
 returns-3 : tie.Need-returns-3
 returns-3 c =
     let given = c.before.before.before.before.before.before.before.before.before.before.before.before.before.before.before.before.before.before.before.before.before.before.before.before.args in
-    brings-so (binding_room given.state.now given.binding-cells.now given.binding-text.now) given.name given.table.now given.literal.now given.answer.now c.before.before.before.before.before.before.before.before.before.before.before.before.before.bring-in.result _
-    (binding_room c.before.before.before.before.before.before.before.before.before.before.before.before.before.bring-in.new.0 c.before.before.before.before.before.before.before.before.before.before.before.before.before.bring-in.new.1.0 c.before.before.before.before.before.before.before.before.before.before.before.before.before.bring-in.new.1.1.0)
-    (c.before.before.put-refusal.result, c.before.before.put-refusal.new.0) c.before.before.before.before.before.before.before.before.before.before.before.before.before.before.before.before.before.if1.false c.before.before.before.before.before.before.before.before.before.before.before.before.before.bring-in.ensures c.before.before.before.before.before.said.given.1 c.before.before.put-refusal.ensures
+    brings-so (binding_room given.state.now given.binding_cells.now given.binding_text.now) given.name given.table.now given.literal.now given.answer.now c.before.before.before.before.before.before.before.before.before.before.before.before.before.bring_in.result _
+    (binding_room c.before.before.before.before.before.before.before.before.before.before.before.before.before.bring_in.new.0 c.before.before.before.before.before.before.before.before.before.before.before.before.before.bring_in.new.1.0 c.before.before.before.before.before.before.before.before.before.before.before.before.before.bring_in.new.1.1.0)
+    (c.before.before.put_refusal.result, c.before.before.put_refusal.new.0) c.before.before.before.before.before.before.before.before.before.before.before.before.before.before.before.before.before.if1.false c.before.before.before.before.before.before.before.before.before.before.before.before.before.bring_in.ensures c.before.before.before.before.before.said.given.1 c.before.before.put_refusal.ensures
 
-pub bring-in-spec : {M : Type 1} → statement M
-bring-in-spec =
+pub bring_in_spec : {M : Type 1} → statement M
+bring_in_spec =
     tie.close
     (tie.spec
     returns
-    bring-in-requires
+    bring_in-requires
     enum_told
-    put-done-requires
-    enum-known-said
-    put-refusal-requires
+    put_done-requires
+    enum_known-said
+    put_refusal-requires
     same_length
-    same-length-2
-    same-length-3
-    same-length-4
+    same_length-2
+    same_length-3
+    same_length-4
     returns-2
-    same-length-5
-    same-length-6
-    same-length-7
-    same-length-8
+    same_length-5
+    same_length-6
+    same_length-7
+    same_length-8
     returns-3)

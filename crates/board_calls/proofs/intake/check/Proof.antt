@@ -7,15 +7,15 @@ use Rattle.board_calls.proofs.intake.check.Tie as tie
 check-requires : tie.Need-check-requires
 check-requires c κs = search rules
 
-put-checked-requires : tie.Need-put-checked-requires
-put-checked-requires c κs = search rules
+put_checked-requires : tie.Need-put_checked-requires
+put_checked-requires c κs = search rules
 
-same_length : tie.Need-same-length
+same_length : tie.Need-same_length
 same_length c = search rules
 
 returns : tie.Need-returns
-returns c = let given = c.before.before.before.before.before.before.before.before.args in checks-so given.table.now given.literal.now given.answer.now c.before.before.before.before.check.result (c.before.before.put-checked.result, c.before.before.put-checked.new.0) c.before.before.before.before.check.ensures c.before.before.put-checked.ensures
+returns c = let given = c.before.before.before.before.before.before.before.before.args in checks-so given.table.now given.literal.now given.answer.now c.before.before.before.before.check.result (c.before.before.put_checked.result, c.before.before.put_checked.new.0) c.before.before.before.before.check.ensures c.before.before.put_checked.ensures
 
-pub check-spec : {M : Type 1} → statement M
-check-spec =
-    tie.close (tie.spec check-requires put-checked-requires same_length returns)
+pub check_spec : {M : Type 1} → statement M
+check_spec =
+    tie.close (tie.spec check-requires put_checked-requires same_length returns)

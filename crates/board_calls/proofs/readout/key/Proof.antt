@@ -8,25 +8,25 @@ use borrow.Author.Rules.{rules}
 use Rattle.board_calls.proofs.readout.key.Statement.{statement}
 use Rattle.board_calls.proofs.readout.key.Tie as tie
 
-value-of-requires : tie.Need-value-of-requires
-value-of-requires c κs = search rules
+value_of-requires : tie.Need-value_of-requires
+value_of-requires c κs = search rules
 
-key-of-requires : tie.Need-key-of-requires
-key-of-requires c κs = search rules
+key_of-requires : tie.Need-key_of-requires
+key_of-requires c κs = search rules
 
-put-part-requires : tie.Need-put-part-requires
-put-part-requires c κs = search rules
+put_part-requires : tie.Need-put_part-requires
+put_part-requires c κs = search rules
 
-same_length : tie.Need-same-length
+same_length : tie.Need-same_length
 same_length c = search rules
 
 returns : tie.Need-returns
 returns c =
     let given = c.before.before.before.before.before.before.before.before.before.args in
-    part-so given.part.now c.before.before.before.before.key-of.result _ (c.before.before.put-part.result, c.before.before.put-part.new.0)
-    (c.before.before.before.before.key-of.ensures ∙ ap (λ (v : Value). key_in given.binding-cells.now given.cells.now (parts_of v) given.index) c.before.before.before.before.before.value_of.ensures)
-    c.before.before.put-part.ensures
+    part-so given.part.now c.before.before.before.before.key_of.result _ (c.before.before.put_part.result, c.before.before.put_part.new.0)
+    (c.before.before.before.before.key_of.ensures ∙ ap (λ (v : Value). key_in given.binding_cells.now given.cells.now (parts_of v) given.index) c.before.before.before.before.before.value_of.ensures)
+    c.before.before.put_part.ensures
 
 pub key_spec : {M : Type 1} → statement M
 key_spec =
-    tie.close (tie.spec value-of-requires key-of-requires put-part-requires same_length returns)
+    tie.close (tie.spec value_of-requires key_of-requires put_part-requires same_length returns)

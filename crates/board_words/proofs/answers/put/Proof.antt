@@ -4,22 +4,22 @@ use borrow.Author.Rules.{rules}
 use Rattle.board_words.proofs.answers.put.Statement.{statement}
 use Rattle.board_words.proofs.answers.put.Tie as tie
 
-words-of-requires : tie.Need-words-of-requires
-words-of-requires c κs = search rules
+words_of-requires : tie.Need-words_of-requires
+words_of-requires c κs = search rules
 
-array-read-t18 : tie.Need-array-read-t18
-array-read-t18 c = search rules
+array_read-t18 : tie.Need-array_read-t18
+array_read-t18 c = search rules
 
-array-read-t21 : tie.Need-array-read-t21
-array-read-t21 c = search rules
+array_read-t21 : tie.Need-array_read-t21
+array_read-t21 c = search rules
 
-slice-aggregate-hand : tie.Need-slice-aggregate-hand
-slice-aggregate-hand c = search rules
+slice_aggregate-hand : tie.Need-slice_aggregate-hand
+slice_aggregate-hand c = search rules
 
 hand-requires : tie.Need-hand-requires
 hand-requires c κs = search rules
 
-same_length : tie.Need-same-length
+same_length : tie.Need-same_length
 same_length c = search rules
 
 returns : tie.Need-returns
@@ -29,10 +29,10 @@ pub put_spec : {M : Type 1} → statement M
 put_spec =
     tie.close
     (tie.spec
-    words-of-requires
-    array-read-t18
-    array-read-t21
-    slice-aggregate-hand
+    words_of-requires
+    array_read-t18
+    array_read-t21
+    slice_aggregate-hand
     hand-requires
     same_length
     returns)

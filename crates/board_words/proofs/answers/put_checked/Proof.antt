@@ -5,39 +5,39 @@ use borrow.Author.Rules.{rules}
 use Rattle.board_words.proofs.answers.put_checked.Statement.{statement}
 use Rattle.board_words.proofs.answers.put_checked.Tie as tie
 
-enum_told : tie.Need-enum-told
+enum_told : tie.Need-enum_told
 enum_told c = search rules
 
-put-done-requires : tie.Need-put-done-requires
-put-done-requires c κs = search rules
+put_done-requires : tie.Need-put_done-requires
+put_done-requires c κs = search rules
 
-enum-known-checked : tie.Need-enum-known-checked
-enum-known-checked c = search rules
+enum_known-checked : tie.Need-enum_known-checked
+enum_known-checked c = search rules
 
-put-refusal-requires : tie.Need-put-refusal-requires
-put-refusal-requires c κs = search rules
+put_refusal-requires : tie.Need-put_refusal-requires
+put_refusal-requires c κs = search rules
 
-same_length : tie.Need-same-length
+same_length : tie.Need-same_length
 same_length c = search rules
 
 returns : tie.Need-returns
-returns c = checked-as (c.before.before.put-done.result, c.before.before.put-done.new.0) c.before.before.before.before.before.before.before.args.checked Checked.Accepted c.before.before.before.before.before.before.before.args.lent.now c.before.before.before.before.enum_told.given.1 c.before.before.put-done.ensures
+returns c = checked-as (c.before.before.put_done.result, c.before.before.put_done.new.0) c.before.before.before.before.before.before.before.args.checked Checked.Accepted c.before.before.before.before.before.before.before.args.lent.now c.before.before.before.before.enum_told.given.1 c.before.before.put_done.ensures
 
-same-length-2 : tie.Need-same-length-2
-same-length-2 c = search rules
+same_length-2 : tie.Need-same_length-2
+same_length-2 c = search rules
 
 returns-2 : tie.Need-returns-2
-returns-2 c = checked-as (c.before.before.put-refusal.result, c.before.before.put-refusal.new.0) c.before.before.before.before.before.before.before.before.args.checked _ c.before.before.before.before.before.before.before.before.args.lent.now c.before.before.before.before.before.checked.given.1 c.before.before.put-refusal.ensures
+returns-2 c = checked-as (c.before.before.put_refusal.result, c.before.before.put_refusal.new.0) c.before.before.before.before.before.before.before.before.args.checked _ c.before.before.before.before.before.before.before.before.args.lent.now c.before.before.before.before.before.checked.given.1 c.before.before.put_refusal.ensures
 
-pub put-checked-spec : {M : Type 1} → statement M
-put-checked-spec =
+pub put_checked_spec : {M : Type 1} → statement M
+put_checked_spec =
     tie.close
     (tie.spec
     enum_told
-    put-done-requires
-    enum-known-checked
-    put-refusal-requires
+    put_done-requires
+    enum_known-checked
+    put_refusal-requires
     same_length
     returns
-    same-length-2
+    same_length-2
     returns-2)

@@ -12,11 +12,11 @@ nothing-requires c κs = search rules
 put-requires : tie.Need-put-requires
 put-requires c κs = search rules
 
-same_length : tie.Need-same-length
+same_length : tie.Need-same_length
 same_length c = search rules
 
 returns : tie.Need-returns
 returns c = used-as 4 c.before.before.before.before.before.before.args.number c.before.before.before.before.before.before.args.place c.before.before.before.nothing.result nothing_used Value.Absent c.before.before.before.before.before.before.args.lent.now (c.before.before.put.result, c.before.before.put.new.0) c.before.before.before.nothing.ensures c.before.before.put.ensures
 
-pub put-refusal-spec : {M : Type 1} → statement M
-put-refusal-spec = tie.close (tie.spec nothing-requires put-requires same_length returns)
+pub put_refusal_spec : {M : Type 1} → statement M
+put_refusal_spec = tie.close (tie.spec nothing-requires put-requires same_length returns)

@@ -11,11 +11,11 @@ returns c = too_few c.before.before.before.args.number c.before.before.before.ar
 lay-requires : tie.Need-lay-requires
 lay-requires c κs = search rules
 
-same_length : tie.Need-same-length
+same_length : tie.Need-same_length
 same_length c = search rules
 
 returns-2 : tie.Need-returns-2
 returns-2 c = enough c.before.before.before.before.before.before.before.args.number c.before.before.before.before.before.before.before.args.words.now c.before.before.before.before.before.before.before.args.lent.now c.before.before.lay.new.0 (omega arith) c.before.before.lay.ensures
 
-pub hand-spec : {M : Type 1} → statement M
-hand-spec = tie.close (tie.spec returns lay-requires same_length returns-2)
+pub hand_spec : {M : Type 1} → statement M
+hand_spec = tie.close (tie.spec returns lay-requires same_length returns-2)

@@ -18,19 +18,19 @@ decreases-loop lent₀ words at₀ lent at = length words - at
 loop-holds : tie.Need-loop-init invariant-loop decreases-loop
 loop-holds c = (refl, refl, omega arith)
 
-mul-lent : tie.Need-overflow-mul-lent invariant-loop decreases-loop
+mul-lent : tie.Need-overflow_mul-lent invariant-loop decreases-loop
 mul-lent c = search rules
 
-shared-slice-read-lent : tie.Need-shared-slice-read-lent invariant-loop decreases-loop
-shared-slice-read-lent c = search rules
+shared_slice_read-lent : tie.Need-shared_slice_read-lent invariant-loop decreases-loop
+shared_slice_read-lent c = search rules
 
-mul-lent-2 : tie.Need-overflow-mul-lent-2 invariant-loop decreases-loop
+mul-lent-2 : tie.Need-overflow_mul-lent-2 invariant-loop decreases-loop
 mul-lent-2 c = search rules
 
-slice-write-lent : tie.Need-slice-write-lent invariant-loop decreases-loop
-slice-write-lent c = search rules
+slice_write-lent : tie.Need-slice_write-lent invariant-loop decreases-loop
+slice_write-lent c = search rules
 
-add_at : tie.Need-overflow-add-at invariant-loop decreases-loop
+add_at : tie.Need-overflow_add-at invariant-loop decreases-loop
 add_at c = search rules
 
 loop-less : tie.Need-loop-smaller invariant-loop decreases-loop
@@ -44,23 +44,23 @@ loop-again c = (
   omega arith,
 )
 
-same_length : tie.Need-same-length invariant-loop decreases-loop
+same_length : tie.Need-same_length invariant-loop decreases-loop
 same_length c = c.before.loop.invariant.0
 
 returns : tie.Need-returns invariant-loop decreases-loop
 returns c = c.before.loop.invariant.1 ∙ laid-all c.before.before.args.words.now c.before.before.args.lent.now c.before.loop.at (omega arith)
 
-pub lay-spec : {M : Type 1} → statement M
-lay-spec =
+pub lay_spec : {M : Type 1} → statement M
+lay_spec =
     tie.close
     (tie.spec
     invariant-loop
     decreases-loop
     loop-holds
     mul-lent
-    shared-slice-read-lent
+    shared_slice_read-lent
     mul-lent-2
-    slice-write-lent
+    slice_write-lent
     add_at
     loop-less
     loop-again

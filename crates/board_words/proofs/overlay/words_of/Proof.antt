@@ -5,14 +5,14 @@ use borrow.Author.Rules.{rules}
 use Rattle.board_words.proofs.overlay.words_of.Statement.{statement}
 use Rattle.board_words.proofs.overlay.words_of.Tie as tie
 
-slice-aggregate-write-cell : tie.Need-slice-aggregate-write-cell
-slice-aggregate-write-cell c = search rules
+slice_aggregate-write_cell : tie.Need-slice_aggregate-write_cell
+slice_aggregate-write_cell c = search rules
 
-write-cell-requires : tie.Need-write-cell-requires
-write-cell-requires c κs = search rules
+write_cell-requires : tie.Need-write_cell-requires
+write_cell-requires c κs = search rules
 
 returns : tie.Need-returns
 returns c = c.before.write_cell.ensures ∙ written-alone c.before.before.before.args.value 0 0
 
-pub words-of-spec : {M : Type 1} → statement M
-words-of-spec = tie.close (tie.spec slice-aggregate-write-cell write-cell-requires returns)
+pub words_of_spec : {M : Type 1} → statement M
+words_of_spec = tie.close (tie.spec slice_aggregate-write_cell write_cell-requires returns)

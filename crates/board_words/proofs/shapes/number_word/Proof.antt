@@ -6,21 +6,21 @@ use borrow.Author.Rules.{rules}
 use Rattle.board_words.proofs.shapes.number_word.Statement.{statement}
 use Rattle.board_words.proofs.shapes.number_word.Tie as tie
 
-words-of-requires : tie.Need-words-of-requires
-words-of-requires c κs = search rules
+words_of-requires : tie.Need-words_of-requires
+words_of-requires c κs = search rules
 
-kind-of-requires : tie.Need-kind-of-requires
-kind-of-requires c κs = search rules
+kind_of-requires : tie.Need-kind_of-requires
+kind_of-requires c κs = search rules
 
 returns : tie.Need-returns
-returns c = no_number c.before.before.before.args.value (subst (λ (k : ℕ). 4 < k) c.before.kind-of.ensures c.if1.true)
+returns c = no_number c.before.before.before.args.value (subst (λ (k : ℕ). 4 < k) c.before.kind_of.ensures c.if1.true)
 
-array-read-result : tie.Need-array-read-result
-array-read-result c = search rules
+array_read-result : tie.Need-array_read-result
+array_read-result c = search rules
 
 returns-2 : tie.Need-returns-2
-returns-2 c = number_in c.before.before.before.args.value c.before.before.words_of.result (subst (λ (k : ℕ). k ≤ 4) c.before.kind-of.ensures c.if1.false) c.before.before.words_of.ensures
+returns-2 c = number_in c.before.before.before.args.value c.before.before.words_of.result (subst (λ (k : ℕ). k ≤ 4) c.before.kind_of.ensures c.if1.false) c.before.before.words_of.ensures
 
-pub number-word-spec : {M : Type 1} → statement M
-number-word-spec =
-    tie.close (tie.spec words-of-requires kind-of-requires returns array-read-result returns-2)
+pub number_word_spec : {M : Type 1} → statement M
+number_word_spec =
+    tie.close (tie.spec words_of-requires kind_of-requires returns array_read-result returns-2)

@@ -10,33 +10,33 @@ use Rattle.eval_outcomes.specs.Seen.{arith_seen}
 use Rattle.eval_arithmetic.proofs.numeric.two_numbers.Statement.{statement}
 use Rattle.eval_arithmetic.proofs.numeric.two_numbers.Tie as tie
 
-enum-known-left : tie.Need-enum-known-left
-enum-known-left c = search rules
+enum_known-left : tie.Need-enum_known-left
+enum_known-left c = search rules
 
-int-arith-requires : tie.Need-int-arith-requires
-int-arith-requires c κs = search rules
+int_arith-requires : tie.Need-int_arith-requires
+int_arith-requires c κs = search rules
 
-enum-known-left-2 : tie.Need-enum-known-left-2
-enum-known-left-2 c = search rules
+enum_known-left-2 : tie.Need-enum_known-left-2
+enum_known-left-2 c = search rules
 
-uint-arith-requires : tie.Need-uint-arith-requires
-uint-arith-requires c κs = search rules
+uint_arith-requires : tie.Need-uint_arith-requires
+uint_arith-requires c κs = search rules
 
-enum-known-left-3 : tie.Need-enum-known-left-3
-enum-known-left-3 c = search rules
+enum_known-left-3 : tie.Need-enum_known-left-3
+enum_known-left-3 c = search rules
 
-double-arith-requires : tie.Need-double-arith-requires
-double-arith-requires c κs = search rules
+double_arith-requires : tie.Need-double_arith-requires
+double_arith-requires c κs = search rules
 
 returns : tie.Need-returns
-returns c = simp c.before.before.left.given.1 (subst (λ z. c.int-arith.result ≡ numbers_out c.before.before.before.before.args.at c.before.before.before.before.args.used (arith_seen c.before.before.before.before.args.operator) (Number.Int z) c.before.before.before.before.args.right) (to_z-of_z w64 c.before.before.left.given.0.0 (sfits_of c.before.known-told.given.0.1)) c.int-arith.ensures)
+returns c = simp c.before.before.left.given.1 (subst (λ z. c.int_arith.result ≡ numbers_out c.before.before.before.before.args.at c.before.before.before.before.args.used (arith_seen c.before.before.before.before.args.operator) (Number.Int z) c.before.before.before.before.args.right) (to_z-of_z w64 c.before.before.left.given.0.0 (sfits_of c.before.known_told.given.0.1)) c.int_arith.ensures)
 
 returns-2 : tie.Need-returns-2
-returns-2 c = simp (c.before.before.left2.given.1, ← c.uint-arith.ensures)
+returns-2 c = simp (c.before.before.left2.given.1, ← c.uint_arith.ensures)
 
 returns-3 : tie.Need-returns-3
-returns-3 c = simp (c.before.before.left3.given.1, ← c.double-arith.ensures)
+returns-3 c = simp (c.before.before.left3.given.1, ← c.double_arith.ensures)
 
-pub two-numbers-spec : {M : Type 1} → statement M
-two-numbers-spec =
-    tie.close (tie.spec enum-known-left int-arith-requires enum-known-left-2 uint-arith-requires enum-known-left-3 double-arith-requires returns returns-2 returns-3)
+pub two_numbers_spec : {M : Type 1} → statement M
+two_numbers_spec =
+    tie.close (tie.spec enum_known-left int_arith-requires enum_known-left-2 uint_arith-requires enum_known-left-3 double_arith-requires returns returns-2 returns-3)

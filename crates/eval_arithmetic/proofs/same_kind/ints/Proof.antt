@@ -6,32 +6,32 @@ use mir.ValLaws.{to_z-of_z}
 use Rattle.eval_arithmetic.proofs.same_kind.ints.Statement.{statement}
 use Rattle.eval_arithmetic.proofs.same_kind.ints.Tie as tie
 
-enum_told : tie.Need-enum-told
+enum_told : tie.Need-enum_told
 enum_told c = search rules
 
 add-requires : tie.Need-add-requires
 add-requires c κs = search rules
 
-enum-told-2 : tie.Need-enum-told-2
-enum-told-2 c = search rules
+enum_told-2 : tie.Need-enum_told-2
+enum_told-2 c = search rules
 
 sub-requires : tie.Need-sub-requires
 sub-requires c κs = search rules
 
-enum-told-3 : tie.Need-enum-told-3
-enum-told-3 c = search rules
+enum_told-3 : tie.Need-enum_told-3
+enum_told-3 c = search rules
 
 div-requires : tie.Need-div-requires
 div-requires c κs = search rules
 
-enum-told-4 : tie.Need-enum-told-4
-enum-told-4 c = search rules
+enum_told-4 : tie.Need-enum_told-4
+enum_told-4 c = search rules
 
 mul-requires : tie.Need-mul-requires
 mul-requires c κs = search rules
 
-enum-told-5 : tie.Need-enum-told-5
-enum-told-5 c = search rules
+enum_told-5 : tie.Need-enum_told-5
+enum_told-5 c = search rules
 
 rem-requires : tie.Need-rem-requires
 rem-requires c κs = search rules
@@ -42,20 +42,20 @@ returns c = simp c.before.enum_told.given.1 (rw (to_z-of_z w64 c.before.before.b
 
 returns-2 : tie.Need-returns-2
 unfolding int_arith
-returns-2 c = simp c.before.enum-told2.given.1 (rw (to_z-of_z w64 c.before.before.before.args.a c.before.before.before.ranges.a, to_z-of_z w64 c.before.before.before.args.b c.before.before.before.ranges.b) at c.sub.ensures)
+returns-2 c = simp c.before.enum_told2.given.1 (rw (to_z-of_z w64 c.before.before.before.args.a c.before.before.before.ranges.a, to_z-of_z w64 c.before.before.before.args.b c.before.before.before.ranges.b) at c.sub.ensures)
 
 returns-3 : tie.Need-returns-3
 unfolding int_arith
-returns-3 c = simp c.before.enum-told3.given.1 (rw (to_z-of_z w64 c.before.before.before.args.a c.before.before.before.ranges.a, to_z-of_z w64 c.before.before.before.args.b c.before.before.before.ranges.b) at c.div.ensures)
+returns-3 c = simp c.before.enum_told3.given.1 (rw (to_z-of_z w64 c.before.before.before.args.a c.before.before.before.ranges.a, to_z-of_z w64 c.before.before.before.args.b c.before.before.before.ranges.b) at c.div.ensures)
 
 returns-4 : tie.Need-returns-4
 unfolding int_arith
-returns-4 c = simp c.before.enum-told4.given.1 (rw (to_z-of_z w64 c.before.before.before.args.a c.before.before.before.ranges.a, to_z-of_z w64 c.before.before.before.args.b c.before.before.before.ranges.b) at c.mul.ensures)
+returns-4 c = simp c.before.enum_told4.given.1 (rw (to_z-of_z w64 c.before.before.before.args.a c.before.before.before.ranges.a, to_z-of_z w64 c.before.before.before.args.b c.before.before.before.ranges.b) at c.mul.ensures)
 
 returns-5 : tie.Need-returns-5
 unfolding int_arith
-returns-5 c = simp c.before.enum-told5.given.1 (rw (to_z-of_z w64 c.before.before.before.args.a c.before.before.before.ranges.a, to_z-of_z w64 c.before.before.before.args.b c.before.before.before.ranges.b) at c.rem.ensures)
+returns-5 c = simp c.before.enum_told5.given.1 (rw (to_z-of_z w64 c.before.before.before.args.a c.before.before.before.ranges.a, to_z-of_z w64 c.before.before.before.args.b c.before.before.before.ranges.b) at c.rem.ensures)
 
-pub ints-spec : {M : Type 1} → statement M
-ints-spec =
-    tie.close (tie.spec enum_told add-requires enum-told-2 sub-requires enum-told-3 div-requires enum-told-4 mul-requires enum-told-5 rem-requires returns returns-2 returns-3 returns-4 returns-5)
+pub ints_spec : {M : Type 1} → statement M
+ints_spec =
+    tie.close (tie.spec enum_told add-requires enum_told-2 sub-requires enum_told-3 div-requires enum_told-4 mul-requires enum_told-5 rem-requires returns returns-2 returns-3 returns-4 returns-5)

@@ -10,27 +10,27 @@ deeper-requires c κs = search rules
 returns : tie.Need-returns
 returns c = simp (← c.before.deeper.ensures, c.if1.true)
 
-store-run-requires : tie.Need-store-run-requires
-store-run-requires c κs = search rules
+store_run-requires : tie.Need-store_run-requires
+store_run-requires c κs = search rules
 
-store-run-requires-2 : tie.Need-store-run-requires-2
-store-run-requires-2 c κs = search rules
+store_run-requires-2 : tie.Need-store_run-requires-2
+store_run-requires-2 c κs = search rules
 
-add-t15 : tie.Need-overflow-add-t15
+add-t15 : tie.Need-overflow_add-t15
 add-t15 c = search rules
 
-add-t17 : tie.Need-overflow-add-t17
+add-t17 : tie.Need-overflow_add-t17
 add-t17 c = search rules
 
-same_length : tie.Need-same-length
+same_length : tie.Need-same_length
 same_length c = search rules
 
-same-length-2 : tie.Need-same-length-2
-same-length-2 c = search rules
+same_length-2 : tie.Need-same_length-2
+same_length-2 c = search rules
 
 returns-2 : tie.Need-returns-2
-returns-2 c = simp (c.before.before.before.before.before.before.before.store-run.ensures, c.before.before.before.store-run2.ensures, c.before.before.before.before.before.before.before.before.before.before.deeper.ensures, ne_eqb _ _ c.before.before.before.before.before.before.before.before.before.if1.false)
+returns-2 c = simp (c.before.before.before.before.before.before.before.store_run.ensures, c.before.before.before.store_run2.ensures, c.before.before.before.before.before.before.before.before.before.before.deeper.ensures, ne_eqb _ _ c.before.before.before.before.before.before.before.before.before.if1.false)
 
-pub add-run-spec : {M : Type 1} → statement M
-add-run-spec =
-    tie.close (tie.spec deeper-requires returns store-run-requires store-run-requires-2 add-t15 add-t17 same_length same-length-2 returns-2)
+pub add_run_spec : {M : Type 1} → statement M
+add_run_spec =
+    tie.close (tie.spec deeper-requires returns store_run-requires store_run-requires-2 add-t15 add-t17 same_length same_length-2 returns-2)

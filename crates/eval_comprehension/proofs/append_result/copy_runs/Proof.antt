@@ -20,25 +20,25 @@ decreases-loop binding-cells cells₀ firsts counts runs to run₀ left₀ place
 loop-holds : tie.Need-loop-init invariant-loop decreases-loop
 loop-holds c = (refl, omega (arith, c.before.before.before.before.requires), omega (arith, c.before.before.before.before.requires.0, c.before.before.before.before.requires.1), refl)
 
-run-at-requires : tie.Need-run-at-requires invariant-loop decreases-loop
-run-at-requires c κs = search rules
+run_at-requires : tie.Need-run_at-requires invariant-loop decreases-loop
+run_at-requires c κs = search rules
 
-run-at-requires-2 : tie.Need-run-at-requires-2 invariant-loop decreases-loop
-run-at-requires-2 c κs = search rules
+run_at-requires-2 : tie.Need-run_at-requires-2 invariant-loop decreases-loop
+run_at-requires-2 c κs = search rules
 
-copy-cells-requires : tie.Need-copy-cells-requires invariant-loop decreases-loop
-copy-cells-requires c κs = omega (arith, c.before.before.before.before.loop.invariant.2)
+copy_cells-requires : tie.Need-copy_cells-requires invariant-loop decreases-loop
+copy_cells-requires c κs = omega (arith, c.before.before.before.before.loop.invariant.2)
 
-cast-place : tie.Need-overflow-cast-place invariant-loop decreases-loop
-cast-place c = record { fits = omega (arith, c.before.before.before.before.before.run_at.type-inv) }
+cast-place : tie.Need-overflow_cast-place invariant-loop decreases-loop
+cast-place c = record { fits = omega (arith, c.before.before.before.before.before.run_at.type_inv) }
 
-add-place : tie.Need-overflow-add-place invariant-loop decreases-loop
-add-place c = record { fits = omega (arith, c.before.before.before.before.before.before.before.loop.invariant.2, c.before.before.before.before.before.run_at.type-inv) }
+add-place : tie.Need-overflow_add-place invariant-loop decreases-loop
+add-place c = record { fits = omega (arith, c.before.before.before.before.before.before.before.loop.invariant.2, c.before.before.before.before.before.run_at.type_inv) }
 
-add-run : tie.Need-overflow-add-run invariant-loop decreases-loop
+add-run : tie.Need-overflow_add-run invariant-loop decreases-loop
 add-run c = record { fits = omega (arith, c.before.before.before.before.before.before.before.loop.invariant.1) }
 
-sub-left : tie.Need-overflow-sub-left invariant-loop decreases-loop
+sub-left : tie.Need-overflow_sub-left invariant-loop decreases-loop
 sub-left c = search rules
 
 loop-less : tie.Need-loop-smaller invariant-loop decreases-loop
@@ -49,16 +49,16 @@ loop-again c =
     let l = c.before.before.before.before.before.before.before.loop in
     let a = c.before.before.before.before.before.before.before.before.before.before.before.before.args in
     let one = c.before.before.before.before.before.run_at in
-    let two = c.before.before.before.run-at2 in
-    let ran = c.before.before.copy-cells in
-    let same = ran.ensures ∙ ap (λ z. copied a.binding-cells.now Cells.Evaluation l.cells z l.place one.result) two.ensures ∙ ap (λ z. copied a.binding-cells.now Cells.Evaluation l.cells (Lists.get_or a.firsts.now l.run 0) l.place z) one.ensures in
-    (ap Lists.length ran.ensures ∙ copied-length a.binding-cells.now Cells.Evaluation l.cells two.result l.place one.result ∙ l.invariant.0, omega (arith, l.invariant.1, c.before.before.before.before.before.before.loop-test.true), omega (arith, l.invariant.2, c.before.before.before.before.before.before.loop-test.true, one.type-inv), ap (λ z. runs_copied a.binding-cells.now a.firsts.now a.counts.now (l.left - 1) (l.run + 1) (l.place + z) ran.new.1.0) one.ensures ∙ runs_on a.binding-cells.now a.firsts.now a.counts.now l.cells ran.new.1.0 l.left l.run l.place c.before.before.before.before.before.before.loop-test.true same ∙ l.invariant.3)
+    let two = c.before.before.before.run_at2 in
+    let ran = c.before.before.copy_cells in
+    let same = ran.ensures ∙ ap (λ z. copied a.binding_cells.now Cells.Evaluation l.cells z l.place one.result) two.ensures ∙ ap (λ z. copied a.binding_cells.now Cells.Evaluation l.cells (Lists.get_or a.firsts.now l.run 0) l.place z) one.ensures in
+    (ap Lists.length ran.ensures ∙ copied-length a.binding_cells.now Cells.Evaluation l.cells two.result l.place one.result ∙ l.invariant.0, omega (arith, l.invariant.1, c.before.before.before.before.before.before.loop-test.true), omega (arith, l.invariant.2, c.before.before.before.before.before.before.loop-test.true, one.type_inv), ap (λ z. runs_copied a.binding_cells.now a.firsts.now a.counts.now (l.left - 1) (l.run + 1) (l.place + z) ran.new.1.0) one.ensures ∙ runs_on a.binding_cells.now a.firsts.now a.counts.now l.cells ran.new.1.0 l.left l.run l.place c.before.before.before.before.before.before.loop-test.true same ∙ l.invariant.3)
 
-same_length : tie.Need-same-length invariant-loop decreases-loop
+same_length : tie.Need-same_length invariant-loop decreases-loop
 same_length c = c.before.loop.invariant.0
 
 returns : tie.Need-returns invariant-loop decreases-loop
-returns c = runs_none c.before.before.before.before.before.before.args.binding-cells.now c.before.before.before.before.before.before.args.firsts.now c.before.before.before.before.before.before.args.counts.now c.before.loop.cells c.before.loop.left c.before.loop.run c.before.loop.place c.loop-test.false ∙ c.before.loop.invariant.3
+returns c = runs_none c.before.before.before.before.before.before.args.binding_cells.now c.before.before.before.before.before.before.args.firsts.now c.before.before.before.before.before.before.args.counts.now c.before.loop.cells c.before.loop.left c.before.loop.run c.before.loop.place c.loop-test.false ∙ c.before.loop.invariant.3
 
-pub copy-runs-spec : {M : Type 1} → statement M
-copy-runs-spec = tie.close (tie.spec invariant-loop decreases-loop loop-holds run-at-requires run-at-requires-2 copy-cells-requires cast-place add-place add-run sub-left loop-less loop-again same_length returns)
+pub copy_runs_spec : {M : Type 1} → statement M
+copy_runs_spec = tie.close (tie.spec invariant-loop decreases-loop loop-holds run_at-requires run_at-requires-2 copy_cells-requires cast-place add-place add-run sub-left loop-less loop-again same_length returns)

@@ -5,11 +5,11 @@ use Rattle.rooms_taking.proofs.TakingSteps.{beyond}
 use Rattle.eval_comprehension.proofs.append_result.run_at.Statement.{statement}
 use Rattle.eval_comprehension.proofs.append_result.run_at.Tie as tie
 
-mul-result : tie.Need-overflow-mul-result
+mul-result : tie.Need-overflow_mul-result
 mul-result c = search rules
 
-shared-slice-read-result : tie.Need-shared-slice-read-result
-shared-slice-read-result c = search rules
+shared_slice_read-result : tie.Need-shared_slice_read-result
+shared_slice_read-result c = search rules
 
 returns : tie.Need-returns
 returns c = search rules
@@ -17,5 +17,5 @@ returns c = search rules
 returns-2 : tie.Need-returns-2
 returns-2 c = sym (beyond c.before.args.list.now c.before.args.index c.if1.false)
 
-pub run-at-spec : {M : Type 1} → statement M
-run-at-spec = tie.close (tie.spec mul-result shared-slice-read-result returns returns-2)
+pub run_at_spec : {M : Type 1} → statement M
+run_at_spec = tie.close (tie.spec mul-result shared_slice_read-result returns returns-2)

@@ -8,6 +8,6 @@ returns c = simp c.if1.true
 returns-2 : tie.Need-returns-2
 returns-2 c = simp c.if1.false
 
-pub cleared-step-spec : {M : Type 1} → statement M
-cleared-step-spec =
+pub cleared_step_spec : {M : Type 1} → statement M
+cleared_step_spec =
     tie.close (tie.spec returns returns-2)

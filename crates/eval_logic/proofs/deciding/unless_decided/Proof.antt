@@ -8,6 +8,6 @@ returns c = simp c.if1.true
 returns-2 : tie.Need-returns-2
 returns-2 c = simp c.if1.false
 
-pub unless-decided-spec : {M : Type 1} → statement M
-unless-decided-spec =
+pub unless_decided_spec : {M : Type 1} → statement M
+unless_decided_spec =
     tie.close (tie.spec returns returns-2)

@@ -3,36 +3,36 @@ use borrow.Author.Rules.{rules}
 use Rattle.eval_logic.proofs.negation.not.Statement.{statement}
 use Rattle.eval_logic.proofs.negation.not.Tie as tie
 
-truth-of-requires : tie.Need-truth-of-requires
-truth-of-requires c κs = search rules
+truth_of-requires : tie.Need-truth_of-requires
+truth_of-requires c κs = search rules
 
-enum_told : tie.Need-enum-told
+enum_told : tie.Need-enum_told
 enum_told c = search rules
 
-truth-out-requires : tie.Need-truth-out-requires
-truth-out-requires c κs = search rules
+truth_out-requires : tie.Need-truth_out-requires
+truth_out-requires c κs = search rules
 
-enum-told-2 : tie.Need-enum-told-2
-enum-told-2 c = search rules
+enum_told-2 : tie.Need-enum_told-2
+enum_told-2 c = search rules
 
-truth-out-requires-2 : tie.Need-truth-out-requires-2
-truth-out-requires-2 c κs = search rules
+truth_out-requires-2 : tie.Need-truth_out-requires-2
+truth_out-requires-2 c κs = search rules
 
-enum-told-3 : tie.Need-enum-told-3
-enum-told-3 c = search rules
+enum_told-3 : tie.Need-enum_told-3
+enum_told-3 c = search rules
 
-no-overload-requires : tie.Need-no-overload-requires
-no-overload-requires c κs = search rules
+no_overload-requires : tie.Need-no_overload-requires
+no_overload-requires c κs = search rules
 
 returns : tie.Need-returns
-returns c = simp (← c.before.before.before.truth-of.ensures, c.before.enum_told.given.1, ← c.truth-out.ensures)
+returns c = simp (← c.before.before.before.truth_of.ensures, c.before.enum_told.given.1, ← c.truth_out.ensures)
 
 returns-2 : tie.Need-returns-2
-returns-2 c = simp (← c.before.before.before.truth-of.ensures, c.before.enum-told2.given.1, ← c.truth-out2.ensures)
+returns-2 c = simp (← c.before.before.before.truth_of.ensures, c.before.enum_told2.given.1, ← c.truth_out2.ensures)
 
 returns-3 : tie.Need-returns-3
-returns-3 c = simp (← c.before.before.before.truth-of.ensures, c.before.enum-told3.given.1, ← c.no-overload.ensures)
+returns-3 c = simp (← c.before.before.before.truth_of.ensures, c.before.enum_told3.given.1, ← c.no_overload.ensures)
 
-pub not-spec : {M : Type 1} → statement M
-not-spec =
-    tie.close (tie.spec truth-of-requires enum_told truth-out-requires enum-told-2 truth-out-requires-2 enum-told-3 no-overload-requires returns returns-2 returns-3)
+pub not_spec : {M : Type 1} → statement M
+not_spec =
+    tie.close (tie.spec truth_of-requires enum_told truth_out-requires enum_told-2 truth_out-requires-2 enum_told-3 no_overload-requires returns returns-2 returns-3)

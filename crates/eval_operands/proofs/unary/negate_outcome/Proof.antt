@@ -3,17 +3,17 @@ use borrow.Author.Rules.{rules}
 use Rattle.eval_operands.proofs.unary.negate_outcome.Statement.{statement}
 use Rattle.eval_operands.proofs.unary.negate_outcome.Tie as tie
 
-enum-known-operand : tie.Need-enum-known-operand
-enum-known-operand c = search rules
+enum_known-operand : tie.Need-enum_known-operand
+enum_known-operand c = search rules
 
 negate-requires : tie.Need-negate-requires
 negate-requires c κs = search rules
 
-enum-known-operand-2 : tie.Need-enum-known-operand-2
-enum-known-operand-2 c = search rules
+enum_known-operand-2 : tie.Need-enum_known-operand-2
+enum_known-operand-2 c = search rules
 
-enum-known-operand-3 : tie.Need-enum-known-operand-3
-enum-known-operand-3 c = search rules
+enum_known-operand-3 : tie.Need-enum_known-operand-3
+enum_known-operand-3 c = search rules
 
 returns : tie.Need-returns
 returns c = simp (c.before.before.operand.given.1, ← c.negate.ensures)
@@ -24,6 +24,6 @@ returns-2 c = simp c.before.operand2.given.1
 returns-3 : tie.Need-returns-3
 returns-3 c = simp c.before.operand3.given.1
 
-pub negate-outcome-spec : {M : Type 1} → statement M
-negate-outcome-spec =
-    tie.close (tie.spec enum-known-operand negate-requires enum-known-operand-2 enum-known-operand-3 returns returns-2 returns-3)
+pub negate_outcome_spec : {M : Type 1} → statement M
+negate_outcome_spec =
+    tie.close (tie.spec enum_known-operand negate-requires enum_known-operand-2 enum_known-operand-3 returns returns-2 returns-3)

@@ -6,6 +6,6 @@ use Rattle.eval_outcomes.proofs.outcomes.no_overload.Tie as tie
 returns : tie.Need-returns
 returns c = search rules
 
-pub no-overload-spec : {M : Type 1} → statement M
-no-overload-spec =
+pub no_overload_spec : {M : Type 1} → statement M
+no_overload_spec =
     tie.close (tie.spec returns)

@@ -3,36 +3,36 @@ use borrow.Author.Rules.{rules}
 use Rattle.eval_outcomes.proofs.outcomes.optional_of.Statement.{statement}
 use Rattle.eval_outcomes.proofs.outcomes.optional_of.Tie as tie
 
-parts-of-requires : tie.Need-parts-of-requires
-parts-of-requires c κs = search rules
+parts_of-requires : tie.Need-parts_of-requires
+parts_of-requires c κs = search rules
 
-enum_told : tie.Need-enum-told
+enum_told : tie.Need-enum_told
 enum_told c = search rules
 
-enum-told-2 : tie.Need-enum-told-2
-enum-told-2 c = search rules
+enum_told-2 : tie.Need-enum_told-2
+enum_told-2 c = search rules
 
-enum-known-space : tie.Need-enum-known-space
-enum-known-space c = search rules
+enum_known-space : tie.Need-enum_known-space
+enum_known-space c = search rules
 
-enum-told-3 : tie.Need-enum-told-3
-enum-told-3 c = search rules
+enum_told-3 : tie.Need-enum_told-3
+enum_told-3 c = search rules
 
-none-of-requires : tie.Need-none-of-requires
-none-of-requires c κs = search rules
+none_of-requires : tie.Need-none_of-requires
+none_of-requires c κs = search rules
 
 returns : tie.Need-returns
-returns c = simp (← c.before.before.parts-of.ensures, c.enum_told.given.1)
+returns c = simp (← c.before.before.parts_of.ensures, c.enum_told.given.1)
 
 returns-2 : tie.Need-returns-2
-returns-2 c = simp (← c.before.before.parts-of.ensures, c.enum-told2.given.1)
+returns-2 c = simp (← c.before.before.parts_of.ensures, c.enum_told2.given.1)
 
 returns-3 : tie.Need-returns-3
-returns-3 c = simp (← c.before.before.before.parts-of.ensures, c.before.space.given.1)
+returns-3 c = simp (← c.before.before.before.parts_of.ensures, c.before.space.given.1)
 
 returns-4 : tie.Need-returns-4
-returns-4 c = simp (← c.before.before.before.parts-of.ensures, c.before.enum-told3.given.1, ← c.none_of.ensures)
+returns-4 c = simp (← c.before.before.before.parts_of.ensures, c.before.enum_told3.given.1, ← c.none_of.ensures)
 
-pub optional-of-spec : {M : Type 1} → statement M
-optional-of-spec =
-    tie.close (tie.spec parts-of-requires enum_told enum-told-2 enum-known-space enum-told-3 none-of-requires returns returns-2 returns-3 returns-4)
+pub optional_of_spec : {M : Type 1} → statement M
+optional_of_spec =
+    tie.close (tie.spec parts_of-requires enum_told enum_told-2 enum_known-space enum_told-3 none_of-requires returns returns-2 returns-3 returns-4)

@@ -6,6 +6,6 @@ use Rattle.eval_outcomes.proofs.outcomes.out_of_cells.Tie as tie
 returns : tie.Need-returns
 returns c = search rules
 
-pub out-of-cells-spec : {M : Type 1} → statement M
-out-of-cells-spec =
+pub out_of_cells_spec : {M : Type 1} → statement M
+out_of_cells_spec =
     tie.close (tie.spec returns)

@@ -6,6 +6,6 @@ use Rattle.eval_outcomes.proofs.outcomes.out_of_steps.Tie as tie
 returns : tie.Need-returns
 returns c = search rules
 
-pub out-of-steps-spec : {M : Type 1} → statement M
-out-of-steps-spec =
+pub out_of_steps_spec : {M : Type 1} → statement M
+out_of_steps_spec =
     tie.close (tie.spec returns)

@@ -8,6 +8,6 @@ returns c = simp c.if1.true
 returns-2 : tie.Need-returns-2
 returns-2 c = simp c.if1.false
 
-pub truth-bool-spec : {M : Type 1} → statement M
-truth-bool-spec =
+pub truth_bool_spec : {M : Type 1} → statement M
+truth_bool_spec =
     tie.close (tie.spec returns returns-2)

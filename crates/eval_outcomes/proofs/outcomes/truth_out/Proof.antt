@@ -6,6 +6,6 @@ use Rattle.eval_outcomes.proofs.outcomes.truth_out.Tie as tie
 returns : tie.Need-returns
 returns c = search rules
 
-pub truth-out-spec : {M : Type 1} → statement M
-truth-out-spec =
+pub truth_out_spec : {M : Type 1} → statement M
+truth_out_spec =
     tie.close (tie.spec returns)

@@ -6,6 +6,6 @@ use Rattle.eval_outcomes.proofs.outcomes.with_bytes.Tie as tie
 returns : tie.Need-returns
 returns c = search rules
 
-pub with-bytes-spec : {M : Type 1} → statement M
-with-bytes-spec =
+pub with_bytes_spec : {M : Type 1} → statement M
+with_bytes_spec =
     tie.close (tie.spec returns)

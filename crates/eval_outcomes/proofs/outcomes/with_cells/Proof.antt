@@ -6,6 +6,6 @@ use Rattle.eval_outcomes.proofs.outcomes.with_cells.Tie as tie
 returns : tie.Need-returns
 returns c = search rules
 
-pub with-cells-spec : {M : Type 1} → statement M
-with-cells-spec =
+pub with_cells_spec : {M : Type 1} → statement M
+with_cells_spec =
     tie.close (tie.spec returns)

@@ -6,6 +6,6 @@ use Rattle.eval_outcomes.proofs.outcomes.with_steps.Tie as tie
 returns : tie.Need-returns
 returns c = search rules
 
-pub with-steps-spec : {M : Type 1} → statement M
-with-steps-spec =
+pub with_steps_spec : {M : Type 1} → statement M
+with_steps_spec =
     tie.close (tie.spec returns)

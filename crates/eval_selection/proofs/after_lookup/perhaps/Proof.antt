@@ -6,7 +6,7 @@ use Rattle.eval_selection.proofs.after_lookup.perhaps.Tie as tie
 optionally-requires : tie.Need-optionally-requires
 optionally-requires c κs = search rules
 
-same_length : tie.Need-same-length
+same_length : tie.Need-same_length
 same_length c = search rules
 
 returns : tie.Need-returns
@@ -15,6 +15,6 @@ returns c = λ l1 b1 t1 x1. simp (c.before.before.before.before.if1.true, ← c.
 returns-2 : tie.Need-returns-2
 returns-2 c = λ l1 b1 t1 x1. simp c.if1.false
 
-pub perhaps-spec : {M : Type 1} → statement M
-perhaps-spec =
+pub perhaps_spec : {M : Type 1} → statement M
+perhaps_spec =
     tie.close (tie.spec optionally-requires same_length returns returns-2)

@@ -12,6 +12,6 @@ returns c = λ q1. simp (c.before.if1.true, ← c.tells.ensures)
 returns-2 : tie.Need-returns-2
 returns-2 c = λ q1. simp c.if1.false
 
-pub select-in-map-spec : {M : Type 1} → statement M
-select-in-map-spec =
+pub select_in_map_spec : {M : Type 1} → statement M
+select_in_map_spec =
     tie.close (tie.spec tells-requires returns returns-2)

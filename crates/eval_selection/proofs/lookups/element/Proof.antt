@@ -7,26 +7,26 @@ use Rattle.eval_selection.proofs.Places.{position-length}
 use Rattle.eval_selection.proofs.lookups.element.Statement.{statement}
 use Rattle.eval_selection.proofs.lookups.element.Tie as tie
 
-position-in-requires : tie.Need-position-in-requires
-position-in-requires c κs = search rules
+position_in-requires : tie.Need-position_in-requires
+position_in-requires c κs = search rules
 
-enum-known-i : tie.Need-enum-known-i
-enum-known-i c = search rules
+enum_known-i : tie.Need-enum_known-i
+enum_known-i c = search rules
 
-add-cell-at : tie.Need-overflow-add-cell-at
-add-cell-at c = record { fits = omega (arith, position-length c.before.before.before.before.before.before.args.index c.before.before.before.before.before.before.args.length _ (sym c.before.i.given.1 ∙ c.before.before.before.position_in.ensures), c.before.before.before.before.before.before.ranges.first, c.before.before.before.before.before.before.ranges.length) }
+add-cell_at : tie.Need-overflow_add-cell_at
+add-cell_at c = record { fits = omega (arith, position-length c.before.before.before.before.before.before.args.index c.before.before.before.before.before.before.args.length _ (sym c.before.i.given.1 ∙ c.before.before.before.position_in.ensures), c.before.before.before.before.before.before.ranges.first, c.before.before.before.before.before.before.ranges.length) }
 
-cell-at-requires : tie.Need-cell-at-requires
-cell-at-requires c κs = search rules
+cell_at-requires : tie.Need-cell_at-requires
+cell_at-requires c κs = search rules
 
-enum_told : tie.Need-enum-told
+enum_told : tie.Need-enum_told
 enum_told c = search rules
 
-enum-told-2 : tie.Need-enum-told-2
-enum-told-2 c = search rules
+enum_told-2 : tie.Need-enum_told-2
+enum_told-2 c = search rules
 
-no-overload-requires : tie.Need-no-overload-requires
-no-overload-requires c κs = search rules
+no_overload-requires : tie.Need-no_overload-requires
+no_overload-requires c κs = search rules
 
 returns : tie.Need-returns
 unfolding cell_at
@@ -38,8 +38,8 @@ returns-2 c = λ l1 t1 x1. simp (← c.before.before.position_in.ensures, c.enum
 
 returns-3 : tie.Need-returns-3
 unfolding cell_at
-returns-3 c = λ l1 t1 x1. simp (← c.before.before.before.position_in.ensures, c.before.enum-told2.given.1, ← c.no-overload.ensures)
+returns-3 c = λ l1 t1 x1. simp (← c.before.before.before.position_in.ensures, c.before.enum_told2.given.1, ← c.no_overload.ensures)
 
-pub element-spec : {M : Type 1} → statement M
-element-spec =
-    tie.close (tie.spec position-in-requires enum-known-i add-cell-at cell-at-requires enum_told enum-told-2 no-overload-requires returns returns-2 returns-3)
+pub element_spec : {M : Type 1} → statement M
+element_spec =
+    tie.close (tie.spec position_in-requires enum_known-i add-cell_at cell_at-requires enum_told enum_told-2 no_overload-requires returns returns-2 returns-3)

@@ -10,8 +10,8 @@ use borrow.Author.Rules.{rules}
 use Rattle.eval_shallow.proofs.one_level.flat.Statement.{statement}
 use Rattle.eval_shallow.proofs.one_level.flat.Tie as tie
 
-out-of-steps-requires : tie.Need-out-of-steps-requires
-out-of-steps-requires c κs = search rules
+out_of_steps-requires : tie.Need-out_of_steps-requires
+out_of_steps-requires c κs = search rules
 
 returns : tie.Need-returns
 returns c =
@@ -20,20 +20,20 @@ returns c =
     let literal = args.literal.now in
     let limit = args.limit in
     let at = args.at in
-    let lent = rooms literal args.binding-cells.now args.binding-text.now args.cells.now args.text.now in
-    λ s h. no_step table literal limit at s args.used lent c.before.if1.true c.out-of-steps.ensures
+    let lent = rooms literal args.binding_cells.now args.binding_text.now args.cells.now args.text.now in
+    λ s h. no_step table literal limit at s args.used lent c.before.if1.true c.out_of_steps.ensures
 
 stepped-requires : tie.Need-stepped-requires
 stepped-requires c κs = omega (arith, c.if1.false, c.before.before.before.before.before.before.before.before.ranges.limit)
 
-shape-at-requires : tie.Need-shape-at-requires
-shape-at-requires c κs = c.before.before.before.before.before.before.before.before.before.requires.0
+shape_at-requires : tie.Need-shape_at-requires
+shape_at-requires c κs = c.before.before.before.before.before.before.before.before.before.requires.0
 
-enum-known-fixed : tie.Need-enum-known-fixed
-enum-known-fixed c = search rules
+enum_known-fixed : tie.Need-enum_known-fixed
+enum_known-fixed c = search rules
 
-begun-first-requires : tie.Need-begun-first-requires
-begun-first-requires c κs = (c.before.before.before.before.before.before.before.before.before.before.before.before.before.requires.0, sym c.before.before.before.shape_at.ensures ∙ c.before.fixed.given.1)
+begun_first-requires : tie.Need-begun_first-requires
+begun_first-requires c κs = (c.before.before.before.before.before.before.before.before.before.before.before.before.before.requires.0, sym c.before.before.before.shape_at.ensures ∙ c.before.fixed.given.1)
 
 leaf-requires : tie.Need-leaf-requires
 leaf-requires c κs =
@@ -46,14 +46,14 @@ leaf-requires c κs =
     let shape = sym c.before.before.before.before.shape_at.ensures ∙ c.before.before.fixed.given.1 in
     first_leaf table literal limit at pre.0 shape pre.1 c.Begun-first.ensures
 
-after-first-requires : tie.Need-after-first-requires
-after-first-requires c κs = (c.before.before.before.before.before.before.before.before.before.before.before.before.before.before.before.before.before.requires.0, sym c.before.before.before.before.before.before.before.shape_at.ensures ∙ c.before.before.before.before.before.fixed.given.1)
+after_first-requires : tie.Need-after_first-requires
+after_first-requires c κs = (c.before.before.before.before.before.before.before.before.before.before.before.before.before.before.before.before.before.requires.0, sym c.before.before.before.before.before.before.before.shape_at.ensures ∙ c.before.before.before.before.before.fixed.given.1)
 
-enum-known-outcome : tie.Need-enum-known-outcome
-enum-known-outcome c = search rules
+enum_known-outcome : tie.Need-enum_known-outcome
+enum_known-outcome c = search rules
 
-enum-known-two : tie.Need-enum-known-two
-enum-known-two c = search rules
+enum_known-two : tie.Need-enum_known-two
+enum_known-two c = search rules
 
 leaf-requires-2 : tie.Need-leaf-requires-2
 leaf-requires-2 c κs =
@@ -62,22 +62,22 @@ leaf-requires-2 c κs =
     let literal = args.literal.now in
     let limit = args.limit in
     let at = args.at in
-    let lent = rooms literal args.binding-cells.now args.binding-text.now args.cells.now args.text.now in
+    let lent = rooms literal args.binding_cells.now args.binding_text.now args.cells.now args.text.now in
     let pre = c.before.before.before.before.before.before.before.before.before.before.before.before.before.before.before.before.before.before.before.before.before.before.before.requires in
     let shape = sym c.before.before.before.before.before.before.before.before.before.before.before.before.before.shape_at.ensures ∙ c.before.before.before.before.before.before.before.before.before.before.before.fixed.given.1 in
     next-leaf table literal limit at pre.0 shape pre.1 c.before.before.before.before.before.before.before.before.leaf.result lent c.before.before.before.before.before.after_first.ensures c.before.two.given.1
 
-after-both-requires : tie.Need-after-both-requires
-after-both-requires c κs = search rules
+after_both-requires : tie.Need-after_both-requires
+after_both-requires c κs = search rules
 
-out-of-steps-requires-2 : tie.Need-out-of-steps-requires-2
-out-of-steps-requires-2 c κs = search rules
+out_of_steps-requires-2 : tie.Need-out_of_steps-requires-2
+out_of_steps-requires-2 c κs = search rules
 
-same_length : tie.Need-same-length
+same_length : tie.Need-same_length
 same_length c = search rules
 
-same-length-2 : tie.Need-same-length-2
-same-length-2 c = search rules
+same_length-2 : tie.Need-same_length-2
+same_length-2 c = search rules
 
 returns-2 : tie.Need-returns-2
 returns-2 c =
@@ -86,7 +86,7 @@ returns-2 c =
     let literal = args.literal.now in
     let limit = args.limit in
     let at = args.at in
-    let lent = rooms literal args.binding-cells.now args.binding-text.now args.cells.now args.text.now in
+    let lent = rooms literal args.binding_cells.now args.binding_text.now args.cells.now args.text.now in
     let pre = c.before.before.before.before.before.before.before.before.before.before.before.before.before.before.before.before.before.before.before.before.before.before.before.requires in
     let shape = sym c.before.before.before.before.before.before.before.before.before.before.before.before.before.shape_at.ensures ∙ c.before.before.before.before.before.before.before.before.before.before.before.fixed.given.1 in
     let stepped = c.before.before.before.before.before.before.before.before.before.before.before.before.before.before.stepped in
@@ -97,11 +97,11 @@ returns-2 c =
     let first = first_does table literal limit at pre.0 shape pre.1 s args.first.value args.second.value h c.before.before.before.before.before.before.before.before.before.Begun-first.ensures stepped.result leaf.ensures lent in
     after-step table literal limit at s args.used lent c.before.before.before.before.before.before.before.before.before.before.before.before.before.before.before.if1.false stepped.ensures (stops_first table literal limit at s stepped.result lent operands first next c.before.outcome.given.1)
 
-same-length-3 : tie.Need-same-length-3
-same-length-3 c = search rules
+same_length-3 : tie.Need-same_length-3
+same_length-3 c = search rules
 
-same-length-4 : tie.Need-same-length-4
-same-length-4 c = search rules
+same_length-4 : tie.Need-same_length-4
+same_length-4 c = search rules
 
 returns-3 : tie.Need-returns-3
 returns-3 c =
@@ -110,7 +110,7 @@ returns-3 c =
     let literal = args.literal.now in
     let limit = args.limit in
     let at = args.at in
-    let lent = rooms literal args.binding-cells.now args.binding-text.now args.cells.now args.text.now in
+    let lent = rooms literal args.binding_cells.now args.binding_text.now args.cells.now args.text.now in
     let pre = c.before.before.before.before.before.before.before.before.before.before.before.before.before.before.before.before.before.before.before.before.before.before.before.before.before.before.before.before.before.before.before.requires in
     let shape = sym c.before.before.before.before.before.before.before.before.before.before.before.before.before.before.before.before.before.before.before.before.before.shape_at.ensures ∙ c.before.before.before.before.before.before.before.before.before.before.before.before.before.before.before.before.before.before.before.fixed.given.1 in
     let stepped = c.before.before.before.before.before.before.before.before.before.before.before.before.before.before.before.before.before.before.before.before.before.before.stepped in
@@ -128,27 +128,27 @@ returns-4 c =
     let shape_at = c.before.before.shape_at in
     flat-else (expr_of c.before.before.before.before.before.before.before.before.before.before.before.before.args.table.now c.before.before.before.before.before.before.before.before.before.before.before.before.args.literal.now c.before.before.before.before.before.before.before.before.before.before.before.before.args.at) c.before.before.before.before.before.before.before.before.before.before.before.before.requires.1 shape_at.result shape_at.ensures c.before.match.keys2
 
-pub flat-spec : {M : Type 1} → statement M
-flat-spec =
+pub flat_spec : {M : Type 1} → statement M
+flat_spec =
     tie.close
     (tie.spec
-    out-of-steps-requires
+    out_of_steps-requires
     returns
     stepped-requires
-    shape-at-requires
-    enum-known-fixed
-    begun-first-requires
+    shape_at-requires
+    enum_known-fixed
+    begun_first-requires
     leaf-requires
-    after-first-requires
-    enum-known-outcome
-    enum-known-two
+    after_first-requires
+    enum_known-outcome
+    enum_known-two
     leaf-requires-2
-    after-both-requires
-    out-of-steps-requires-2
+    after_both-requires
+    out_of_steps-requires-2
     same_length
-    same-length-2
+    same_length-2
     returns-2
-    same-length-3
-    same-length-4
+    same_length-3
+    same_length-4
     returns-3
     returns-4)

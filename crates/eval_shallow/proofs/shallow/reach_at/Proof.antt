@@ -8,21 +8,21 @@ use borrow.Author.Rules.{rules}
 use Rattle.eval_shallow.proofs.shallow.reach_at.Statement.{statement}
 use Rattle.eval_shallow.proofs.shallow.reach_at.Tie as tie
 
-is-leaf-requires : tie.Need-is-leaf-requires
-is-leaf-requires c κs = (sound-stands c.before.before.args.table.now c.before.before.args.literal.now c.before.before.args.at c.before.before.requires).here
+is_leaf-requires : tie.Need-is_leaf-requires
+is_leaf-requires c κs = (sound-stands c.before.before.args.table.now c.before.before.args.literal.now c.before.before.args.at c.before.before.requires).here
 
-slot-at-requires : tie.Need-slot-at-requires
-slot-at-requires c κs = search rules
+slot_at-requires : tie.Need-slot_at-requires
+slot_at-requires c κs = search rules
 
 returns : tie.Need-returns
 returns c = (leaf-slots (expr_of c.before.before.before.before.before.args.table.now c.before.before.before.before.before.args.literal.now c.before.before.before.before.before.args.at) (leaf-seen c.before.before.before.before.before.args.table.now c.before.before.before.before.before.args.literal.now c.before.before.before.before.before.args.at c.before.before.before.before.before.requires c.before.before.is_is_leaf.ensures) c.before.if1.true c.slot_at.ensures.0, (c.slot_at.ensures.1, omega arith, omega arith, omega arith))
 
-near-at-requires : tie.Need-near-at-requires
-near-at-requires c κs = search rules
+near_at-requires : tie.Need-near_at-requires
+near_at-requires c κs = search rules
 
 returns-2 : tie.Need-returns-2
-returns-2 c = (near-slots (expr_of c.before.before.before.before.before.args.table.now c.before.before.before.before.before.args.literal.now c.before.before.before.before.before.args.at) (leaf-seen c.before.before.before.before.before.args.table.now c.before.before.before.before.before.args.literal.now c.before.before.before.before.before.args.at c.before.before.before.before.before.requires c.before.before.is_is_leaf.ensures) c.before.if1.false c.near-at.ensures.0, c.near-at.ensures.1)
+returns-2 c = (near-slots (expr_of c.before.before.before.before.before.args.table.now c.before.before.before.before.before.args.literal.now c.before.before.before.before.before.args.at) (leaf-seen c.before.before.before.before.before.args.table.now c.before.before.before.before.before.args.literal.now c.before.before.before.before.before.args.at c.before.before.before.before.before.requires c.before.before.is_is_leaf.ensures) c.before.if1.false c.near_at.ensures.0, c.near_at.ensures.1)
 
-pub reach-at-spec : {M : Type 1} → statement M
-reach-at-spec =
-    tie.close (tie.spec is-leaf-requires slot-at-requires returns near-at-requires returns-2)
+pub reach_at_spec : {M : Type 1} → statement M
+reach_at_spec =
+    tie.close (tie.spec is_leaf-requires slot_at-requires returns near_at-requires returns-2)

@@ -23,5 +23,5 @@ returns-4 c = rw c.match.keys4
 returns-5 : tie.Need-returns-5
 returns-5 c = let r = c.match.rest in no_call c.before.args.number c.before.args.one r.0.0.0.1 r.0.0.1 r.0.1 r.1
 
-pub call-sides-spec : {M : Type 1} → statement M
-call-sides-spec = tie.close (tie.spec returns returns-2 returns-3 returns-4 returns-5)
+pub call_sides_spec : {M : Type 1} → statement M
+call_sides_spec = tie.close (tie.spec returns returns-2 returns-3 returns-4 returns-5)

@@ -7,21 +7,21 @@ use borrow.Author.Rules.{rules}
 use Rattle.eval_shallow.proofs.slots.small_at.Statement.{statement}
 use Rattle.eval_shallow.proofs.slots.small_at.Tie as tie
 
-is-leaf-requires : tie.Need-is-leaf-requires
-is-leaf-requires c κs = (sound-stands c.before.before.args.table.now c.before.before.args.literal.now c.before.before.args.at c.before.before.requires).here
+is_leaf-requires : tie.Need-is_leaf-requires
+is_leaf-requires c κs = (sound-stands c.before.before.args.table.now c.before.before.args.literal.now c.before.before.args.at c.before.before.requires).here
 
-slot-at-requires : tie.Need-slot-at-requires
-slot-at-requires c κs = search rules
+slot_at-requires : tie.Need-slot_at-requires
+slot_at-requires c κs = search rules
 
 returns : tie.Need-returns
 returns c = (small-leaf (expr_of c.before.before.before.before.before.args.table.now c.before.before.before.before.before.args.literal.now c.before.before.before.before.before.args.at) (leaf-seen c.before.before.before.before.before.args.table.now c.before.before.before.before.before.args.literal.now c.before.before.before.before.before.args.at c.before.before.before.before.before.requires c.before.before.is_is_leaf.ensures) c.before.if1.true c.slot_at.ensures.0, (c.slot_at.ensures.1, omega arith))
 
-flat-at-requires : tie.Need-flat-at-requires
-flat-at-requires c κs = search rules
+flat_at-requires : tie.Need-flat_at-requires
+flat_at-requires c κs = search rules
 
 returns-2 : tie.Need-returns-2
-returns-2 c = (small-flat (expr_of c.before.before.before.before.before.args.table.now c.before.before.before.before.before.args.literal.now c.before.before.before.before.before.args.at) (leaf-seen c.before.before.before.before.before.args.table.now c.before.before.before.before.before.args.literal.now c.before.before.before.before.before.args.at c.before.before.before.before.before.requires c.before.before.is_is_leaf.ensures) c.before.if1.false c.flat-at.ensures.0, c.flat-at.ensures.1)
+returns-2 c = (small-flat (expr_of c.before.before.before.before.before.args.table.now c.before.before.before.before.before.args.literal.now c.before.before.before.before.before.args.at) (leaf-seen c.before.before.before.before.before.args.table.now c.before.before.before.before.before.args.literal.now c.before.before.before.before.before.args.at c.before.before.before.before.before.requires c.before.before.is_is_leaf.ensures) c.before.if1.false c.flat_at.ensures.0, c.flat_at.ensures.1)
 
-pub small-at-spec : {M : Type 1} → statement M
-small-at-spec =
-    tie.close (tie.spec is-leaf-requires slot-at-requires returns flat-at-requires returns-2)
+pub small_at_spec : {M : Type 1} → statement M
+small_at_spec =
+    tie.close (tie.spec is_leaf-requires slot_at-requires returns flat_at-requires returns-2)

@@ -6,22 +6,22 @@ use Rattle.eval_shapes.proofs.SeenOfRecords.{step-found, step-unlisted}
 use Rattle.eval_shapes.proofs.comprehensions.append_step.Statement.{statement}
 use Rattle.eval_shapes.proofs.comprehensions.append_step.Tie as tie
 
-kind-at-requires : tie.Need-kind-at-requires
-kind-at-requires c κs = (sound-stands c.before.before.args.table.now c.before.before.args.literal.now c.before.before.args.step c.before.before.requires).here
+kind_at-requires : tie.Need-kind_at-requires
+kind_at-requires c κs = (sound-stands c.before.before.args.table.now c.before.before.args.literal.now c.before.before.args.step c.before.before.requires).here
 
-guarded-step-requires : tie.Need-guarded-step-requires
-guarded-step-requires c κs = (c.before.before.before.before.requires, sym c.before.kind_at.ensures ∙ c.if1.true)
+guarded_step-requires : tie.Need-guarded_step-requires
+guarded_step-requires c κs = (c.before.before.before.before.requires, sym c.before.kind_at.ensures ∙ c.if1.true)
 
 returns : tie.Need-returns
-returns c = c.guarded-step.ensures
+returns c = c.guarded_step.ensures
 
-items-of-requires : tie.Need-items-of-requires
-items-of-requires c κs = search rules
+items_of-requires : tie.Need-items_of-requires
+items_of-requires c κs = search rules
 
-enum-known-list : tie.Need-enum-known-list
-enum-known-list c = search rules
+enum_known-list : tie.Need-enum_known-list
+enum_known-list c = search rules
 
-enum_told : tie.Need-enum-told
+enum_told : tie.Need-enum_told
 enum_told c = search rules
 
 returns-2 : tie.Need-returns-2
@@ -30,5 +30,5 @@ returns-2 c = step-found c.before.before.before.before.before.before.before.befo
 returns-3 : tie.Need-returns-3
 returns-3 c = (step-unlisted c.before.before.before.before.before.before.before.args.table.now c.before.before.before.before.before.before.before.args.literal.now c.before.before.before.before.before.before.before.args.step c.before.before.before.before.before.before.before.requires (λ k. c.before.before.before.if1.false (c.before.before.before.before.kind_at.ensures ∙ k)) c.before.before.before.before.before.before.before.args.accumulator c.before.before.items_of.result c.enum_told.given.1 c.before.before.items_of.ensures.0, tt)
 
-pub append-step-spec : {M : Type 1} → statement M
-append-step-spec = tie.close (tie.spec kind-at-requires guarded-step-requires returns items-of-requires enum-known-list enum_told returns-2 returns-3)
+pub append_step_spec : {M : Type 1} → statement M
+append_step_spec = tie.close (tie.spec kind_at-requires guarded_step-requires returns items_of-requires enum_known-list enum_told returns-2 returns-3)

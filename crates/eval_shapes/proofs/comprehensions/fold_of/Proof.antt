@@ -12,5 +12,5 @@ returns-2 c = and-fold c.match.keys2
 returns-3 : tie.Need-returns-3
 returns-3 c = no-fold c.before.args.number c.match.rest.0.1 c.match.rest.1
 
-pub fold-of-spec : {M : Type 1} → statement M
-fold-of-spec = tie.close (tie.spec returns returns-2 returns-3)
+pub fold_of_spec : {M : Type 1} → statement M
+fold_of_spec = tie.close (tie.spec returns returns-2 returns-3)

@@ -10,29 +10,29 @@ use Rattle.eval_shapes.proofs.ComprehensionLaws.{comprehension-at, places-are}
 use Rattle.eval_shapes.proofs.comprehensions.places_at.Statement.{statement}
 use Rattle.eval_shapes.proofs.comprehensions.places_at.Tie as tie
 
-end-at-requires : tie.Need-end-at-requires
-end-at-requires c κs = let o = comprehension-at c.before.before.args.table.now c.before.before.args.literal.now c.before.before.args.at c.before.before.requires.0 c.before.before.requires.1 in rw c.before.before.requires.2 (sound-stands c.before.before.args.table.now c.before.before.args.literal.now (after c.before.before.args.table.now (c.before.before.args.at + 5)) o.init).start
+end_at-requires : tie.Need-end_at-requires
+end_at-requires c κs = let o = comprehension-at c.before.before.args.table.now c.before.before.args.literal.now c.before.before.args.at c.before.before.requires.0 c.before.before.requires.1 in rw c.before.before.requires.2 (sound-stands c.before.before.args.table.now c.before.before.args.literal.now (after c.before.before.args.table.now (c.before.before.args.at + 5)) o.init).start
 
-end-at-requires-2 : tie.Need-end-at-requires-2
-end-at-requires-2 c κs = let o = comprehension-at c.before.before.before.args.table.now c.before.before.before.args.literal.now c.before.before.before.args.at c.before.before.before.requires.0 c.before.before.before.requires.1 in rw (c.end-at.ensures ∙ ap (λ (q : ℕ). after c.before.before.before.args.table.now q) c.before.before.before.requires.2) (sound-stands c.before.before.before.args.table.now c.before.before.before.args.literal.now (places_at c.before.before.before.args.table.now c.before.before.before.args.at).condition o.condition).start
+end_at-requires-2 : tie.Need-end_at-requires-2
+end_at-requires-2 c κs = let o = comprehension-at c.before.before.before.args.table.now c.before.before.before.args.literal.now c.before.before.before.args.at c.before.before.before.requires.0 c.before.before.before.requires.1 in rw (c.end_at.ensures ∙ ap (λ (q : ℕ). after c.before.before.before.args.table.now q) c.before.before.before.requires.2) (sound-stands c.before.before.before.args.table.now c.before.before.before.args.literal.now (places_at c.before.before.before.args.table.now c.before.before.before.args.at).condition o.condition).start
 
-number-at-requires : tie.Need-number-at-requires
-number-at-requires c κs = let o = comprehension-at c.before.before.before.before.args.table.now c.before.before.before.before.args.literal.now c.before.before.before.before.args.at c.before.before.before.before.requires.0 c.before.before.before.before.requires.1 in omega (arith, o.start)
+number_at-requires : tie.Need-number_at-requires
+number_at-requires c κs = let o = comprehension-at c.before.before.before.before.args.table.now c.before.before.before.before.args.literal.now c.before.before.before.before.args.at c.before.before.before.before.requires.0 c.before.before.before.before.requires.1 in omega (arith, o.start)
 
-cast-t8 : tie.Need-overflow-cast-t8
+cast-t8 : tie.Need-overflow_cast-t8
 cast-t8 c = search rules
 
-second-at-requires : tie.Need-second-at-requires
-second-at-requires c κs = (comprehension-at c.before.before.before.before.before.args.table.now c.before.before.before.before.before.args.literal.now c.before.before.before.before.before.args.at c.before.before.before.before.before.requires.0 c.before.before.before.before.before.requires.1).start
+second_at-requires : tie.Need-second_at-requires
+second_at-requires c κs = (comprehension-at c.before.before.before.before.before.args.table.now c.before.before.before.before.before.args.literal.now c.before.before.before.before.before.args.at c.before.before.before.before.before.requires.0 c.before.before.before.before.before.requires.1).start
 
-cast-t10 : tie.Need-overflow-cast-t10
+cast-t10 : tie.Need-overflow_cast-t10
 cast-t10 c = search rules
 
-end-at-requires-3 : tie.Need-end-at-requires-3
-end-at-requires-3 c κs = let o = comprehension-at c.before.before.before.before.before.before.args.table.now c.before.before.before.before.before.before.args.literal.now c.before.before.before.before.before.before.args.at c.before.before.before.before.before.before.requires.0 c.before.before.before.before.before.before.requires.1 in rw (c.before.before.end-at2.ensures ∙ ap (λ (q : ℕ). after c.before.before.before.before.before.before.args.table.now q) (c.before.before.before.end-at.ensures ∙ ap (λ (q : ℕ). after c.before.before.before.before.before.before.args.table.now q) c.before.before.before.before.before.before.requires.2)) (sound-stands c.before.before.before.before.before.before.args.table.now c.before.before.before.before.before.before.args.literal.now (places_at c.before.before.before.before.before.before.args.table.now c.before.before.before.before.before.before.args.at).step o.step).start
+end_at-requires-3 : tie.Need-end_at-requires-3
+end_at-requires-3 c κs = let o = comprehension-at c.before.before.before.before.before.before.args.table.now c.before.before.before.before.before.before.args.literal.now c.before.before.before.before.before.before.args.at c.before.before.before.before.before.before.requires.0 c.before.before.before.before.before.before.requires.1 in rw (c.before.before.end_at2.ensures ∙ ap (λ (q : ℕ). after c.before.before.before.before.before.before.args.table.now q) (c.before.before.before.end_at.ensures ∙ ap (λ (q : ℕ). after c.before.before.before.before.before.before.args.table.now q) c.before.before.before.before.before.before.requires.2)) (sound-stands c.before.before.before.before.before.before.args.table.now c.before.before.before.before.before.before.args.literal.now (places_at c.before.before.before.before.before.before.args.table.now c.before.before.before.before.before.before.args.at).step o.step).start
 
 returns : tie.Need-returns
-returns c = places-are c.before.before.before.before.before.before.before.args.table.now c.before.before.before.before.before.before.before.args.at c.before.before.before.before.before.before.before.args.init c.before.before.before.before.before.before.before.requires.2 c.before.before.number_at.result c.before.before.number_at.ensures c.before.second_at.result c.before.second_at.ensures c.before.before.before.before.end-at.result c.before.before.before.before.end-at.ensures c.before.before.before.end-at2.result c.before.before.before.end-at2.ensures c.end-at3.result c.end-at3.ensures
+returns c = places-are c.before.before.before.before.before.before.before.args.table.now c.before.before.before.before.before.before.before.args.at c.before.before.before.before.before.before.before.args.init c.before.before.before.before.before.before.before.requires.2 c.before.before.number_at.result c.before.before.number_at.ensures c.before.second_at.result c.before.second_at.ensures c.before.before.before.before.end_at.result c.before.before.before.before.end_at.ensures c.before.before.before.end_at2.result c.before.before.before.end_at2.ensures c.end_at3.result c.end_at3.ensures
 
-pub places-at-spec : {M : Type 1} → statement M
-places-at-spec = tie.close (tie.spec end-at-requires end-at-requires-2 number-at-requires cast-t8 second-at-requires cast-t10 end-at-requires-3 returns)
+pub places_at_spec : {M : Type 1} → statement M
+places_at_spec = tie.close (tie.spec end_at-requires end_at-requires-2 number_at-requires cast-t8 second_at-requires cast-t10 end_at-requires-3 returns)

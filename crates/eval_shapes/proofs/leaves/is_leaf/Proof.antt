@@ -3,11 +3,11 @@ use borrow.Author.Rules.{rules}
 use Rattle.eval_shapes.proofs.leaves.is_leaf.Statement.{statement}
 use Rattle.eval_shapes.proofs.leaves.is_leaf.Tie as tie
 
-kind-at-requires : tie.Need-kind-at-requires
-kind-at-requires c κs = search rules
+kind_at-requires : tie.Need-kind_at-requires
+kind_at-requires c κs = search rules
 
 returns : tie.Need-returns
 returns c = rw c.kind_at.ensures
 
-pub is-leaf-spec : {M : Type 1} → statement M
-is-leaf-spec = tie.close (tie.spec kind-at-requires returns)
+pub is_leaf_spec : {M : Type 1} → statement M
+is_leaf_spec = tie.close (tie.spec kind_at-requires returns)

@@ -6,14 +6,14 @@ use Rattle.eval_shapes.proofs.next.after_condition.Tie as tie
 asks-requires : tie.Need-asks-requires
 asks-requires c κs = search rules
 
-enum-known-used : tie.Need-enum-known-used
-enum-known-used c = search rules
+enum_known-used : tie.Need-enum_known-used
+enum_known-used c = search rules
 
-enum-known-used-2 : tie.Need-enum-known-used-2
-enum-known-used-2 c = search rules
+enum_known-used-2 : tie.Need-enum_known-used-2
+enum_known-used-2 c = search rules
 
-enum-known-outcome : tie.Need-enum-known-outcome
-enum-known-outcome c = search rules
+enum_known-outcome : tie.Need-enum_known-outcome
+enum_known-outcome c = search rules
 
 returns : tie.Need-returns
 returns c = simp (← c.before.before.before.asks.ensures, c.before.used.given.1)
@@ -24,6 +24,6 @@ returns-2 c = simp (← c.before.before.before.asks.ensures, c.before.used2.give
 returns-3 : tie.Need-returns-3
 returns-3 c = simp (← c.before.before.before.asks.ensures, c.before.outcome.given.1)
 
-pub after-condition-spec : {M : Type 1} → statement M
-after-condition-spec =
-    tie.close (tie.spec asks-requires enum-known-used enum-known-used-2 enum-known-outcome returns returns-2 returns-3)
+pub after_condition_spec : {M : Type 1} → statement M
+after_condition_spec =
+    tie.close (tie.spec asks-requires enum_known-used enum_known-used-2 enum_known-outcome returns returns-2 returns-3)

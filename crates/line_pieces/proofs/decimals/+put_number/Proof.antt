@@ -32,13 +32,13 @@ put-number-digit-requires t c κs = search rules
 put-number-put-requires : (t : ℕ) → put-number-lts.Need-put-requires (put-number-claims t) (put-number-at t) put-number.Post
 put-number-put-requires t c κs = search rules
 
-put-number-same-length : (t : ℕ) → put-number-lts.Need-same-length (put-number-claims t) (put-number-at t) put-number.Post
+put-number-same-length : (t : ℕ) → put-number-lts.Need-same_length (put-number-claims t) (put-number-at t) put-number.Post
 put-number-same-length t c = search rules
 
 put-number-returns : (t : ℕ) → put-number-lts.Need-returns (put-number-claims t) (put-number-at t) put-number.Post
 put-number-returns t c = search (rules, number-one)
 
-put-number-put-number-requires : (t : ℕ) → put-number-lts.Need-put-number-requires (put-number-claims t) (put-number-at t) put-number.Post
+put-number-put-number-requires : (t : ℕ) → put-number-lts.Need-put_number-requires (put-number-claims t) (put-number-at t) put-number.Post
 put-number-put-number-requires t c κs = search rules
 
 put-number-digit-requires-2 : (t : ℕ) → put-number-lts.Need-digit-requires-2 (put-number-claims t) (put-number-at t) put-number.Post
@@ -47,14 +47,14 @@ put-number-digit-requires-2 t c κs = search rules
 put-number-put-requires-2 : (t : ℕ) → put-number-lts.Need-put-requires-2 (put-number-claims t) (put-number-at t) put-number.Post
 put-number-put-requires-2 t c κs = search rules
 
-put-number-same-length-2 : (t : ℕ) → put-number-lts.Need-same-length-2 (put-number-claims t) (put-number-at t) put-number.Post
+put-number-same-length-2 : (t : ℕ) → put-number-lts.Need-same_length-2 (put-number-claims t) (put-number-at t) put-number.Post
 put-number-same-length-2 t c = search rules
 
 put-number-returns-2 : (t : ℕ) → put-number-lts.Need-returns-2 (put-number-claims t) (put-number-at t) put-number.Post
 put-number-returns-2 t c = search (rules, number_more)
 
-pub +put-number-spec : {M : Type 1} → statement M
-+put-number-spec = close μ-put-number λ t. put-number-lts.spec (put-number-claims t)
+pub +put_number_spec : {M : Type 1} → statement M
++put_number_spec = close μ-put-number λ t. put-number-lts.spec (put-number-claims t)
     (put-number-at t)
     put-number.Post
     (put-number-digit-requires t)

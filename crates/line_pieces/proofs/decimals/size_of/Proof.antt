@@ -19,22 +19,22 @@ below c = rw (to_z-of_z w64 c.before.args.number c.before.ranges.number) at c.if
 next : (c : tie.Then1) → SFits w64 (suc_ℤ c.before.args.number)
 next c = suc-in c.before.args.number c.before.ranges.number.sfits (below c)
 
-add-result : tie.Need-overflow-add-result
+add-result : tie.Need-overflow_add-result
 add-result c = simp (to_z-of_z w64 c.before.args.number c.before.ranges.number, +ℤ_one) (next c)
 
-sub-result : tie.Need-overflow-sub-result
+sub-result : tie.Need-overflow_sub-result
 sub-result c = simp (to_z-of_z w64 c.before.args.number c.before.ranges.number, +ℤ_one, to_z-of_z w64 (suc_ℤ c.before.args.number) (next c), +ℤ_idl, flip_is c.before.args.number (below c)) (sfits_of c.before.ranges.number.sfits)
 
-cast-result : tie.Need-overflow-cast-result
+cast-result : tie.Need-overflow_cast-result
 cast-result c = rw (flipped c.before.args.number c.before.ranges.number (next c) (below c)) (tt, record { fits = omega (arith, c.before.ranges.number.sfits) })
 
-add-result-2 : tie.Need-overflow-add-result-2
+add-result-2 : tie.Need-overflow_add-result-2
 add-result-2 c = rw (flipped c.before.args.number c.before.ranges.number (next c) (below c)) (record { fits = omega (arith, c.before.ranges.number.sfits) })
 
 above : (c : tie.Else1) → c.before.args.number ≡ pos (nat_abs c.before.args.number)
 above c = is_positive c.before.args.number (rw (to_z-of_z w64 c.before.args.number c.before.ranges.number) at c.if1.false)
 
-cast-result-2 : tie.Need-overflow-cast-result-2
+cast-result-2 : tie.Need-overflow_cast-result-2
 cast-result-2 c = rw (to_z-of_z w64 c.before.args.number c.before.ranges.number, above c) (tt, record { fits = omega (arith, abs-le c.before.args.number c.before.ranges.number.sfits) })
 
 returns : tie.Need-returns
@@ -43,5 +43,5 @@ returns c = ap (λ (z : ℤ). nat_abs z + 1) (flipped c.before.args.number c.bef
 returns-2 : tie.Need-returns-2
 returns-2 c = search rules
 
-pub size-of-spec : {M : Type 1} → statement M
-size-of-spec = tie.close (tie.spec add-result sub-result cast-result add-result-2 cast-result-2 returns returns-2)
+pub size_of_spec : {M : Type 1} → statement M
+size_of_spec = tie.close (tie.spec add-result sub-result cast-result add-result-2 cast-result-2 returns returns-2)

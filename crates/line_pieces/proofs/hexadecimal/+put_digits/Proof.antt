@@ -29,10 +29,10 @@ put-digits-claims t = (put-digits-below t, put-digits.Post, digit-reads.Asked, d
 put-digits-returns : (t : ℕ) → put-digits-lts.Need-returns (put-digits-claims t) (put-digits-at t) put-digits.Post
 put-digits-returns t c = search (rules, digits-none)
 
-put-digits-sub-put-digits : (t : ℕ) → put-digits-lts.Need-overflow-sub-put-digits (put-digits-claims t) (put-digits-at t) put-digits.Post
+put-digits-sub-put-digits : (t : ℕ) → put-digits-lts.Need-overflow_sub-put_digits (put-digits-claims t) (put-digits-at t) put-digits.Post
 put-digits-sub-put-digits t c = search rules
 
-put-digits-put-digits-requires : (t : ℕ) → put-digits-lts.Need-put-digits-requires (put-digits-claims t) (put-digits-at t) put-digits.Post
+put-digits-put-digits-requires : (t : ℕ) → put-digits-lts.Need-put_digits-requires (put-digits-claims t) (put-digits-at t) put-digits.Post
 put-digits-put-digits-requires t c κs = search rules
 
 put-digits-digit-requires : (t : ℕ) → put-digits-lts.Need-digit-requires (put-digits-claims t) (put-digits-at t) put-digits.Post
@@ -41,14 +41,14 @@ put-digits-digit-requires t c κs = search rules
 put-digits-put-requires : (t : ℕ) → put-digits-lts.Need-put-requires (put-digits-claims t) (put-digits-at t) put-digits.Post
 put-digits-put-requires t c κs = search rules
 
-put-digits-same-length : (t : ℕ) → put-digits-lts.Need-same-length (put-digits-claims t) (put-digits-at t) put-digits.Post
+put-digits-same-length : (t : ℕ) → put-digits-lts.Need-same_length (put-digits-claims t) (put-digits-at t) put-digits.Post
 put-digits-same-length t c = search rules
 
 put-digits-returns-2 : (t : ℕ) → put-digits-lts.Need-returns-2 (put-digits-claims t) (put-digits-at t) put-digits.Post
 put-digits-returns-2 t c = search (rules, digits_more)
 
-pub +put-digits-spec : {M : Type 1} → statement M
-+put-digits-spec = close μ-put-digits λ t. put-digits-lts.spec (put-digits-claims t)
+pub +put_digits_spec : {M : Type 1} → statement M
++put_digits_spec = close μ-put-digits λ t. put-digits-lts.spec (put-digits-claims t)
     (put-digits-at t)
     put-digits.Post
     (put-digits-returns t)

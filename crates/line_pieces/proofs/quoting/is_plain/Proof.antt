@@ -16,5 +16,5 @@ returns-3 c = search (rules, plain-quote)
 returns-4 : tie.Need-returns-4
 returns-4 c = search (rules, plain_other)
 
-pub is-plain-spec : {M : Type 1} → statement M
-is-plain-spec = tie.close (tie.spec returns returns-2 returns-3 returns-4)
+pub is_plain_spec : {M : Type 1} → statement M
+is_plain_spec = tie.close (tie.spec returns returns-2 returns-3 returns-4)

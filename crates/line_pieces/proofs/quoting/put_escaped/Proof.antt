@@ -4,43 +4,43 @@ use borrow.Author.Rules.{rules}
 use Rattle.line_pieces.proofs.quoting.put_escaped.Statement.{statement}
 use Rattle.line_pieces.proofs.quoting.put_escaped.Tie as tie
 
-is-plain-requires : tie.Need-is-plain-requires
-is-plain-requires c κs = search rules
+is_plain-requires : tie.Need-is_plain-requires
+is_plain-requires c κs = search rules
 
 put-requires : tie.Need-put-requires
 put-requires c κs = search rules
 
-same_length : tie.Need-same-length
+same_length : tie.Need-same_length
 same_length c = search rules
 
 returns : tie.Need-returns
 returns c = search (rules, escaped-plain)
 
-slice-aggregate-put-word : tie.Need-slice-aggregate-put-word
-slice-aggregate-put-word c = search rules
+slice-aggregate-put_word : tie.Need-slice-aggregate-put_word
+slice-aggregate-put_word c = search rules
 
-put-word-requires : tie.Need-put-word-requires
-put-word-requires c κs = search rules
+put_word-requires : tie.Need-put_word-requires
+put_word-requires c κs = search rules
 
-put-digits-requires : tie.Need-put-digits-requires
-put-digits-requires c κs = search rules
+put_digits-requires : tie.Need-put_digits-requires
+put_digits-requires c κs = search rules
 
-same-length-2 : tie.Need-same-length-2
-same-length-2 c = search rules
+same_length-2 : tie.Need-same_length-2
+same_length-2 c = search rules
 
 returns-2 : tie.Need-returns-2
 returns-2 c = search (rules, escaped-other)
 
-pub put-escaped-spec : {M : Type 1} → statement M
-put-escaped-spec =
+pub put_escaped_spec : {M : Type 1} → statement M
+put_escaped_spec =
     tie.close
     (tie.spec
-    is-plain-requires
+    is_plain-requires
     put-requires
     same_length
     returns
-    slice-aggregate-put-word
-    put-word-requires
-    put-digits-requires
-    same-length-2
+    slice-aggregate-put_word
+    put_word-requires
+    put_digits-requires
+    same_length-2
     returns-2)

@@ -22,13 +22,13 @@ put-requires c κs = search rules
 loop-holds : tie.Need-loop-init invariant-loop decreases-loop
 loop-holds c = (refl, omega arith, refl)
 
-shared-slice-read-put-escaped : tie.Need-shared-slice-read-put-escaped invariant-loop decreases-loop
-shared-slice-read-put-escaped c = search rules
+shared_slice_read-put_escaped : tie.Need-shared_slice_read-put_escaped invariant-loop decreases-loop
+shared_slice_read-put_escaped c = search rules
 
-put-escaped-requires : tie.Need-put-escaped-requires invariant-loop decreases-loop
-put-escaped-requires c κs = search rules
+put_escaped-requires : tie.Need-put_escaped-requires invariant-loop decreases-loop
+put_escaped-requires c κs = search rules
 
-add-index : tie.Need-overflow-add-index invariant-loop decreases-loop
+add-index : tie.Need-overflow_add-index invariant-loop decreases-loop
 add-index c = search rules
 
 loop-less : tie.Need-loop-smaller invariant-loop decreases-loop
@@ -40,13 +40,13 @@ loop-again c =
     in (
       search rules,
       search rules,
-      escapes-on l.before.before.before.before.before.before.before.args.text.now l.loop.index (l.loop.next, l.loop.out) _ c.before.before.before.before.before.loop-test.true c.before.before.put-escaped.ensures ∙ l.loop.inv.2,
+      escapes-on l.before.before.before.before.before.before.before.args.text.now l.loop.index (l.loop.next, l.loop.out) _ c.before.before.before.before.before.loop-test.true c.before.before.put_escaped.ensures ∙ l.loop.inv.2,
     )
 
 put-requires-2 : tie.Need-put-requires-2 invariant-loop decreases-loop
 put-requires-2 c κs = search rules
 
-same_length : tie.Need-same-length invariant-loop decreases-loop
+same_length : tie.Need-same_length invariant-loop decreases-loop
 same_length c = search rules
 
 returns : tie.Need-returns invariant-loop decreases-loop
@@ -56,16 +56,16 @@ returns c =
     (escapes-over l.before.before.before.before.before.before.before.args.text.now l.loop.index (l.loop.next, l.loop.out) c.before.before.before.before.loop-test.false ∙ l.loop.inv.2)
     c.before.before.put2.ensures
 
-pub put-quoted-spec : {M : Type 1} → statement M
-put-quoted-spec =
+pub put_quoted_spec : {M : Type 1} → statement M
+put_quoted_spec =
     tie.close
     (tie.spec
     invariant-loop
     decreases-loop
     put-requires
     loop-holds
-    shared-slice-read-put-escaped
-    put-escaped-requires
+    shared_slice_read-put_escaped
+    put_escaped-requires
     add-index
     loop-less
     loop-again

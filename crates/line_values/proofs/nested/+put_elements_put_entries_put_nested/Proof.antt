@@ -77,119 +77,119 @@ put-entries-claims t = (cell-at-reads.Asked, cell-at-reads.Learnt, put-nested-be
 abbrev put-nested-claims : ℕ → put-nested-lts.Claims
 put-nested-claims t = (parts-of-reads.Asked, parts-of-reads.Learnt, put-word-reads.Asked, put-word-reads.Learnt, put-elements-below t, put-elements.Post, put-entries-below t, put_entries.Post, cell-at-reads.Asked, cell-at-reads.Learnt, put-nested-below t, put-nested.Post, plain-of-reads.Asked, plain-of-reads.Learnt, put-plain-reads.Asked, put-plain-reads.Learnt)
 
-abbrev put-elements-Inv-loop : put-elements-lts.invariant-loop
-put-elements-Inv-loop literal binding-cells binding-text cells text levels space first length out₀ at next₀ place₀ left₀ out next place left =
+abbrev put_elements-Inv-loop : put-elements-lts.invariant-loop
+put_elements-Inv-loop literal binding-cells binding-text cells text levels space first length out₀ at next₀ place₀ left₀ out next place left =
     (Lists.length out ≡ Lists.length out₀) × (place + left ≤ 200000) × (◌≡◌ {A = Page} (puts (elements_shown (λ v. shown_to levels (rooms literal binding-cells binding-text cells text) v) (rooms literal binding-cells binding-text cells text) space place left) (next, out)) (puts (elements_shown (λ v. shown_to levels (rooms literal binding-cells binding-text cells text) v) (rooms literal binding-cells binding-text cells text) space first length) (at, out₀)))
 
-abbrev put-elements-μ-loop : put-elements-lts.decreases-loop
-put-elements-μ-loop literal binding-cells binding-text cells text levels space first length out₀ at next₀ place₀ left₀ out next place left = left
+abbrev put_elements-μ-loop : put-elements-lts.decreases-loop
+put_elements-μ-loop literal binding-cells binding-text cells text levels space first length out₀ at next₀ place₀ left₀ out next place left = left
 
-put-elements-loop-holds : (t : ℕ) → put-elements-lts.Need-loop-init (put-elements-claims t) (put-elements-at t) put-elements.Post put-elements-Inv-loop put-elements-μ-loop
+put-elements-loop-holds : (t : ℕ) → put-elements-lts.Need-loop-init (put-elements-claims t) (put-elements-at t) put-elements.Post put_elements-Inv-loop put_elements-μ-loop
 put-elements-loop-holds t c =
     (refl, omega (arith, c.before.before.before.before.before.before.ranges.first.fits, c.before.before.before.before.before.before.ranges.length.fits), refl)
 
-put-elements-sub-left : (t : ℕ) → put-elements-lts.Need-overflow-sub-left (put-elements-claims t) (put-elements-at t) put-elements.Post put-elements-Inv-loop put-elements-μ-loop
+put-elements-sub-left : (t : ℕ) → put-elements-lts.Need-overflow_sub-left (put-elements-claims t) (put-elements-at t) put-elements.Post put_elements-Inv-loop put_elements-μ-loop
 put-elements-sub-left t c = search rules
 
-put-elements-cell-at-requires : (t : ℕ) → put-elements-lts.Need-cell-at-requires (put-elements-claims t) (put-elements-at t) put-elements.Post put-elements-Inv-loop put-elements-μ-loop
+put-elements-cell-at-requires : (t : ℕ) → put-elements-lts.Need-cell_at-requires (put-elements-claims t) (put-elements-at t) put-elements.Post put_elements-Inv-loop put_elements-μ-loop
 put-elements-cell-at-requires t c κs = search rules
 
-put-elements-put-nested-requires : (t : ℕ) → put-elements-lts.Need-put-nested-requires (put-elements-claims t) (put-elements-at t) put-elements.Post put-elements-Inv-loop put-elements-μ-loop
+put-elements-put-nested-requires : (t : ℕ) → put-elements-lts.Need-put_nested-requires (put-elements-claims t) (put-elements-at t) put-elements.Post put_elements-Inv-loop put_elements-μ-loop
 put-elements-put-nested-requires t c κs =
     (omega (arith, c.before.before.before.before.before.before.before.before.before.before.requires.0), tt)
 
-put-elements-put-separator-requires : (t : ℕ) → put-elements-lts.Need-put-separator-requires (put-elements-claims t) (put-elements-at t) put-elements.Post put-elements-Inv-loop put-elements-μ-loop
+put-elements-put-separator-requires : (t : ℕ) → put-elements-lts.Need-put_separator-requires (put-elements-claims t) (put-elements-at t) put-elements.Post put_elements-Inv-loop put_elements-μ-loop
 put-elements-put-separator-requires t c κs = search rules
 
-put-elements-add-place : (t : ℕ) → put-elements-lts.Need-overflow-add-place (put-elements-claims t) (put-elements-at t) put-elements.Post put-elements-Inv-loop put-elements-μ-loop
+put-elements-add-place : (t : ℕ) → put-elements-lts.Need-overflow_add-place (put-elements-claims t) (put-elements-at t) put-elements.Post put_elements-Inv-loop put_elements-μ-loop
 put-elements-add-place t c = search rules
 
-put-elements-loop-less : (t : ℕ) → put-elements-lts.Need-loop-smaller (put-elements-claims t) (put-elements-at t) put-elements.Post put-elements-Inv-loop put-elements-μ-loop
+put-elements-loop-less : (t : ℕ) → put-elements-lts.Need-loop-smaller (put-elements-claims t) (put-elements-at t) put-elements.Post put_elements-Inv-loop put_elements-μ-loop
 put-elements-loop-less t c = search rules
 
-put-elements-loop-again : (t : ℕ) → put-elements-lts.Need-loop-preserved (put-elements-claims t) (put-elements-at t) put-elements.Post put-elements-Inv-loop put-elements-μ-loop
+put-elements-loop-again : (t : ℕ) → put-elements-lts.Need-loop-preserved (put-elements-claims t) (put-elements-at t) put-elements.Post put_elements-Inv-loop put_elements-μ-loop
 unfolding cell_at
 put-elements-loop-again t c =
     let s = c.before.before.before.before.before.before.before.before.before.before.before.before.before.before.before.before.before in
     let l = c.before.before.before.before.before.before.before.before.before.before in
-    let r = (rooms s.args.literal.now s.args.binding-cells.now s.args.binding-text.now s.args.cells.now s.args.text.now) in
-    (search rules, omega arith, elements-on (λ (v : Value). shown_to s.args.levels r v) r s.args.space c.before.before.before.before.before.before.before.before.Cell-at.result l.loop.place l.loop.left (l.loop.next, l.loop.out) _ _ c.before.before.before.before.before.before.before.before.before.loop-test.true c.before.before.before.before.before.before.before.before.Cell-at.ensures c.before.before.before.before.before.before.put-nested.ensures c.before.before.put-separator.ensures ∙ l.loop.invariant.2)
+    let r = (rooms s.args.literal.now s.args.binding_cells.now s.args.binding_text.now s.args.cells.now s.args.text.now) in
+    (search rules, omega arith, elements-on (λ (v : Value). shown_to s.args.levels r v) r s.args.space c.before.before.before.before.before.before.before.before.Cell-at.result l.loop.place l.loop.left (l.loop.next, l.loop.out) _ _ c.before.before.before.before.before.before.before.before.before.loop-test.true c.before.before.before.before.before.before.before.before.Cell-at.ensures c.before.before.before.before.before.before.put_nested.ensures c.before.before.put_separator.ensures ∙ l.loop.invariant.2)
 
-put-elements-same-length : (t : ℕ) → put-elements-lts.Need-same-length (put-elements-claims t) (put-elements-at t) put-elements.Post put-elements-Inv-loop put-elements-μ-loop
+put-elements-same-length : (t : ℕ) → put-elements-lts.Need-same_length (put-elements-claims t) (put-elements-at t) put-elements.Post put_elements-Inv-loop put_elements-μ-loop
 put-elements-same-length t c = search rules
 
-put-elements-returns : (t : ℕ) → put-elements-lts.Need-returns (put-elements-claims t) (put-elements-at t) put-elements.Post put-elements-Inv-loop put-elements-μ-loop
+put-elements-returns : (t : ℕ) → put-elements-lts.Need-returns (put-elements-claims t) (put-elements-at t) put-elements.Post put_elements-Inv-loop put_elements-μ-loop
 put-elements-returns t c =
     let s = c.before.before.before.before.before.before.before.before in
     let l = c.before in
-    let r = (rooms s.args.literal.now s.args.binding-cells.now s.args.binding-text.now s.args.cells.now s.args.text.now) in
+    let r = (rooms s.args.literal.now s.args.binding_cells.now s.args.binding_text.now s.args.cells.now s.args.text.now) in
     elements-over (λ (v : Value). shown_to s.args.levels r v) r s.args.space l.loop.place l.loop.left (l.loop.next, l.loop.out) c.loop-test.false ∙ l.loop.invariant.2
 
-abbrev put-entries-Inv-loop : put-entries-lts.invariant-loop
-put-entries-Inv-loop literal binding-cells binding-text cells text levels space first length out₀ at next₀ place₀ left₀ t17 out next place left =
+abbrev put_entries-Inv-loop : put-entries-lts.invariant-loop
+put_entries-Inv-loop literal binding-cells binding-text cells text levels space first length out₀ at next₀ place₀ left₀ t17 out next place left =
     (Lists.length out ≡ Lists.length out₀) × (place + (left + left) ≤ 200000) × (◌≡◌ {A = Page} (puts (entries_shown (λ v. shown_to levels (rooms literal binding-cells binding-text cells text) v) (rooms literal binding-cells binding-text cells text) space place left) (next, out)) (puts (entries_shown (λ v. shown_to levels (rooms literal binding-cells binding-text cells text) v) (rooms literal binding-cells binding-text cells text) space first length) (at, out₀)))
 
-abbrev put-entries-μ-loop : put-entries-lts.decreases-loop
-put-entries-μ-loop literal binding-cells binding-text cells text levels space first length out₀ at next₀ place₀ left₀ t17 out next place left = left
+abbrev put_entries-μ-loop : put-entries-lts.decreases-loop
+put_entries-μ-loop literal binding-cells binding-text cells text levels space first length out₀ at next₀ place₀ left₀ t17 out next place left = left
 
-put-entries-loop-holds : (t : ℕ) → put-entries-lts.Need-loop-init (put-entries-claims t) (put-entries-at t) put_entries.Post put-entries-Inv-loop put-entries-μ-loop
+put-entries-loop-holds : (t : ℕ) → put-entries-lts.Need-loop-init (put-entries-claims t) (put-entries-at t) put_entries.Post put_entries-Inv-loop put_entries-μ-loop
 put-entries-loop-holds t c =
     (refl, omega (arith, c.before.before.before.before.before.before.ranges.first.fits, c.before.before.before.before.before.before.ranges.length.fits), refl)
 
-put-entries-sub-left : (t : ℕ) → put-entries-lts.Need-overflow-sub-left (put-entries-claims t) (put-entries-at t) put_entries.Post put-entries-Inv-loop put-entries-μ-loop
+put-entries-sub-left : (t : ℕ) → put-entries-lts.Need-overflow_sub-left (put-entries-claims t) (put-entries-at t) put_entries.Post put_entries-Inv-loop put_entries-μ-loop
 put-entries-sub-left t c = search rules
 
-put-entries-cell-at-requires : (t : ℕ) → put-entries-lts.Need-cell-at-requires (put-entries-claims t) (put-entries-at t) put_entries.Post put-entries-Inv-loop put-entries-μ-loop
+put-entries-cell-at-requires : (t : ℕ) → put-entries-lts.Need-cell_at-requires (put-entries-claims t) (put-entries-at t) put_entries.Post put_entries-Inv-loop put_entries-μ-loop
 put-entries-cell-at-requires t c κs = search rules
 
-put-entries-put-nested-requires : (t : ℕ) → put-entries-lts.Need-put-nested-requires (put-entries-claims t) (put-entries-at t) put_entries.Post put-entries-Inv-loop put-entries-μ-loop
+put-entries-put-nested-requires : (t : ℕ) → put-entries-lts.Need-put_nested-requires (put-entries-claims t) (put-entries-at t) put_entries.Post put_entries-Inv-loop put_entries-μ-loop
 put-entries-put-nested-requires t c κs =
     (omega (arith, c.before.before.before.before.before.before.before.before.before.before.requires.0), tt)
 
-put-entries-slice-aggregate-put-word : (t : ℕ) → put-entries-lts.Need-slice-aggregate-put-word (put-entries-claims t) (put-entries-at t) put_entries.Post put-entries-Inv-loop put-entries-μ-loop
+put-entries-slice-aggregate-put-word : (t : ℕ) → put-entries-lts.Need-slice-aggregate-put_word (put-entries-claims t) (put-entries-at t) put_entries.Post put_entries-Inv-loop put_entries-μ-loop
 put-entries-slice-aggregate-put-word t c = search rules
 
-put-entries-put-word-requires : (t : ℕ) → put-entries-lts.Need-put-word-requires (put-entries-claims t) (put-entries-at t) put_entries.Post put-entries-Inv-loop put-entries-μ-loop
+put-entries-put-word-requires : (t : ℕ) → put-entries-lts.Need-put_word-requires (put-entries-claims t) (put-entries-at t) put_entries.Post put_entries-Inv-loop put_entries-μ-loop
 put-entries-put-word-requires t c κs = search rules
 
-put-entries-add-cell-at : (t : ℕ) → put-entries-lts.Need-overflow-add-cell-at (put-entries-claims t) (put-entries-at t) put_entries.Post put-entries-Inv-loop put-entries-μ-loop
+put-entries-add-cell-at : (t : ℕ) → put-entries-lts.Need-overflow_add-cell_at (put-entries-claims t) (put-entries-at t) put_entries.Post put_entries-Inv-loop put_entries-μ-loop
 put-entries-add-cell-at t c = search rules
 
-put-entries-cell-at-requires-2 : (t : ℕ) → put-entries-lts.Need-cell-at-requires-2 (put-entries-claims t) (put-entries-at t) put_entries.Post put-entries-Inv-loop put-entries-μ-loop
+put-entries-cell-at-requires-2 : (t : ℕ) → put-entries-lts.Need-cell_at-requires-2 (put-entries-claims t) (put-entries-at t) put_entries.Post put_entries-Inv-loop put_entries-μ-loop
 put-entries-cell-at-requires-2 t c κs = search rules
 
-put-entries-put-nested-requires-2 : (t : ℕ) → put-entries-lts.Need-put-nested-requires-2 (put-entries-claims t) (put-entries-at t) put_entries.Post put-entries-Inv-loop put-entries-μ-loop
+put-entries-put-nested-requires-2 : (t : ℕ) → put-entries-lts.Need-put_nested-requires-2 (put-entries-claims t) (put-entries-at t) put_entries.Post put_entries-Inv-loop put_entries-μ-loop
 put-entries-put-nested-requires-2 t c κs =
     (omega (arith, c.before.before.before.before.before.before.before.before.before.before.before.before.before.before.before.before.before.before.before.before.requires.0), tt)
 
-put-entries-put-separator-requires : (t : ℕ) → put-entries-lts.Need-put-separator-requires (put-entries-claims t) (put-entries-at t) put_entries.Post put-entries-Inv-loop put-entries-μ-loop
+put-entries-put-separator-requires : (t : ℕ) → put-entries-lts.Need-put_separator-requires (put-entries-claims t) (put-entries-at t) put_entries.Post put_entries-Inv-loop put_entries-μ-loop
 put-entries-put-separator-requires t c κs = search rules
 
-put-entries-add-place : (t : ℕ) → put-entries-lts.Need-overflow-add-place (put-entries-claims t) (put-entries-at t) put_entries.Post put-entries-Inv-loop put-entries-μ-loop
+put-entries-add-place : (t : ℕ) → put-entries-lts.Need-overflow_add-place (put-entries-claims t) (put-entries-at t) put_entries.Post put_entries-Inv-loop put_entries-μ-loop
 put-entries-add-place t c = search rules
 
-put-entries-loop-less : (t : ℕ) → put-entries-lts.Need-loop-smaller (put-entries-claims t) (put-entries-at t) put_entries.Post put-entries-Inv-loop put-entries-μ-loop
+put-entries-loop-less : (t : ℕ) → put-entries-lts.Need-loop-smaller (put-entries-claims t) (put-entries-at t) put_entries.Post put_entries-Inv-loop put_entries-μ-loop
 put-entries-loop-less t c = search rules
 
-put-entries-loop-again : (t : ℕ) → put-entries-lts.Need-loop-preserved (put-entries-claims t) (put-entries-at t) put_entries.Post put-entries-Inv-loop put-entries-μ-loop
+put-entries-loop-again : (t : ℕ) → put-entries-lts.Need-loop-preserved (put-entries-claims t) (put-entries-at t) put_entries.Post put_entries-Inv-loop put_entries-μ-loop
 unfolding cell_at
 put-entries-loop-again t c =
     let s = c.before.before.before.before.before.before.before.before.before.before.before.before.before.before.before.before.before.before.before.before.before.before.before.before.before.before.before in
     let l = c.before.before.before.before.before.before.before.before.before.before.before.before.before.before.before.before.before.before.before.before in
-    let r = (rooms s.args.literal.now s.args.binding-cells.now s.args.binding-text.now s.args.cells.now s.args.text.now) in (
-      kept-length _ _ _ c.before.before.put-separator.ensures ∙ kept-length _ _ _ c.before.before.before.before.before.before.put-nested2.ensures ∙ kept-length _ _ _ c.before.before.before.before.before.before.before.before.before.before.before.put_word.ensures ∙ kept-length _ _ _ c.before.before.before.before.before.before.before.before.before.before.before.before.before.before.before.before.put-nested.ensures ∙ l.loop.invariant.0,
+    let r = (rooms s.args.literal.now s.args.binding_cells.now s.args.binding_text.now s.args.cells.now s.args.text.now) in (
+      kept-length _ _ _ c.before.before.put_separator.ensures ∙ kept-length _ _ _ c.before.before.before.before.before.before.put_nested2.ensures ∙ kept-length _ _ _ c.before.before.before.before.before.before.before.before.before.before.before.put_word.ensures ∙ kept-length _ _ _ c.before.before.before.before.before.before.before.before.before.before.before.before.before.before.before.before.put_nested.ensures ∙ l.loop.invariant.0,
       omega (arith, l.loop.invariant.1, c.before.before.before.before.before.before.before.before.before.before.before.before.before.before.before.before.before.before.before.loop-test.true),
-      entries-on (λ (v : Value). shown_to s.args.levels r v) r s.args.space c.before.before.before.before.before.before.before.before.before.before.before.before.before.before.before.before.before.before.Cell-at.result c.before.before.before.before.before.before.before.before.cell-at2.result l.loop.place l.loop.left (l.loop.next, l.loop.out) _ _ _ _ c.before.before.before.before.before.before.before.before.before.before.before.before.before.before.before.before.before.before.before.loop-test.true c.before.before.before.before.before.before.before.before.before.before.before.before.before.before.before.before.before.before.Cell-at.ensures c.before.before.before.before.before.before.before.before.before.before.before.before.before.before.before.before.put-nested.ensures c.before.before.before.before.before.before.before.before.before.before.before.put_word.ensures c.before.before.before.before.before.before.before.before.cell-at2.ensures c.before.before.before.before.before.before.put-nested2.ensures c.before.before.put-separator.ensures ∙ l.loop.invariant.2,
+      entries-on (λ (v : Value). shown_to s.args.levels r v) r s.args.space c.before.before.before.before.before.before.before.before.before.before.before.before.before.before.before.before.before.before.Cell-at.result c.before.before.before.before.before.before.before.before.cell_at2.result l.loop.place l.loop.left (l.loop.next, l.loop.out) _ _ _ _ c.before.before.before.before.before.before.before.before.before.before.before.before.before.before.before.before.before.before.before.loop-test.true c.before.before.before.before.before.before.before.before.before.before.before.before.before.before.before.before.before.before.Cell-at.ensures c.before.before.before.before.before.before.before.before.before.before.before.before.before.before.before.before.put_nested.ensures c.before.before.before.before.before.before.before.before.before.before.before.put_word.ensures c.before.before.before.before.before.before.before.before.cell_at2.ensures c.before.before.before.before.before.before.put_nested2.ensures c.before.before.put_separator.ensures ∙ l.loop.invariant.2,
     )
 
-put-entries-same-length : (t : ℕ) → put-entries-lts.Need-same-length (put-entries-claims t) (put-entries-at t) put_entries.Post put-entries-Inv-loop put-entries-μ-loop
+put-entries-same-length : (t : ℕ) → put-entries-lts.Need-same_length (put-entries-claims t) (put-entries-at t) put_entries.Post put_entries-Inv-loop put_entries-μ-loop
 put-entries-same-length t c = search rules
 
-put-entries-returns : (t : ℕ) → put-entries-lts.Need-returns (put-entries-claims t) (put-entries-at t) put_entries.Post put-entries-Inv-loop put-entries-μ-loop
+put-entries-returns : (t : ℕ) → put-entries-lts.Need-returns (put-entries-claims t) (put-entries-at t) put_entries.Post put_entries-Inv-loop put_entries-μ-loop
 put-entries-returns t c =
     let s = c.before.before.before.before.before.before.before.before in
     let l = c.before in
-    let r = (rooms s.args.literal.now s.args.binding-cells.now s.args.binding-text.now s.args.cells.now s.args.text.now) in
+    let r = (rooms s.args.literal.now s.args.binding_cells.now s.args.binding_text.now s.args.cells.now s.args.text.now) in
     entries_over (λ (v : Value). shown_to s.args.levels r v) r s.args.space l.loop.place l.loop.left (l.loop.next, l.loop.out) c.loop-test.false ∙ l.loop.invariant.2
 
 put-nested-returns : (t : ℕ) → put-nested-lts.Need-returns (put-nested-claims t) (put-nested-at t) put-nested.Post
@@ -198,91 +198,91 @@ put-nested-returns t c = search (rules, nested-none)
 put-nested-returns-2 : (t : ℕ) → put-nested-lts.Need-returns-2 (put-nested-claims t) (put-nested-at t) put-nested.Post
 put-nested-returns-2 t c = search (rules, puts-full)
 
-put-nested-sub-within : (t : ℕ) → put-nested-lts.Need-overflow-sub-within (put-nested-claims t) (put-nested-at t) put-nested.Post
+put-nested-sub-within : (t : ℕ) → put-nested-lts.Need-overflow_sub-within (put-nested-claims t) (put-nested-at t) put-nested.Post
 put-nested-sub-within t c = search rules
 
-put-nested-parts-of-requires : (t : ℕ) → put-nested-lts.Need-parts-of-requires (put-nested-claims t) (put-nested-at t) put-nested.Post
+put-nested-parts-of-requires : (t : ℕ) → put-nested-lts.Need-parts_of-requires (put-nested-claims t) (put-nested-at t) put-nested.Post
 put-nested-parts-of-requires t c κs = search rules
 
-put-nested-enum-known-space : (t : ℕ) → put-nested-lts.Need-enum-known-space (put-nested-claims t) (put-nested-at t) put-nested.Post
+put-nested-enum-known-space : (t : ℕ) → put-nested-lts.Need-enum_known-space (put-nested-claims t) (put-nested-at t) put-nested.Post
 put-nested-enum-known-space t c = search rules
 
-put-nested-slice-aggregate-put-word : (t : ℕ) → put-nested-lts.Need-slice-aggregate-put-word (put-nested-claims t) (put-nested-at t) put-nested.Post
+put-nested-slice-aggregate-put-word : (t : ℕ) → put-nested-lts.Need-slice-aggregate-put_word (put-nested-claims t) (put-nested-at t) put-nested.Post
 put-nested-slice-aggregate-put-word t c = search rules
 
-put-nested-put-word-requires : (t : ℕ) → put-nested-lts.Need-put-word-requires (put-nested-claims t) (put-nested-at t) put-nested.Post
+put-nested-put-word-requires : (t : ℕ) → put-nested-lts.Need-put_word-requires (put-nested-claims t) (put-nested-at t) put-nested.Post
 put-nested-put-word-requires t c κs = search rules
 
-put-nested-put-elements-requires : (t : ℕ) → put-nested-lts.Need-put-elements-requires (put-nested-claims t) (put-nested-at t) put-nested.Post
+put-nested-put-elements-requires : (t : ℕ) → put-nested-lts.Need-put_elements-requires (put-nested-claims t) (put-nested-at t) put-nested.Post
 put-nested-put-elements-requires t c κs =
     (omega (arith, c.before.before.before.before.before.before.before.before.before.before.before.before.before.before.before.before.before.before.requires.0, c.before.before.before.before.before.before.before.before.before.before.before.if1.false), tt)
 
-put-nested-slice-aggregate-put-word-2 : (t : ℕ) → put-nested-lts.Need-slice-aggregate-put-word-2 (put-nested-claims t) (put-nested-at t) put-nested.Post
+put-nested-slice-aggregate-put-word-2 : (t : ℕ) → put-nested-lts.Need-slice-aggregate-put_word-2 (put-nested-claims t) (put-nested-at t) put-nested.Post
 put-nested-slice-aggregate-put-word-2 t c = search rules
 
-put-nested-put-word-requires-2 : (t : ℕ) → put-nested-lts.Need-put-word-requires-2 (put-nested-claims t) (put-nested-at t) put-nested.Post
+put-nested-put-word-requires-2 : (t : ℕ) → put-nested-lts.Need-put_word-requires-2 (put-nested-claims t) (put-nested-at t) put-nested.Post
 put-nested-put-word-requires-2 t c κs = search rules
 
-put-nested-enum-known-space-2 : (t : ℕ) → put-nested-lts.Need-enum-known-space-2 (put-nested-claims t) (put-nested-at t) put-nested.Post
+put-nested-enum-known-space-2 : (t : ℕ) → put-nested-lts.Need-enum_known-space-2 (put-nested-claims t) (put-nested-at t) put-nested.Post
 put-nested-enum-known-space-2 t c = search rules
 
-put-nested-slice-aggregate-put-word-3 : (t : ℕ) → put-nested-lts.Need-slice-aggregate-put-word-3 (put-nested-claims t) (put-nested-at t) put-nested.Post
+put-nested-slice-aggregate-put-word-3 : (t : ℕ) → put-nested-lts.Need-slice-aggregate-put_word-3 (put-nested-claims t) (put-nested-at t) put-nested.Post
 put-nested-slice-aggregate-put-word-3 t c = search rules
 
-put-nested-put-word-requires-3 : (t : ℕ) → put-nested-lts.Need-put-word-requires-3 (put-nested-claims t) (put-nested-at t) put-nested.Post
+put-nested-put-word-requires-3 : (t : ℕ) → put-nested-lts.Need-put_word-requires-3 (put-nested-claims t) (put-nested-at t) put-nested.Post
 put-nested-put-word-requires-3 t c κs = search rules
 
-put-nested-put-entries-requires : (t : ℕ) → put-nested-lts.Need-put-entries-requires (put-nested-claims t) (put-nested-at t) put-nested.Post
+put-nested-put-entries-requires : (t : ℕ) → put-nested-lts.Need-put_entries-requires (put-nested-claims t) (put-nested-at t) put-nested.Post
 put-nested-put-entries-requires t c κs =
     (omega (arith, c.before.before.before.before.before.before.before.before.before.before.before.before.before.before.before.before.before.before.requires.0, c.before.before.before.before.before.before.before.before.before.before.before.if1.false), tt)
 
-put-nested-slice-aggregate-put-word-4 : (t : ℕ) → put-nested-lts.Need-slice-aggregate-put-word-4 (put-nested-claims t) (put-nested-at t) put-nested.Post
+put-nested-slice-aggregate-put-word-4 : (t : ℕ) → put-nested-lts.Need-slice-aggregate-put_word-4 (put-nested-claims t) (put-nested-at t) put-nested.Post
 put-nested-slice-aggregate-put-word-4 t c = search rules
 
-put-nested-put-word-requires-4 : (t : ℕ) → put-nested-lts.Need-put-word-requires-4 (put-nested-claims t) (put-nested-at t) put-nested.Post
+put-nested-put-word-requires-4 : (t : ℕ) → put-nested-lts.Need-put_word-requires-4 (put-nested-claims t) (put-nested-at t) put-nested.Post
 put-nested-put-word-requires-4 t c κs = search rules
 
-put-nested-enum-known-space-3 : (t : ℕ) → put-nested-lts.Need-enum-known-space-3 (put-nested-claims t) (put-nested-at t) put-nested.Post
+put-nested-enum-known-space-3 : (t : ℕ) → put-nested-lts.Need-enum_known-space-3 (put-nested-claims t) (put-nested-at t) put-nested.Post
 put-nested-enum-known-space-3 t c = search rules
 
-put-nested-slice-aggregate-put-word-5 : (t : ℕ) → put-nested-lts.Need-slice-aggregate-put-word-5 (put-nested-claims t) (put-nested-at t) put-nested.Post
+put-nested-slice-aggregate-put-word-5 : (t : ℕ) → put-nested-lts.Need-slice-aggregate-put_word-5 (put-nested-claims t) (put-nested-at t) put-nested.Post
 put-nested-slice-aggregate-put-word-5 t c = search rules
 
-put-nested-put-word-requires-5 : (t : ℕ) → put-nested-lts.Need-put-word-requires-5 (put-nested-claims t) (put-nested-at t) put-nested.Post
+put-nested-put-word-requires-5 : (t : ℕ) → put-nested-lts.Need-put_word-requires-5 (put-nested-claims t) (put-nested-at t) put-nested.Post
 put-nested-put-word-requires-5 t c κs = search rules
 
-put-nested-cast-cell-at : (t : ℕ) → put-nested-lts.Need-overflow-cast-cell-at (put-nested-claims t) (put-nested-at t) put-nested.Post
+put-nested-cast-cell-at : (t : ℕ) → put-nested-lts.Need-overflow_cast-cell_at (put-nested-claims t) (put-nested-at t) put-nested.Post
 put-nested-cast-cell-at t c = search rules
 
-put-nested-cell-at-requires : (t : ℕ) → put-nested-lts.Need-cell-at-requires (put-nested-claims t) (put-nested-at t) put-nested.Post
+put-nested-cell-at-requires : (t : ℕ) → put-nested-lts.Need-cell_at-requires (put-nested-claims t) (put-nested-at t) put-nested.Post
 put-nested-cell-at-requires t c κs = search rules
 
-put-nested-put-nested-requires : (t : ℕ) → put-nested-lts.Need-put-nested-requires (put-nested-claims t) (put-nested-at t) put-nested.Post
+put-nested-put-nested-requires : (t : ℕ) → put-nested-lts.Need-put_nested-requires (put-nested-claims t) (put-nested-at t) put-nested.Post
 put-nested-put-nested-requires t c κs =
     (omega (arith, c.before.before.before.before.before.before.before.before.before.before.before.before.before.before.before.before.before.before.before.requires.0, c.before.before.before.before.before.before.before.before.before.before.before.before.if1.false), tt)
 
-put-nested-enum-told : (t : ℕ) → put-nested-lts.Need-enum-told (put-nested-claims t) (put-nested-at t) put-nested.Post
+put-nested-enum-told : (t : ℕ) → put-nested-lts.Need-enum_told (put-nested-claims t) (put-nested-at t) put-nested.Post
 put-nested-enum-told t c = search rules
 
-put-nested-plain-of-requires : (t : ℕ) → put-nested-lts.Need-plain-of-requires (put-nested-claims t) (put-nested-at t) put-nested.Post
+put-nested-plain-of-requires : (t : ℕ) → put-nested-lts.Need-plain_of-requires (put-nested-claims t) (put-nested-at t) put-nested.Post
 put-nested-plain-of-requires t c κs = search rules
 
-put-nested-put-plain-requires : (t : ℕ) → put-nested-lts.Need-put-plain-requires (put-nested-claims t) (put-nested-at t) put-nested.Post
+put-nested-put-plain-requires : (t : ℕ) → put-nested-lts.Need-put_plain-requires (put-nested-claims t) (put-nested-at t) put-nested.Post
 put-nested-put-plain-requires t c κs = search rules
 
-put-nested-same-length : (t : ℕ) → put-nested-lts.Need-same-length (put-nested-claims t) (put-nested-at t) put-nested.Post
+put-nested-same-length : (t : ℕ) → put-nested-lts.Need-same_length (put-nested-claims t) (put-nested-at t) put-nested.Post
 put-nested-same-length t c = search rules
 
 put-nested-returns-3 : (t : ℕ) → put-nested-lts.Need-returns-3 (put-nested-claims t) (put-nested-at t) put-nested.Post
 put-nested-returns-3 t c = search (rules, nested-list)
 
-put-nested-same-length-2 : (t : ℕ) → put-nested-lts.Need-same-length-2 (put-nested-claims t) (put-nested-at t) put-nested.Post
+put-nested-same-length-2 : (t : ℕ) → put-nested-lts.Need-same_length-2 (put-nested-claims t) (put-nested-at t) put-nested.Post
 put-nested-same-length-2 t c = search rules
 
 put-nested-returns-4 : (t : ℕ) → put-nested-lts.Need-returns-4 (put-nested-claims t) (put-nested-at t) put-nested.Post
 put-nested-returns-4 t c = search (rules, nested-map)
 
-put-nested-same-length-3 : (t : ℕ) → put-nested-lts.Need-same-length-3 (put-nested-claims t) (put-nested-at t) put-nested.Post
+put-nested-same-length-3 : (t : ℕ) → put-nested-lts.Need-same_length-3 (put-nested-claims t) (put-nested-at t) put-nested.Post
 put-nested-same-length-3 t c = search rules
 
 put-nested-returns-5 : (t : ℕ) → put-nested-lts.Need-returns-5 (put-nested-claims t) (put-nested-at t) put-nested.Post
@@ -290,19 +290,19 @@ unfolding cell_at
 put-nested-returns-5 t c =
     search (rules, nested-present)
 
-put-nested-same-length-4 : (t : ℕ) → put-nested-lts.Need-same-length-4 (put-nested-claims t) (put-nested-at t) put-nested.Post
+put-nested-same-length-4 : (t : ℕ) → put-nested-lts.Need-same_length-4 (put-nested-claims t) (put-nested-at t) put-nested.Post
 put-nested-same-length-4 t c = search rules
 
 put-nested-returns-6 : (t : ℕ) → put-nested-lts.Need-returns-6 (put-nested-claims t) (put-nested-at t) put-nested.Post
 put-nested-returns-6 t c = search (rules, nested-plain)
 
-pub +put-elements-put-entries-put-nested-spec : {M : Type 1} → statement M
-+put-elements-put-entries-put-nested-spec =
+pub +put_elements_put_entries_put_nested_spec : {M : Type 1} → statement M
++put_elements_put_entries_put_nested_spec =
     close μ-put-elements μ-put-entries μ-put-nested (λ t. put-elements-lts.spec (put-elements-claims t)
     (put-elements-at t)
     put-elements.Post
-    put-elements-Inv-loop
-    put-elements-μ-loop
+    put_elements-Inv-loop
+    put_elements-μ-loop
     (put-elements-loop-holds t)
     (put-elements-sub-left t)
     (put-elements-cell-at-requires t)
@@ -316,8 +316,8 @@ pub +put-elements-put-entries-put-nested-spec : {M : Type 1} → statement M
     (λ t. put-entries-lts.spec (put-entries-claims t)
     (put-entries-at t)
     put_entries.Post
-    put-entries-Inv-loop
-    put-entries-μ-loop
+    put_entries-Inv-loop
+    put_entries-μ-loop
     (put-entries-loop-holds t)
     (put-entries-sub-left t)
     (put-entries-cell-at-requires t)

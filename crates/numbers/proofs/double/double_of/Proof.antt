@@ -9,7 +9,7 @@ returns : tie.Need-returns
 returns c = sym (double-of-nan _ c.if1.true)
 
 returns-2 : tie.Need-returns-2
-returns-2 c = sym (double-of-plain _ (passes _ c.before.well-formed.0.1) c.if1.false)
+returns-2 c = sym (double-of-plain _ (passes _ c.before.well_formed.0.1) c.if1.false)
 
-pub double-of-spec : {M : Type 1} → statement M
-double-of-spec = tie.close (tie.spec returns returns-2)
+pub double_of_spec : {M : Type 1} → statement M
+double_of_spec = tie.close (tie.spec returns returns-2)

@@ -7,18 +7,18 @@ use Rattle.numbers.specs.Double.{double_of, mul_bits, mul_of}
 use Rattle.numbers.proofs.double.mul.Statement.{statement}
 use Rattle.numbers.proofs.double.mul.Tie as tie
 
-float-of-requires : tie.Need-float-of-requires
-float-of-requires c κs = search rules
+float_of-requires : tie.Need-float_of-requires
+float_of-requires c κs = search rules
 
-float-of-requires-2 : tie.Need-float-of-requires-2
-float-of-requires-2 c κs = search rules
+float_of-requires-2 : tie.Need-float_of-requires-2
+float_of-requires-2 c κs = search rules
 
-double-of-requires : tie.Need-double-of-requires
-double-of-requires c κs = search rules
+double_of-requires : tie.Need-double_of-requires
+double_of-requires c κs = search rules
 
 returns : tie.Need-returns
 unfolding mul_of mul_bits
-returns c = c.double-of.ensures ∙ (λ i. double_of (to_bits binary64 (Ieee.mul binary64 (c.before.before.float_of.ensures i) (c.before.float-of2.ensures i))))
+returns c = c.double_of.ensures ∙ (λ i. double_of (to_bits binary64 (Ieee.mul binary64 (c.before.before.float_of.ensures i) (c.before.float_of2.ensures i))))
 
-pub mul-spec : {M : Type 1} → statement M
-mul-spec = tie.close (tie.spec float-of-requires float-of-requires-2 double-of-requires returns)
+pub mul_spec : {M : Type 1} → statement M
+mul_spec = tie.close (tie.spec float_of-requires float_of-requires-2 double_of-requires returns)

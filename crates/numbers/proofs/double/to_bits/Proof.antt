@@ -7,14 +7,14 @@ use Rattle.numbers.proofs.DoubleLaws.{differs, same-no-nan, nan-bits}
 use Rattle.numbers.proofs.double.to_bits.Statement.{statement}
 use Rattle.numbers.proofs.double.to_bits.Tie as tie
 
-enum-known-x : tie.Need-enum-known-x
-enum-known-x c = search rules
+enum_known-x : tie.Need-enum_known-x
+enum_known-x c = search rules
 
-float-to-bits-result : tie.Need-float-to-bits-result
-float-to-bits-result c = same-no-nan _ c.if1.false
+float_to_bits-result : tie.Need-float_to_bits-result
+float_to_bits-result c = same-no-nan _ c.if1.false
 
-enum-known-x-2 : tie.Need-enum-known-x-2
-enum-known-x-2 c = search rules
+enum_known-x-2 : tie.Need-enum_known-x-2
+enum_known-x-2 c = search rules
 
 returns : tie.Need-returns
 returns c = sym (ap bits_of c.before.before.x.given.1 ∙ ap (to_bits binary64) (differs _ c.if1.true) ∙ nan-bits)
@@ -25,5 +25,5 @@ returns-2 c = sym (ap bits_of c.before.before.x.given.1)
 returns-3 : tie.Need-returns-3
 returns-3 c = search rules
 
-pub to-bits-spec : {M : Type 1} → statement M
-to-bits-spec = tie.close (tie.spec enum-known-x float-to-bits-result enum-known-x-2 returns returns-2 returns-3)
+pub to_bits_spec : {M : Type 1} → statement M
+to_bits_spec = tie.close (tie.spec enum_known-x float_to_bits-result enum_known-x-2 returns returns-2 returns-3)

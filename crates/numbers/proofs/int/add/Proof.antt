@@ -50,16 +50,16 @@ overflow-requires c κs = search rules
 overflow-requires-2 : tie.Need-overflow-requires-2
 overflow-requires-2 c κs = search rules
 
-sub-if2 : tie.Need-overflow-sub-if2
+sub-if2 : tie.Need-overflow_sub-if2
 sub-if2 c = rw (to_z-of_z w64 c.before.args.b c.before.ranges.b) (limit1 c)
 
-add-t8 : tie.Need-overflow-add-t8
+add-t8 : tie.Need-overflow_add-t8
 add-t8 c = let s = c.before.before in rw (to_z-of_z w64 s.args.a s.ranges.a, to_z-of_z w64 s.args.b s.ranges.b) (fits1 c)
 
-sub-if3 : tie.Need-overflow-sub-if3
+sub-if3 : tie.Need-overflow_sub-if3
 sub-if3 c = rw (to_z-of_z w64 c.before.args.b c.before.ranges.b) (limit2 c)
 
-add-t12 : tie.Need-overflow-add-t12
+add-t12 : tie.Need-overflow_add-t12
 add-t12 c = let s = c.before.before in rw (to_z-of_z w64 s.args.a s.ranges.a, to_z-of_z w64 s.args.b s.ranges.b) (fits2 c)
 
 returns : tie.Need-returns

@@ -19,7 +19,7 @@ neg-requires c κs = search rules
 quot : (c : tie.Else2) → SFits w64 (quot_z c.before.before.args.a c.before.before.args.b)
 quot c = let s = c.before.before in sfits_of (quot-in s.args.a s.args.b s.ranges.a.sfits c.if2.false)
 
-div-t8 : tie.Need-nonzero-div-t8
+div-t8 : tie.Need-nonzero_div-t8
 div-t8 c = let s = c.before.before in (omega (arith, c.before.if1.false), rw (to_z-of_z w64 s.args.a s.ranges.a, to_z-of_z w64 s.args.b s.ranges.b) (quot c))
 
 returns : tie.Need-returns
@@ -37,5 +37,5 @@ returns-3 c =
     rw (to_z-of_z w64 s.args.a s.ranges.a, to_z-of_z w64 s.args.b s.ranges.b, to_z-of_z w64 (quot_z s.args.a s.args.b) (quot c), div-answer s.args.a s.args.b (not-zero s.args.b c.before.if1.false))
     (sym (answer-in _ (quot c).sfits))
 
-pub div-spec : {M : Type 1} → statement M
-div-spec = tie.close (tie.spec neg-requires div-t8 returns returns-2 returns-3)
+pub div_spec : {M : Type 1} → statement M
+div_spec = tie.close (tie.spec neg-requires div-t8 returns returns-2 returns-3)

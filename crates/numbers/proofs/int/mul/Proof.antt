@@ -31,10 +31,10 @@ magnitude-requires-2 c κs = search rules
 mul-requires : tie.Need-mul-requires
 mul-requires c κs = search rules
 
-enum-known-size : tie.Need-enum-known-size
-enum-known-size c = search rules
+enum_known-size : tie.Need-enum_known-size
+enum_known-size c = search rules
 
-enum_told : tie.Need-enum-told
+enum_told : tie.Need-enum_told
 enum_told c = search rules
 
 overflow-requires : tie.Need-overflow-requires
@@ -62,7 +62,7 @@ positive-requires-2 : tie.Need-positive-requires-2
 positive-requires-2 c κs = search rules
 
 -- what the product is, where it is a value
-product : (c : tie.After-known-told) → c.before.size.given.0.0 ≡ nat_abs c.before.before.before.before.before.before.args.a * nat_abs c.before.before.before.before.before.before.args.b
+product : (c : tie.After-known_told) → c.before.size.given.0.0 ≡ nat_abs c.before.before.before.before.before.before.args.a * nat_abs c.before.before.before.before.before.before.args.b
 unfolding umul_of
 product c =
     let m = c.before.before.before in
@@ -102,14 +102,14 @@ returns-5 c =
     let b = rw (to_z-of_z w64 s.args.b s.ranges.b) at c.before.if3.false in
     c.positive2.ensures ∙ ap (λ (p : ℕ). answer (pos p)) (product c.before.before.before) ∙ ap answer (sym (mul-pp s.args.a s.args.b (above-a c.before.before) b))
 
-pub mul-spec : {M : Type 1} → statement M
-mul-spec =
+pub mul_spec : {M : Type 1} → statement M
+mul_spec =
     tie.close
     (tie.spec
     magnitude-requires
     magnitude-requires-2
     mul-requires
-    enum-known-size
+    enum_known-size
     enum_told
     overflow-requires
     returns

@@ -17,7 +17,7 @@ fits c = let s = c.before in sfits_of (neg-ok s.args.a s.ranges.a c.if1.false)
 overflow-requires : tie.Need-overflow-requires
 overflow-requires c κs = search rules
 
-sub-t4 : tie.Need-overflow-sub-t4
+sub-t4 : tie.Need-overflow_sub-t4
 sub-t4 c = let s = c.before in simp (to_z-of_z w64 s.args.a s.ranges.a, +ℤ_idl) (fits c)
 
 returns : tie.Need-returns
@@ -28,5 +28,5 @@ returns-2 : tie.Need-returns-2
 unfolding neg_of
 returns-2 c = let s = c.before in simp (to_z-of_z w64 s.args.a s.ranges.a, +ℤ_idl, to_z-of_z w64 (neg_ℤ s.args.a) (fits c)) (sym (answer-in _ (fits c).sfits))
 
-pub neg-spec : {M : Type 1} → statement M
-neg-spec = tie.close (tie.spec overflow-requires sub-t4 returns returns-2)
+pub neg_spec : {M : Type 1} → statement M
+neg_spec = tie.close (tie.spec overflow-requires sub-t4 returns returns-2)

@@ -15,19 +15,19 @@ use Rattle.numbers.proofs.int.negative.Tie as tie
 overflow-requires : tie.Need-overflow-requires
 overflow-requires c κs = search rules
 
-sub-t6 : tie.Need-overflow-sub-t6
+sub-t6 : tie.Need-overflow_sub-t6
 sub-t6 c = search rules
 
-cast-t7 : tie.Need-overflow-cast-t7
+cast-t7 : tie.Need-overflow_cast-t7
 cast-t7 c = search rules
 
 small : (c : tie.Then2) → c.before.before.args.size - 1 < 2 ^ 63
 small c = omega (arith, c.if2.true)
 
-sub-t8 : tie.Need-overflow-sub-t8
+sub-t8 : tie.Need-overflow_sub-t8
 sub-t8 c = rw (to_z_pos w64 (c.before.before.args.size - 1) (small c), +ℤ_idl (neg_ℤ (pos (c.before.before.args.size - 1)))) (neg-in _ (small c))
 
-sub-t9 : tie.Need-overflow-sub-t9
+sub-t9 : tie.Need-overflow_sub-t9
 sub-t9 c = rw (minus (c.before.before.args.size - 1) (small c), -ℤ_one (neg_ℤ (pos (c.before.before.args.size - 1))), pred-neg (c.before.before.args.size - 1)) (sfits_of (small c))
 
 returns : tie.Need-returns
@@ -49,5 +49,5 @@ returns-3 c =
     let p : 0 < m = omega (arith, e.if2.false) in
     c.overflow.ensures ∙ sym (answer-out (neg_ℤ (pos m)) (rw (neg-suc m p) (omega (arith, e.if2.false))))
 
-pub negative-spec : {M : Type 1} → statement M
-negative-spec = tie.close (tie.spec sub-t6 cast-t7 sub-t8 sub-t9 overflow-requires returns returns-2 returns-3)
+pub negative_spec : {M : Type 1} → statement M
+negative_spec = tie.close (tie.spec sub-t6 cast-t7 sub-t8 sub-t9 overflow-requires returns returns-2 returns-3)

@@ -20,7 +20,7 @@ overflow-requires c κs = search rules
 quot : (c : tie.Else2) → SFits w64 (quot_z c.before.before.args.a c.before.before.args.b)
 quot c = let s = c.before.before in sfits_of (quot-in s.args.a s.args.b s.ranges.a.sfits c.if2.false)
 
-rem-t10 : tie.Need-nonzero-rem-t10
+rem-t10 : tie.Need-nonzero_rem-t10
 rem-t10 c = let s = c.before.before in (omega (arith, c.before.if1.false), rw (to_z-of_z w64 s.args.a s.ranges.a, to_z-of_z w64 s.args.b s.ranges.b) (quot c))
 
 returns : tie.Need-returns
@@ -45,5 +45,5 @@ returns-4 c =
     rw (to_z-of_z w64 s.args.a s.ranges.a, to_z-of_z w64 s.args.b s.ranges.b, to_z-of_z w64 (rem_z s.args.a s.args.b) (sfits_of (rem-small s.args.a s.args.b s.ranges.a.sfits)))
     (sym (rem-in s.args.a s.args.b (not-zero s.args.b c.before.if1.false) (quot c).sfits))
 
-pub rem-spec : {M : Type 1} → statement M
-rem-spec = tie.close (tie.spec overflow-requires rem-t10 returns returns-2 returns-3 returns-4)
+pub rem_spec : {M : Type 1} → statement M
+rem_spec = tie.close (tie.spec overflow-requires rem-t10 returns returns-2 returns-3 returns-4)

@@ -33,10 +33,10 @@ fits c = let s = c.before.before in sfits_of (less-min-ok s.args.a s.ranges.a.sf
 negation : (c : tie.Else1) → SFits w64 (neg_ℤ c.before.args.b)
 negation c = sfits_of (neg-ok c.before.args.b c.before.ranges.b c.if1.false)
 
-sub-t7 : tie.Need-overflow-sub-t7
+sub-t7 : tie.Need-overflow_sub-t7
 sub-t7 c = let s = c.before.before in rw (to_z-of_z w64 s.args.a s.ranges.a, to_z-of_z w64 s.args.b s.ranges.b, minimum c.before) (fits c)
 
-sub-add : tie.Need-overflow-sub-add
+sub-add : tie.Need-overflow_sub-add
 sub-add c = rw (to_z-of_z w64 c.before.args.b c.before.ranges.b, +ℤ_idl (neg_ℤ c.before.args.b)) (negation c)
 
 returns : tie.Need-returns

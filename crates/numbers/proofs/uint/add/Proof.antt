@@ -10,10 +10,10 @@ use Rattle.numbers.proofs.uint.add.Tie as tie
 overflow-requires : tie.Need-overflow-requires
 overflow-requires c κs = search rules
 
-sub-if1 : tie.Need-overflow-sub-if1
+sub-if1 : tie.Need-overflow_sub-if1
 sub-if1 c = search rules
 
-add-t6 : tie.Need-overflow-add-t6
+add-t6 : tie.Need-overflow_add-t6
 add-t6 c = search rules
 
 returns : tie.Need-returns

@@ -6,7 +6,7 @@ use Rattle.numbers.proofs.UintLaws.{zero-divisor, some-divisor}
 use Rattle.numbers.proofs.uint.div.Statement.{statement}
 use Rattle.numbers.proofs.uint.div.Tie as tie
 
-div-t6 : tie.Need-nonzero-div-t6
+div-t6 : tie.Need-nonzero_div-t6
 div-t6 c = search rules
 
 returns : tie.Need-returns
@@ -17,5 +17,5 @@ returns-2 : tie.Need-returns-2
 unfolding div_of
 returns-2 c = sym (some-divisor _ _ _ c.if1.false)
 
-pub div-spec : {M : Type 1} → statement M
-div-spec = tie.close (tie.spec div-t6 returns returns-2)
+pub div_spec : {M : Type 1} → statement M
+div_spec = tie.close (tie.spec div-t6 returns returns-2)

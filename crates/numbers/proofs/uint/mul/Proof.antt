@@ -22,10 +22,10 @@ returns c = rw (c.if1.true, mul-zero) (sym (answer-in 0 (omega arith)))
 overflow-requires : tie.Need-overflow-requires
 overflow-requires c κs = search rules
 
-div-if2 : tie.Need-nonzero-div-if2
+div-if2 : tie.Need-nonzero_div-if2
 div-if2 c = search rules
 
-mul-t6 : tie.Need-overflow-mul-t6
+mul-t6 : tie.Need-overflow_mul-t6
 mul-t6 c = record { fits = fit _ _ (omega (arith, c.before.if1.false)) c.if2.false }
 
 returns-2 : tie.Need-returns-2
@@ -36,5 +36,5 @@ returns-3 : tie.Need-returns-3
 unfolding mul_of
 returns-3 c = sym (answer-in _ (fit _ _ (omega (arith, c.before.if1.false)) c.if2.false))
 
-pub mul-spec : {M : Type 1} → statement M
-mul-spec = tie.close (tie.spec returns div-if2 overflow-requires mul-t6 returns-2 returns-3)
+pub mul_spec : {M : Type 1} → statement M
+mul_spec = tie.close (tie.spec returns div-if2 overflow-requires mul-t6 returns-2 returns-3)

@@ -16,16 +16,16 @@ decreases-loop cells word at₀ at = length cells - at
 loop-holds : tie.Need-loop-init invariant-loop decreases-loop
 loop-holds c = all_start _ _
 
-mul-if1 : tie.Need-overflow-mul-if1 invariant-loop decreases-loop
+mul-if1 : tie.Need-overflow_mul-if1 invariant-loop decreases-loop
 mul-if1 c = search rules
 
-shared-slice-read-if1 : tie.Need-shared-slice-read-if1 invariant-loop decreases-loop
-shared-slice-read-if1 c = search rules
+shared_slice_read-if1 : tie.Need-shared_slice_read-if1 invariant-loop decreases-loop
+shared_slice_read-if1 c = search rules
 
 returns : tie.Need-returns invariant-loop decreases-loop
 returns c = other-here c.before.before.before.loop.invariant (omega arith) (omega arith)
 
-add_at : tie.Need-overflow-add-at invariant-loop decreases-loop
+add_at : tie.Need-overflow_add-at invariant-loop decreases-loop
 add_at c = search rules
 
 loop-less : tie.Need-loop-smaller invariant-loop decreases-loop
@@ -37,15 +37,15 @@ loop-again c = same_here c.before.before.before.loop.invariant (omega arith) (om
 returns-2 : tie.Need-returns-2 invariant-loop decreases-loop
 returns-2 c = all-ended c.before.loop.invariant (omega arith)
 
-pub words-are-spec : {M : Type 1} → statement M
-words-are-spec =
+pub words_are_spec : {M : Type 1} → statement M
+words_are_spec =
     tie.close
     (tie.spec
     invariant-loop
     decreases-loop
     loop-holds
     mul-if1
-    shared-slice-read-if1
+    shared_slice_read-if1
     returns
     add_at
     loop-less

@@ -10,8 +10,8 @@ returns c = (omega arith, (omega arith, simp length-take (omega arith)))
 returns-2 : tie.Need-returns-2
 returns-2 c = (omega arith, (omega arith, simp length-take (omega arith)))
 
-pub bytes-of-spec : {M : Type 1} → statement M
-bytes-of-spec =
+pub bytes_of_spec : {M : Type 1} → statement M
+bytes_of_spec =
     tie.close
     (tie.spec
     returns

@@ -17,10 +17,10 @@ decreases-loop text₀ at₀ text at = length text₀ - at
 loop-holds : tie.Need-loop-init invariant-loop decreases-loop
 loop-holds c = fill_start _ _
 
-slice-write-text : tie.Need-slice-write-text invariant-loop decreases-loop
-slice-write-text c = search rules
+slice_write-text : tie.Need-slice_write-text invariant-loop decreases-loop
+slice_write-text c = search rules
 
-add_at : tie.Need-overflow-add-at invariant-loop decreases-loop
+add_at : tie.Need-overflow_add-at invariant-loop decreases-loop
 add_at c = search rules
 
 loop-less : tie.Need-loop-smaller invariant-loop decreases-loop
@@ -29,20 +29,20 @@ loop-less c = let i = c.before.loop.invariant.as_long in omega arith
 loop-again : tie.Need-loop-preserved invariant-loop decreases-loop
 loop-again c = fill_on c.before.loop.invariant (omega arith)
 
-same_length : tie.Need-same-length invariant-loop decreases-loop
+same_length : tie.Need-same_length invariant-loop decreases-loop
 same_length c = c.before.loop.invariant.as_long
 
 returns : tie.Need-returns invariant-loop decreases-loop
 returns c = fill-ended c.before.loop.invariant (omega arith)
 
-pub fill-bytes-spec : {M : Type 1} → statement M
-fill-bytes-spec =
+pub fill_bytes_spec : {M : Type 1} → statement M
+fill_bytes_spec =
     tie.close
     (tie.spec
     invariant-loop
     decreases-loop
     loop-holds
-    slice-write-text
+    slice_write-text
     add_at
     loop-less
     loop-again

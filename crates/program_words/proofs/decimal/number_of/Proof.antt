@@ -19,8 +19,8 @@ returns c = number-none _ (omega arith)
 loop-holds : tie.Need-loop-init invariant-loop decreases-loop
 loop-holds c = read-start _ (omega arith)
 
-shared-slice-read-digit : tie.Need-shared-slice-read-digit invariant-loop decreases-loop
-shared-slice-read-digit c = search rules
+shared_slice_read-digit : tie.Need-shared_slice_read-digit invariant-loop decreases-loop
+shared_slice_read-digit c = search rules
 
 returns-2 : tie.Need-returns-2 invariant-loop decreases-loop
 returns-2 c = read_none c.before.before.before.loop.invariant (omega arith) (λ h k. omega arith)
@@ -31,7 +31,7 @@ returns-3 c = read_none c.before.before.before.before.loop.invariant (omega arit
 longer-requires : tie.Need-longer-requires invariant-loop decreases-loop
 longer-requires c κs = search rules
 
-add_at : tie.Need-overflow-add-at invariant-loop decreases-loop
+add_at : tie.Need-overflow_add-at invariant-loop decreases-loop
 add_at c = search rules
 
 loop-less : tie.Need-loop-smaller invariant-loop decreases-loop
@@ -43,15 +43,15 @@ loop-again c = read-on c.before.before.before.before.before.loop.invariant (omeg
 returns-4 : tie.Need-returns-4 invariant-loop decreases-loop
 returns-4 c = read-end c.before.loop.invariant (omega arith)
 
-pub number-of-spec : {M : Type 1} → statement M
-number-of-spec =
+pub number_of_spec : {M : Type 1} → statement M
+number_of_spec =
     tie.close
     (tie.spec
     invariant-loop
     decreases-loop
     returns
     loop-holds
-    shared-slice-read-digit
+    shared_slice_read-digit
     returns-2
     returns-3
     longer-requires

@@ -5,10 +5,10 @@ use borrow.Author.Rules.{rules}
 use Rattle.program_words.proofs.hexadecimal.digit.Statement.{statement}
 use Rattle.program_words.proofs.hexadecimal.digit.Tie as tie
 
-add-result : tie.Need-overflow-add-result
+add-result : tie.Need-overflow_add-result
 add-result c = search rules
 
-add-result-2 : tie.Need-overflow-add-result-2
+add-result-2 : tie.Need-overflow_add-result-2
 add-result-2 c = search rules
 
 returns : tie.Need-returns
@@ -32,8 +32,8 @@ returns-6 c = no_digit _ (λ h k. omega arith) (λ h k. omega arith) (λ h k. om
 returns-7 : tie.Need-returns-7
 returns-7 c = no_digit _ (λ h k. omega arith) (λ h k. omega arith) (λ h k. omega arith)
 
-pub digit-spec : {M : Type 1} → statement M
-digit-spec =
+pub digit_spec : {M : Type 1} → statement M
+digit_spec =
     tie.close
     (tie.spec
     add-result

@@ -9,32 +9,32 @@ use Rattle.program_words.proofs.hexadecimal.put_piece.Tie as tie
 find-requires : tie.Need-find-requires
 find-requires c κs = search rules
 
-sub-times : tie.Need-overflow-sub-times
+sub-times : tie.Need-overflow_sub-times
 sub-times c = search rules
 
-part-times-start : tie.Need-slice-bounds-times-start
+part-times-start : tie.Need-slice_bounds-times-start
 part-times-start c = search rules
 
-part-times-end : tie.Need-slice-bounds-times-end
+part-times-end : tie.Need-slice_bounds-times-end
 part-times-end c = search rules
 
 times-requires : tie.Need-times-requires
 times-requires c κs = search rules
 
-slice-aggregate-put-repeated : tie.Need-slice-aggregate-put-repeated
-slice-aggregate-put-repeated c = simp length-take (omega arith)
+slice_aggregate-put_repeated : tie.Need-slice_aggregate-put_repeated
+slice_aggregate-put_repeated c = simp length-take (omega arith)
 
-put-repeated-requires : tie.Need-put-repeated-requires
-put-repeated-requires c κs = search rules
+put_repeated-requires : tie.Need-put_repeated-requires
+put_repeated-requires c κs = search rules
 
-same_length : tie.Need-same-length
+same_length : tie.Need-same_length
 same_length c = search rules
 
 returns : tie.Need-returns
-returns c = a_piece _ _ c.before.before.before.before.before.before.before.find.ensures.0 c.before.before.before.before.before.times.ensures c.before.before.put-repeated.ensures
+returns c = a_piece _ _ c.before.before.before.before.before.before.before.find.ensures.0 c.before.before.before.before.before.times.ensures c.before.before.put_repeated.ensures
 
-pub put-piece-spec : {M : Type 1} → statement M
-put-piece-spec =
+pub put_piece_spec : {M : Type 1} → statement M
+put_piece_spec =
     tie.close
     (tie.spec
     find-requires
@@ -42,7 +42,7 @@ put-piece-spec =
     part-times-start
     part-times-end
     times-requires
-    slice-aggregate-put-repeated
-    put-repeated-requires
+    slice_aggregate-put_repeated
+    put_repeated-requires
     same_length
     returns)

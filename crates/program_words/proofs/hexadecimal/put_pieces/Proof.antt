@@ -20,45 +20,45 @@ loop-holds c = pieces-start _ _
 find-requires : tie.Need-find-requires invariant-loop decreases-loop
 find-requires c κs = search rules
 
-sub-put-piece : tie.Need-overflow-sub-put-piece invariant-loop decreases-loop
-sub-put-piece c = search rules
+sub-put_piece : tie.Need-overflow_sub-put_piece invariant-loop decreases-loop
+sub-put_piece c = search rules
 
-part-put-piece-start : tie.Need-slice-bounds-put-piece-start invariant-loop decreases-loop
-part-put-piece-start c = search rules
+part-put_piece-start : tie.Need-slice_bounds-put_piece-start invariant-loop decreases-loop
+part-put_piece-start c = search rules
 
-part-put-piece-end : tie.Need-slice-bounds-put-piece-end invariant-loop decreases-loop
-part-put-piece-end c = search rules
+part-put_piece-end : tie.Need-slice_bounds-put_piece-end invariant-loop decreases-loop
+part-put_piece-end c = search rules
 
-put-piece-requires : tie.Need-put-piece-requires invariant-loop decreases-loop
-put-piece-requires c κs = search rules
+put_piece-requires : tie.Need-put_piece-requires invariant-loop decreases-loop
+put_piece-requires c κs = search rules
 
-add-from : tie.Need-overflow-add-from invariant-loop decreases-loop
+add-from : tie.Need-overflow_add-from invariant-loop decreases-loop
 add-from c = search rules
 
 loop-less : tie.Need-loop-smaller invariant-loop decreases-loop
 loop-less c = search rules
 
 loop-again : tie.Need-loop-preserved invariant-loop decreases-loop
-loop-again c = pieces-on c.before.before.before.before.before.before.before.loop.invariant (omega arith) c.before.before.before.before.before.find.ensures.0 c.before.before.put-piece.ensures
+loop-again c = pieces-on c.before.before.before.before.before.before.before.loop.invariant (omega arith) c.before.before.before.before.before.find.ensures.0 c.before.before.put_piece.ensures
 
-same_length : tie.Need-same-length invariant-loop decreases-loop
+same_length : tie.Need-same_length invariant-loop decreases-loop
 same_length c = search rules
 
 returns : tie.Need-returns invariant-loop decreases-loop
 returns c = counted _ _ (pieces_end c.before.loop.invariant (omega arith))
 
-pub put-pieces-spec : {M : Type 1} → statement M
-put-pieces-spec =
+pub put_pieces_spec : {M : Type 1} → statement M
+put_pieces_spec =
     tie.close
     (tie.spec
     invariant-loop
     decreases-loop
     loop-holds
     find-requires
-    sub-put-piece
-    part-put-piece-start
-    part-put-piece-end
-    put-piece-requires
+    sub-put_piece
+    part-put_piece-start
+    part-put_piece-end
+    put_piece-requires
     add-from
     loop-less
     loop-again

@@ -15,42 +15,42 @@ decreases-loop room₀ from word count next₀ left₀ room next left = left
 loop-holds : tie.Need-loop-init invariant-loop decreases-loop
 loop-holds c = repeat-start _ _ _
 
-put-digits-requires : tie.Need-put-digits-requires invariant-loop decreases-loop
-put-digits-requires c κs = search rules
+put_digits-requires : tie.Need-put_digits-requires invariant-loop decreases-loop
+put_digits-requires c κs = search rules
 
-same_length : tie.Need-same-length invariant-loop decreases-loop
+same_length : tie.Need-same_length invariant-loop decreases-loop
 same_length c = search rules
 
 returns : tie.Need-returns invariant-loop decreases-loop
-returns c = repeat-full c.before.before.before.before.before.before.loop.invariant (omega arith) c.before.before.before.put-digits.ensures c.if1.true
+returns c = repeat-full c.before.before.before.before.before.before.loop.invariant (omega arith) c.before.before.before.put_digits.ensures c.if1.true
 
-sub-left : tie.Need-overflow-sub-left invariant-loop decreases-loop
+sub-left : tie.Need-overflow_sub-left invariant-loop decreases-loop
 sub-left c = search rules
 
 loop-less : tie.Need-loop-smaller invariant-loop decreases-loop
 loop-less c = search rules
 
 loop-again : tie.Need-loop-preserved invariant-loop decreases-loop
-loop-again c = repeat-on c.before.before.before.before.before.before.loop.invariant (omega arith) c.before.before.before.put-digits.ensures
+loop-again c = repeat-on c.before.before.before.before.before.before.loop.invariant (omega arith) c.before.before.before.put_digits.ensures
 
-same-length-2 : tie.Need-same-length-2 invariant-loop decreases-loop
-same-length-2 c = search rules
+same_length-2 : tie.Need-same_length-2 invariant-loop decreases-loop
+same_length-2 c = search rules
 
 returns-2 : tie.Need-returns-2 invariant-loop decreases-loop
 returns-2 c = repeat-end c.before.loop.invariant (omega arith)
 
-pub put-repeated-spec : {M : Type 1} → statement M
-put-repeated-spec =
+pub put_repeated_spec : {M : Type 1} → statement M
+put_repeated_spec =
     tie.close
     (tie.spec
     invariant-loop
     decreases-loop
     loop-holds
-    put-digits-requires
+    put_digits-requires
     same_length
     returns
     sub-left
     loop-less
     loop-again
-    same-length-2
+    same_length-2
     returns-2)

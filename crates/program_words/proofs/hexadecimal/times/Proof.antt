@@ -8,22 +8,22 @@ use Rattle.program_words.proofs.hexadecimal.times.Tie as tie
 returns : tie.Need-returns
 returns c = times-once _ (omega arith)
 
-sub-number-of : tie.Need-overflow-sub-number-of
-sub-number-of c = search rules
+sub-number_of : tie.Need-overflow_sub-number_of
+sub-number_of c = search rules
 
-part-number-of-start : tie.Need-slice-bounds-number-of-start
-part-number-of-start c = search rules
+part-number_of-start : tie.Need-slice_bounds-number_of-start
+part-number_of-start c = search rules
 
-part-number-of-end : tie.Need-slice-bounds-number-of-end
-part-number-of-end c = search rules
+part-number_of-end : tie.Need-slice_bounds-number_of-end
+part-number_of-end c = search rules
 
-number-of-requires : tie.Need-number-of-requires
-number-of-requires c κs = search rules
+number_of-requires : tie.Need-number_of-requires
+number_of-requires c κs = search rules
 
-enum-known-count : tie.Need-enum-known-count
-enum-known-count c = search rules
+enum_known-count : tie.Need-enum_known-count
+enum_known-count c = search rules
 
-enum_told : tie.Need-enum-told
+enum_told : tie.Need-enum_told
 enum_told c = search rules
 
 returns-2 : tie.Need-returns-2
@@ -32,16 +32,16 @@ returns-2 c = times_none _ (omega arith) (cc)
 returns-3 : tie.Need-returns-3
 returns-3 c = times-is _ (omega arith) (cc)
 
-pub times-spec : {M : Type 1} → statement M
-times-spec =
+pub times_spec : {M : Type 1} → statement M
+times_spec =
     tie.close
     (tie.spec
     returns
-    sub-number-of
-    part-number-of-start
-    part-number-of-end
-    number-of-requires
-    enum-known-count
+    sub-number_of
+    part-number_of-start
+    part-number_of-end
+    number_of-requires
+    enum_known-count
     enum_told
     returns-2
     returns-3)

@@ -14,13 +14,13 @@ decreases-loop line from at₀ at = length line - at
 loop-holds : tie.Need-loop-init invariant-loop decreases-loop
 loop-holds c = search rules
 
-shared-slice-read-if1 : tie.Need-shared-slice-read-if1 invariant-loop decreases-loop
-shared-slice-read-if1 c = search rules
+shared_slice_read-if1 : tie.Need-shared_slice_read-if1 invariant-loop decreases-loop
+shared_slice_read-if1 c = search rules
 
 returns : tie.Need-returns invariant-loop decreases-loop
 returns c = search rules
 
-add_at : tie.Need-overflow-add-at invariant-loop decreases-loop
+add_at : tie.Need-overflow_add-at invariant-loop decreases-loop
 add_at c = search rules
 
 loop-less : tie.Need-loop-smaller invariant-loop decreases-loop
@@ -32,14 +32,14 @@ loop-again c = search rules
 returns-2 : tie.Need-returns-2 invariant-loop decreases-loop
 returns-2 c = search rules
 
-pub behind-spaces-spec : {M : Type 1} → statement M
-behind-spaces-spec =
+pub behind_spaces_spec : {M : Type 1} → statement M
+behind_spaces_spec =
     tie.close
     (tie.spec
     invariant-loop
     decreases-loop
     loop-holds
-    shared-slice-read-if1
+    shared_slice_read-if1
     returns
     add_at
     loop-less

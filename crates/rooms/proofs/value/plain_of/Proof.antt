@@ -6,32 +6,32 @@ use borrow.Author.Rules.{rules, sfits_of}
 use Rattle.rooms.proofs.value.plain_of.Statement.{statement}
 use Rattle.rooms.proofs.value.plain_of.Tie as tie
 
-enum_told : tie.Need-enum-told
+enum_told : tie.Need-enum_told
 enum_told c = search rules
 
-enum-known-value : tie.Need-enum-known-value
-enum-known-value c = search rules
+enum_known-value : tie.Need-enum_known-value
+enum_known-value c = search rules
 
-enum-known-value-2 : tie.Need-enum-known-value-2
-enum-known-value-2 c = search rules
+enum_known-value-2 : tie.Need-enum_known-value-2
+enum_known-value-2 c = search rules
 
-enum-known-value-3 : tie.Need-enum-known-value-3
-enum-known-value-3 c = search rules
+enum_known-value-3 : tie.Need-enum_known-value-3
+enum_known-value-3 c = search rules
 
-enum-known-value-4 : tie.Need-enum-known-value-4
-enum-known-value-4 c = search rules
+enum_known-value-4 : tie.Need-enum_known-value-4
+enum_known-value-4 c = search rules
 
-enum-known-value-5 : tie.Need-enum-known-value-5
-enum-known-value-5 c = search rules
+enum_known-value-5 : tie.Need-enum_known-value-5
+enum_known-value-5 c = search rules
 
-enum-known-value-6 : tie.Need-enum-known-value-6
-enum-known-value-6 c = search rules
+enum_known-value-6 : tie.Need-enum_known-value-6
+enum_known-value-6 c = search rules
 
-enum-known-value-7 : tie.Need-enum-known-value-7
-enum-known-value-7 c = search rules
+enum_known-value-7 : tie.Need-enum_known-value-7
+enum_known-value-7 c = search rules
 
-enum-told-2 : tie.Need-enum-told-2
-enum-told-2 c = search rules
+enum_told-2 : tie.Need-enum_told-2
+enum_told-2 c = search rules
 
 returns : tie.Need-returns
 returns c = search rules
@@ -40,7 +40,7 @@ returns-2 : tie.Need-returns-2
 returns-2 c = simp c.before.value.given.1
 
 returns-3 : tie.Need-returns-3
-returns-3 c = rw (to_z-of_z w64 c.before.value2.given.0.0 (sfits_of c.known-told2.given.0.1)) (simp c.before.value2.given.1)
+returns-3 c = rw (to_z-of_z w64 c.before.value2.given.0.0 (sfits_of c.known_told2.given.0.1)) (simp c.before.value2.given.1)
 
 returns-4 : tie.Need-returns-4
 returns-4 c = simp c.before.value3.given.1
@@ -63,19 +63,19 @@ returns-9 c = search rules
 returns-10 : tie.Need-returns-10
 returns-10 c = not_plain c.before.args.value c.match.keys10
 
-pub plain-of-spec : {M : Type 1} → statement M
-plain-of-spec =
+pub plain_of_spec : {M : Type 1} → statement M
+plain_of_spec =
     tie.close
     (tie.spec
     enum_told
-    enum-known-value
-    enum-known-value-2
-    enum-known-value-3
-    enum-known-value-4
-    enum-known-value-5
-    enum-known-value-6
-    enum-known-value-7
-    enum-told-2
+    enum_known-value
+    enum_known-value-2
+    enum_known-value-3
+    enum_known-value-4
+    enum_known-value-5
+    enum_known-value-6
+    enum_known-value-7
+    enum_told-2
     returns
     returns-2
     returns-3

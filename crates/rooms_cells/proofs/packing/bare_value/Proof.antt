@@ -8,11 +8,11 @@ use borrow.Author.Rules.{rules}
 use Rattle.rooms_cells.proofs.packing.bare_value.Statement.{statement}
 use Rattle.rooms_cells.proofs.packing.bare_value.Tie as tie
 
-signed-of-requires : tie.Need-signed-of-requires
-signed-of-requires c κs = search rules
+signed_of-requires : tie.Need-signed_of-requires
+signed_of-requires c κs = search rules
 
-double-value-requires : tie.Need-double-value-requires
-double-value-requires c κs = search rules
+double_value-requires : tie.Need-double_value-requires
+double_value-requires c κs = search rules
 
 returns : tie.Need-returns
 unfolding bare_of
@@ -36,7 +36,7 @@ returns-5 c = simp (c.before.match.keys2, ne_eqb _ _ c.match3.rest.0.1, ne_eqb _
 
 returns-6 : tie.Need-returns-6
 unfolding bare_of
-returns-6 c = rw (to_z-of_z w64 c.Signed-of.result (sfits_of c.Signed-of.type-inv)) (simp (c.before.match.keys3, ← c.Signed-of.ensures))
+returns-6 c = rw (to_z-of_z w64 c.Signed-of.result (sfits_of c.Signed-of.type_inv)) (simp (c.before.match.keys3, ← c.Signed-of.ensures))
 
 returns-7 : tie.Need-returns-7
 unfolding bare_of
@@ -44,7 +44,7 @@ returns-7 c = simp c.match.keys4
 
 returns-8 : tie.Need-returns-8
 unfolding bare_of
-returns-8 c = simp (c.before.match.keys5, ← c.double-value.ensures)
+returns-8 c = simp (c.before.match.keys5, ← c.double_value.ensures)
 
 returns-9 : tie.Need-returns-9
 unfolding bare_of
@@ -58,12 +58,12 @@ returns-11 : tie.Need-returns-11
 unfolding bare_of
 returns-11 c = simp (ne_eqb _ _ c.match.rest.0.0.0.0.0.1, ne_eqb _ _ c.match.rest.0.0.0.0.1, ne_eqb _ _ c.match.rest.0.0.0.1, ne_eqb _ _ c.match.rest.0.0.1, ne_eqb _ _ c.match.rest.0.1, ne_eqb _ _ c.match.rest.1)
 
-pub bare-value-spec : {M : Type 1} → statement M
-bare-value-spec =
+pub bare_value_spec : {M : Type 1} → statement M
+bare_value_spec =
     tie.close
     (tie.spec
-    signed-of-requires
-    double-value-requires
+    signed_of-requires
+    double_value-requires
     returns
     returns-2
     returns-3

@@ -13,10 +13,10 @@ returns-2 : tie.Need-returns-2
 unfolding cell_place
 returns-2 c = simp (le-ltb _ _ c.before.if1.false, lt-ltb _ _ c.if2.true)
 
-cast-from : tie.Need-overflow-cast-from
+cast-from : tie.Need-overflow_cast-from
 cast-from c = search rules
 
-cast-count : tie.Need-overflow-cast-count
+cast-count : tie.Need-overflow_cast-count
 cast-count c = search rules
 
 returns-3 : tie.Need-returns-3
@@ -31,6 +31,6 @@ returns-5 : tie.Need-returns-5
 unfolding cell_place
 returns-5 c = simp (le-ltb _ _ c.before.before.if1.false, le-ltb _ _ c.before.if2.false, ne_eqb _ _ c.match.rest.0.1, ne_eqb _ _ c.match.rest.1)
 
-pub cell-place-spec : {M : Type 1} → statement M
-cell-place-spec =
+pub cell_place_spec : {M : Type 1} → statement M
+cell_place_spec =
     tie.close (tie.spec returns returns-2 cast-from cast-count returns-3 returns-4 returns-5)

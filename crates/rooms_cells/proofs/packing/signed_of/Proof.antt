@@ -15,19 +15,19 @@ use Rattle.rooms_cells.proofs.packing.signed_of.Tie as tie
 small : (c : tie.Else1) → 2 ^ 64 - 1 - c.before.args.word < 2 ^ 63
 small c = omega (arith, c.if1.false)
 
-cast-result : tie.Need-overflow-cast-result
+cast-result : tie.Need-overflow_cast-result
 cast-result c = search rules
 
-sub-result : tie.Need-overflow-sub-result
+sub-result : tie.Need-overflow_sub-result
 sub-result c = search rules
 
-cast-result-2 : tie.Need-overflow-cast-result-2
+cast-result-2 : tie.Need-overflow_cast-result-2
 cast-result-2 c = search rules
 
-sub-result-2 : tie.Need-overflow-sub-result-2
+sub-result-2 : tie.Need-overflow_sub-result-2
 sub-result-2 c = rw (to_z_pos w64 (2 ^ 64 - 1 - c.before.args.word) (small c), +ℤ_idl (neg_ℤ (pos (2 ^ 64 - 1 - c.before.args.word)))) (neg-in _ (small c))
 
-sub-result-3 : tie.Need-overflow-sub-result-3
+sub-result-3 : tie.Need-overflow_sub-result-3
 sub-result-3 c = rw (minus (2 ^ 64 - 1 - c.before.args.word) (small c), -ℤ_one (neg_ℤ (pos (2 ^ 64 - 1 - c.before.args.word))), pred-neg (2 ^ 64 - 1 - c.before.args.word)) (sfits_of (small c))
 
 returns : tie.Need-returns
@@ -36,7 +36,7 @@ returns c = to_z_pos w64 c.before.args.word c.if1.true ∙ sym (signed_below c.b
 returns-2 : tie.Need-returns-2
 returns-2 c = below-zero (2 ^ 64 - 1 - c.before.args.word) (small c) ∙ sym (signed_above c.before.args.word c.if1.false)
 
-pub signed-of-spec : {M : Type 1} → statement M
-signed-of-spec =
+pub signed_of_spec : {M : Type 1} → statement M
+signed_of_spec =
     tie.close
     (tie.spec cast-result sub-result cast-result-2 sub-result-2 sub-result-3 returns returns-2)

@@ -23,27 +23,27 @@ returns : tie.Need-returns invariant-loop decreases-loop
 returns c =
     let l = c.before.before.loop in
     let s = c.before.before.before.before.before.before.before.before in
-    plain_out s.args.limit s.args.literal.now s.args.binding-cells.now s.args.binding-text.now s.args.cells.now s.args.text.now s.args.value s.requires s.args.space l.at l.left l.pairs c.before.loop-test.true c.if1.true ∙ l.invariant.1
+    plain_out s.args.limit s.args.literal.now s.args.binding_cells.now s.args.binding_text.now s.args.cells.now s.args.text.now s.args.value s.requires s.args.space l.at l.left l.pairs c.before.loop-test.true c.if1.true ∙ l.invariant.1
 
-add-pairs : tie.Need-overflow-add-pairs invariant-loop decreases-loop
+add-pairs : tie.Need-overflow_add-pairs invariant-loop decreases-loop
 add-pairs c = search rules
 
-cell-at-requires : tie.Need-cell-at-requires invariant-loop decreases-loop
-cell-at-requires c κs = search rules
+cell_at-requires : tie.Need-cell_at-requires invariant-loop decreases-loop
+cell_at-requires c κs = search rules
 
-plain-equal-requires : tie.Need-plain-equal-requires invariant-loop decreases-loop
-plain-equal-requires c κs = search rules
+plain_equal-requires : tie.Need-plain_equal-requires invariant-loop decreases-loop
+plain_equal-requires c κs = search rules
 
 returns-2 : tie.Need-returns-2 invariant-loop decreases-loop
 returns-2 c =
     let l = c.before.before.before.before.before.loop in
     let s = c.before.before.before.before.before.before.before.before.before.before.before in
-    plain-same s.args.limit s.args.literal.now s.args.binding-cells.now s.args.binding-text.now s.args.cells.now s.args.text.now s.args.value s.requires s.args.space l.at l.left l.pairs c.before.before.before.before.loop-test.true c.before.before.Cell-at.result c.before.plain-equal.result (omega arith) c.before.before.Cell-at.ensures c.before.plain-equal.ensures c.if2.true ∙ l.invariant.1
+    plain-same s.args.limit s.args.literal.now s.args.binding_cells.now s.args.binding_text.now s.args.cells.now s.args.text.now s.args.value s.requires s.args.space l.at l.left l.pairs c.before.before.before.before.loop-test.true c.before.before.Cell-at.result c.before.plain_equal.result (omega arith) c.before.before.Cell-at.ensures c.before.plain_equal.ensures c.if2.true ∙ l.invariant.1
 
-add_at : tie.Need-overflow-add-at invariant-loop decreases-loop
+add_at : tie.Need-overflow_add-at invariant-loop decreases-loop
 add_at c = search rules
 
-sub-left : tie.Need-overflow-sub-left invariant-loop decreases-loop
+sub-left : tie.Need-overflow_sub-left invariant-loop decreases-loop
 sub-left c = search rules
 
 loop-less : tie.Need-loop-smaller invariant-loop decreases-loop
@@ -54,17 +54,17 @@ loop-again c = (
   omega arith,
   let l = c.before.before.before.before.before.loop in
       let s = c.before.before.before.before.before.before.before.before.before.before.before in
-      plain-on s.args.limit s.args.literal.now s.args.binding-cells.now s.args.binding-text.now s.args.cells.now s.args.text.now s.args.value s.requires s.args.space l.at l.left l.pairs c.before.before.before.before.loop-test.true c.before.before.Cell-at.result c.before.plain-equal.result (omega arith) c.before.before.Cell-at.ensures c.before.plain-equal.ensures c.if2.false ∙ l.invariant.1,
+      plain-on s.args.limit s.args.literal.now s.args.binding_cells.now s.args.binding_text.now s.args.cells.now s.args.text.now s.args.value s.requires s.args.space l.at l.left l.pairs c.before.before.before.before.loop-test.true c.before.before.Cell-at.result c.before.plain_equal.result (omega arith) c.before.before.Cell-at.ensures c.before.plain_equal.ensures c.if2.false ∙ l.invariant.1,
 )
 
 returns-3 : tie.Need-returns-3 invariant-loop decreases-loop
 returns-3 c =
     let l = c.before.loop in
     let s = c.before.before.before.before.before.before.before in
-    among_none s.args.limit (rooms s.args.literal.now s.args.binding-cells.now s.args.binding-text.now s.args.cells.now s.args.text.now) s.args.value s.args.space l.at l.left l.pairs c.loop-test.false ∙ l.invariant.1
+    among_none s.args.limit (rooms s.args.literal.now s.args.binding_cells.now s.args.binding_text.now s.args.cells.now s.args.text.now) s.args.value s.args.space l.at l.left l.pairs c.loop-test.false ∙ l.invariant.1
 
-pub among-plain-spec : {M : Type 1} → statement M
-among-plain-spec =
+pub among_plain_spec : {M : Type 1} → statement M
+among_plain_spec =
     tie.close
     (tie.spec
     invariant-loop
@@ -72,8 +72,8 @@ among-plain-spec =
     loop-holds
     returns
     add-pairs
-    cell-at-requires
-    plain-equal-requires
+    cell_at-requires
+    plain_equal-requires
     returns-2
     add_at
     sub-left

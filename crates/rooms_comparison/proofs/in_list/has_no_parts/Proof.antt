@@ -4,20 +4,20 @@ use borrow.Author.Rules.{rules}
 use Rattle.rooms_comparison.proofs.in_list.has_no_parts.Statement.{statement}
 use Rattle.rooms_comparison.proofs.in_list.has_no_parts.Tie as tie
 
-parts-of-requires : tie.Need-parts-of-requires
-parts-of-requires c κs = search rules
+parts_of-requires : tie.Need-parts_of-requires
+parts_of-requires c κs = search rules
 
-enum_told : tie.Need-enum-told
+enum_told : tie.Need-enum_told
 enum_told c = search rules
 
-enum-told-2 : tie.Need-enum-told-2
-enum-told-2 c = search rules
+enum_told-2 : tie.Need-enum_told-2
+enum_told-2 c = search rules
 
-enum-told-3 : tie.Need-enum-told-3
-enum-told-3 c = search rules
+enum_told-3 : tie.Need-enum_told-3
+enum_told-3 c = search rules
 
-enum-told-4 : tie.Need-enum-told-4
-enum-told-4 c = search rules
+enum_told-4 : tie.Need-enum_told-4
+enum_told-4 c = search rules
 
 returns : tie.Need-returns
 returns c e = cc
@@ -29,17 +29,17 @@ returns-3 : tie.Need-returns-3
 returns-3 c e = cc
 
 returns-4 : tie.Need-returns-4
-returns-4 c e = sym c.before.before.parts-of.ensures ∙ c.enum-told4.given.1
+returns-4 c e = sym c.before.before.parts_of.ensures ∙ c.enum_told4.given.1
 
-pub has-no-parts-spec : {M : Type 1} → statement M
-has-no-parts-spec =
+pub has_no_parts_spec : {M : Type 1} → statement M
+has_no_parts_spec =
     tie.close
     (tie.spec
-    parts-of-requires
+    parts_of-requires
     enum_told
-    enum-told-2
-    enum-told-3
-    enum-told-4
+    enum_told-2
+    enum_told-3
+    enum_told-4
     returns
     returns-2
     returns-3

@@ -11,23 +11,23 @@ use borrow.Author.Rules.{rules}
 use Rattle.rooms_comparison.proofs.ordering.compare_bytes.Statement.{statement}
 use Rattle.rooms_comparison.proofs.ordering.compare_bytes.Tie as tie
 
-enum-known-other : tie.Need-enum-known-other
-enum-known-other c = search rules
+enum_known-other : tie.Need-enum_known-other
+enum_known-other c = search rules
 
 returns : tie.Need-returns
 unfolding rank
-returns c = let given = c.before.before.before.before.args in no-order-seen given.literal.now given.binding-text.now given.text.now (bytes (part (text_of given.literal.now given.binding-text.now given.text.now given.space) given.first given.length)) given.other (other-class 4 given.other c.match.keys2)
+returns c = let given = c.before.before.before.before.args in no-order-seen given.literal.now given.binding_text.now given.text.now (bytes (part (text_of given.literal.now given.binding_text.now given.text.now given.space) given.first given.length)) given.other (other-class 4 given.other c.match.keys2)
 
-parts-compare-requires : tie.Need-parts-compare-requires
-parts-compare-requires c κs = search rules
+parts_compare-requires : tie.Need-parts_compare-requires
+parts_compare-requires c κs = search rules
 
-text-order-requires : tie.Need-text-order-requires
-text-order-requires c κs = search rules
+text_order-requires : tie.Need-text_order-requires
+text_order-requires c κs = search rules
 
 returns-2 : tie.Need-returns-2
-returns-2 c = simp c.before.before.before.other.given.1 (ap Compared.Is (c.text-order.ensures ∙ ap text_order c.before.parts-compare.ensures) ∙ bytes-order _ _)
+returns-2 c = simp c.before.before.before.other.given.1 (ap Compared.Is (c.text_order.ensures ∙ ap text_order c.before.parts_compare.ensures) ∙ bytes-order _ _)
 
-pub compare-bytes-spec : {M : Type 1} → statement M
-compare-bytes-spec =
+pub compare_bytes_spec : {M : Type 1} → statement M
+compare_bytes_spec =
     tie.close
-    (tie.spec enum-known-other returns parts-compare-requires text-order-requires returns-2)
+    (tie.spec enum_known-other returns parts_compare-requires text_order-requires returns-2)

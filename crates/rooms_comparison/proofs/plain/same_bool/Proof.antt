@@ -8,8 +8,8 @@ use borrow.Author.Rules.{rules}
 use Rattle.rooms_comparison.proofs.plain.same_bool.Statement.{statement}
 use Rattle.rooms_comparison.proofs.plain.same_bool.Tie as tie
 
-enum-known-other : tie.Need-enum-known-other
-enum-known-other c = search rules
+enum_known-other : tie.Need-enum_known-other
+enum_known-other c = search rules
 
 returns : tie.Need-returns
 unfolding rank
@@ -21,5 +21,5 @@ returns-2 c = λ l b t. simp (c.before.before.other.given.1, c.if1.true) (bool_s
 returns-3 : tie.Need-returns-3
 returns-3 c = λ l b t. simp (c.before.before.other.given.1, c.if1.false) (bool_same false _)
 
-pub same-bool-spec : {M : Type 1} → statement M
-same-bool-spec = tie.close (tie.spec enum-known-other returns returns-2 returns-3)
+pub same_bool_spec : {M : Type 1} → statement M
+same_bool_spec = tie.close (tie.spec enum_known-other returns returns-2 returns-3)

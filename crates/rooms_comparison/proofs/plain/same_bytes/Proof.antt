@@ -10,21 +10,21 @@ use borrow.Author.Rules.{rules}
 use Rattle.rooms_comparison.proofs.plain.same_bytes.Statement.{statement}
 use Rattle.rooms_comparison.proofs.plain.same_bytes.Tie as tie
 
-enum-known-other : tie.Need-enum-known-other
-enum-known-other c = search rules
+enum_known-other : tie.Need-enum_known-other
+enum_known-other c = search rules
 
 returns : tie.Need-returns
 unfolding rank
-returns c = let given = c.before.before.before.before.args in unlike-seen given.literal.now given.binding-text.now given.text.now (bytes (part (text_of given.literal.now given.binding-text.now given.text.now given.space) given.first given.length)) given.other (other-class 4 given.other c.match.keys2)
+returns c = let given = c.before.before.before.before.args in unlike-seen given.literal.now given.binding_text.now given.text.now (bytes (part (text_of given.literal.now given.binding_text.now given.text.now given.space) given.first given.length)) given.other (other-class 4 given.other c.match.keys2)
 
-parts-compare-requires : tie.Need-parts-compare-requires
-parts-compare-requires c κs = search rules
+parts_compare-requires : tie.Need-parts_compare-requires
+parts_compare-requires c κs = search rules
 
-same-text-requires : tie.Need-same-text-requires
-same-text-requires c κs = search rules
+same_text-requires : tie.Need-same_text-requires
+same_text-requires c κs = search rules
 
 returns-2 : tie.Need-returns-2
-returns-2 c = simp c.before.before.before.other.given.1 (c.same_text.ensures ∙ ap (λ o. is_equal (text_order o)) c.before.parts-compare.ensures ∙ bytes_same _ _)
+returns-2 c = simp c.before.before.before.other.given.1 (c.same_text.ensures ∙ ap (λ o. is_equal (text_order o)) c.before.parts_compare.ensures ∙ bytes_same _ _)
 
-pub same-bytes-spec : {M : Type 1} → statement M
-same-bytes-spec = tie.close (tie.spec enum-known-other returns parts-compare-requires same-text-requires returns-2)
+pub same_bytes_spec : {M : Type 1} → statement M
+same_bytes_spec = tie.close (tie.spec enum_known-other returns parts_compare-requires same_text-requires returns-2)

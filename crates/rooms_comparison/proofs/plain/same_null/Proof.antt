@@ -7,7 +7,7 @@ use borrow.Author.Rules.{rules}
 use Rattle.rooms_comparison.proofs.plain.same_null.Statement.{statement}
 use Rattle.rooms_comparison.proofs.plain.same_null.Tie as tie
 
-enum_told : tie.Need-enum-told
+enum_told : tie.Need-enum_told
 enum_told c = search rules
 
 returns : tie.Need-returns
@@ -17,5 +17,5 @@ returns-2 : tie.Need-returns-2
 unfolding rank
 returns-2 c = λ l b t. unlike-seen l b t null c.before.args.other (other-class 0 c.before.args.other c.match.keys2)
 
-pub same-null-spec : {M : Type 1} → statement M
-same-null-spec = tie.close (tie.spec enum_told returns returns-2)
+pub same_null_spec : {M : Type 1} → statement M
+same_null_spec = tie.close (tie.spec enum_told returns returns-2)

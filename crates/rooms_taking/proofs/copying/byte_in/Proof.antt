@@ -5,8 +5,8 @@ use borrow.Author.Rules.{rules}
 use Rattle.rooms_taking.proofs.copying.byte_in.Statement.{statement}
 use Rattle.rooms_taking.proofs.copying.byte_in.Tie as tie
 
-shared-slice-read-result : tie.Need-shared-slice-read-result
-shared-slice-read-result c = search rules
+shared_slice_read-result : tie.Need-shared_slice_read-result
+shared_slice_read-result c = search rules
 
 returns : tie.Need-returns
 returns c = search rules
@@ -14,5 +14,5 @@ returns c = search rules
 returns-2 : tie.Need-returns-2
 returns-2 c = sym (beyond c.before.args.bytes.now c.before.args.index c.if1.false)
 
-pub byte-in-spec : {M : Type 1} → statement M
-byte-in-spec = tie.close (tie.spec shared-slice-read-result returns returns-2)
+pub byte_in_spec : {M : Type 1} → statement M
+byte_in_spec = tie.close (tie.spec shared_slice_read-result returns returns-2)

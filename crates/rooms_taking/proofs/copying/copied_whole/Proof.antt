@@ -17,13 +17,13 @@ invariant-loop from text₀ first length to start place count done₀ text done 
 abbrev decreases-loop : tie.decreases-loop
 decreases-loop from text₀ first length to start place count done₀ text done = length - done
 
-add-if1 : tie.Need-overflow-add-if1 invariant-loop decreases-loop
+add-if1 : tie.Need-overflow_add-if1 invariant-loop decreases-loop
 add-if1 c = search rules
 
 returns : tie.Need-returns invariant-loop decreases-loop
 returns c = search rules
 
-add-if2 : tie.Need-overflow-add-if2 invariant-loop decreases-loop
+add-if2 : tie.Need-overflow_add-if2 invariant-loop decreases-loop
 add-if2 c = search rules
 
 returns-2 : tie.Need-returns-2 invariant-loop decreases-loop
@@ -32,19 +32,19 @@ returns-2 c = search rules
 loop-holds : tie.Need-loop-init invariant-loop decreases-loop
 loop-holds c = (refl, omega arith, left-all _ _ _ _ _)
 
-add-text : tie.Need-overflow-add-text invariant-loop decreases-loop
+add-text : tie.Need-overflow_add-text invariant-loop decreases-loop
 add-text c = search rules
 
-shared-slice-read-text : tie.Need-shared-slice-read-text invariant-loop decreases-loop
-shared-slice-read-text c = search rules
+shared_slice_read-text : tie.Need-shared_slice_read-text invariant-loop decreases-loop
+shared_slice_read-text c = search rules
 
-add-text-2 : tie.Need-overflow-add-text-2 invariant-loop decreases-loop
+add-text-2 : tie.Need-overflow_add-text-2 invariant-loop decreases-loop
 add-text-2 c = search rules
 
-slice-write-text : tie.Need-slice-write-text invariant-loop decreases-loop
-slice-write-text c = search rules
+slice_write-text : tie.Need-slice_write-text invariant-loop decreases-loop
+slice_write-text c = search rules
 
-add_done : tie.Need-overflow-add-done invariant-loop decreases-loop
+add_done : tie.Need-overflow_add-done invariant-loop decreases-loop
 add_done c = search rules
 
 loop-less : tie.Need-loop-smaller invariant-loop decreases-loop
@@ -56,7 +56,7 @@ loop-again c =
     let a = c.before.before.before.before.before.args in
     (length-set l.text _ _ ∙ l.invariant.0, omega arith, left-on a.from.now l.text a.first a.to a.length l.done (omega arith) ∙ l.invariant.2)
 
-same_length : tie.Need-same-length invariant-loop decreases-loop
+same_length : tie.Need-same_length invariant-loop decreases-loop
 same_length c = search rules
 
 returns-3 : tie.Need-returns-3 invariant-loop decreases-loop
@@ -65,8 +65,8 @@ returns-3 c =
     let a = c.before.before.before.before.args in
     left-none a.from.now l.text a.first a.to a.length l.done (omega arith) ∙ l.invariant.2
 
-pub copied-whole-spec : {M : Type 1} → statement M
-copied-whole-spec =
+pub copied_whole_spec : {M : Type 1} → statement M
+copied_whole_spec =
     tie.close
     (tie.spec
     invariant-loop
@@ -77,9 +77,9 @@ copied-whole-spec =
     returns-2
     loop-holds
     add-text
-    shared-slice-read-text
+    shared_slice_read-text
     add-text-2
-    slice-write-text
+    slice_write-text
     add_done
     loop-less
     loop-again

@@ -20,42 +20,42 @@ decreases-loop binding-cells cells₀ space first length to at₀ place₀ left�
 loop-holds : tie.Need-loop-init invariant-loop decreases-loop
 loop-holds c = (refl, omega (arith, c.before.before.ranges.first.fits, c.before.before.ranges.length.fits), omega (arith, c.before.before.requires, c.before.before.ranges.length.fits), refl)
 
-cell-at-requires : tie.Need-cell-at-requires invariant-loop decreases-loop
-cell-at-requires c κs = search rules
+cell_at-requires : tie.Need-cell_at-requires invariant-loop decreases-loop
+cell_at-requires c κs = search rules
 
-write-cell-requires : tie.Need-write-cell-requires invariant-loop decreases-loop
-write-cell-requires c κs = search rules
+write_cell-requires : tie.Need-write_cell-requires invariant-loop decreases-loop
+write_cell-requires c κs = search rules
 
-add_at : tie.Need-overflow-add-at invariant-loop decreases-loop
+add_at : tie.Need-overflow_add-at invariant-loop decreases-loop
 add_at c = search rules
 
-add-place : tie.Need-overflow-add-place invariant-loop decreases-loop
+add-place : tie.Need-overflow_add-place invariant-loop decreases-loop
 add-place c = search rules
 
-sub-left : tie.Need-overflow-sub-left invariant-loop decreases-loop
+sub-left : tie.Need-overflow_sub-left invariant-loop decreases-loop
 sub-left c = search rules
 
 loop-less : tie.Need-loop-smaller invariant-loop decreases-loop
 loop-less c = search rules
 
 loop-again : tie.Need-loop-preserved invariant-loop decreases-loop
-loop-again c = (ap Lists.length (c.before.before.write_cell.ensures ∙ ap (written_in c.before.before.before.before.before.before.before.loop.cells c.before.before.before.before.before.before.before.loop.place) c.before.before.before.before.Cell-at.ensures) ∙ written-length c.before.before.before.before.before.before.before.loop.cells c.before.before.before.before.before.before.before.loop.place _ ∙ c.before.before.before.before.before.before.before.loop.invariant.0, omega arith, omega arith, copy-on c.before.before.before.before.before.before.before.before.before.before.args.binding-cells.now c.before.before.before.before.before.before.before.before.before.before.args.space c.before.before.before.before.before.before.before.loop.cells _ c.before.before.before.before.before.before.before.loop.at c.before.before.before.before.before.before.before.loop.place c.before.before.before.before.before.before.before.loop.left c.before.before.before.before.before.before.loop-test.true (c.before.before.write_cell.ensures ∙ ap (written_in c.before.before.before.before.before.before.before.loop.cells c.before.before.before.before.before.before.before.loop.place) c.before.before.before.before.Cell-at.ensures) ∙ c.before.before.before.before.before.before.before.loop.invariant.3)
+loop-again c = (ap Lists.length (c.before.before.write_cell.ensures ∙ ap (written_in c.before.before.before.before.before.before.before.loop.cells c.before.before.before.before.before.before.before.loop.place) c.before.before.before.before.Cell-at.ensures) ∙ written-length c.before.before.before.before.before.before.before.loop.cells c.before.before.before.before.before.before.before.loop.place _ ∙ c.before.before.before.before.before.before.before.loop.invariant.0, omega arith, omega arith, copy-on c.before.before.before.before.before.before.before.before.before.before.args.binding_cells.now c.before.before.before.before.before.before.before.before.before.before.args.space c.before.before.before.before.before.before.before.loop.cells _ c.before.before.before.before.before.before.before.loop.at c.before.before.before.before.before.before.before.loop.place c.before.before.before.before.before.before.before.loop.left c.before.before.before.before.before.before.loop-test.true (c.before.before.write_cell.ensures ∙ ap (written_in c.before.before.before.before.before.before.before.loop.cells c.before.before.before.before.before.before.before.loop.place) c.before.before.before.before.Cell-at.ensures) ∙ c.before.before.before.before.before.before.before.loop.invariant.3)
 
-same_length : tie.Need-same-length invariant-loop decreases-loop
+same_length : tie.Need-same_length invariant-loop decreases-loop
 same_length c = c.before.loop.invariant.0
 
 returns : tie.Need-returns invariant-loop decreases-loop
-returns c = copy-none c.before.before.before.before.args.binding-cells.now c.before.before.before.before.args.space c.before.loop.cells c.before.loop.at c.before.loop.place c.before.loop.left c.loop-test.false ∙ c.before.loop.invariant.3
+returns c = copy-none c.before.before.before.before.args.binding_cells.now c.before.before.before.before.args.space c.before.loop.cells c.before.loop.at c.before.loop.place c.before.loop.left c.loop-test.false ∙ c.before.loop.invariant.3
 
-pub copy-cells-spec : {M : Type 1} → statement M
-copy-cells-spec =
+pub copy_cells_spec : {M : Type 1} → statement M
+copy_cells_spec =
     tie.close
     (tie.spec
     invariant-loop
     decreases-loop
     loop-holds
-    cell-at-requires
-    write-cell-requires
+    cell_at-requires
+    write_cell-requires
     add_at
     add-place
     sub-left

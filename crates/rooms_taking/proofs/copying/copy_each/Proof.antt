@@ -19,42 +19,42 @@ decreases-loop literal binding-text text₀ space first length to at₀ place₀
 loop-holds : tie.Need-loop-init invariant-loop decreases-loop
 loop-holds c = (refl, omega (arith, c.before.before.before.ranges.first.fits, c.before.before.before.ranges.length.fits), omega (arith, c.before.before.before.ranges.to.fits, c.before.before.before.ranges.length.fits), refl)
 
-byte-at-requires : tie.Need-byte-at-requires invariant-loop decreases-loop
-byte-at-requires c κs = search rules
+byte_at-requires : tie.Need-byte_at-requires invariant-loop decreases-loop
+byte_at-requires c κs = search rules
 
-put-byte-requires : tie.Need-put-byte-requires invariant-loop decreases-loop
-put-byte-requires c κs = search rules
+put_byte-requires : tie.Need-put_byte-requires invariant-loop decreases-loop
+put_byte-requires c κs = search rules
 
-add_at : tie.Need-overflow-add-at invariant-loop decreases-loop
+add_at : tie.Need-overflow_add-at invariant-loop decreases-loop
 add_at c = search rules
 
-add-place : tie.Need-overflow-add-place invariant-loop decreases-loop
+add-place : tie.Need-overflow_add-place invariant-loop decreases-loop
 add-place c = search rules
 
-sub-left : tie.Need-overflow-sub-left invariant-loop decreases-loop
+sub-left : tie.Need-overflow_sub-left invariant-loop decreases-loop
 sub-left c = search rules
 
 loop-less : tie.Need-loop-smaller invariant-loop decreases-loop
 loop-less c = search rules
 
 loop-again : tie.Need-loop-preserved invariant-loop decreases-loop
-loop-again c = (ap Lists.length c.before.before.put_byte.ensures ∙ length-set c.before.before.before.before.before.before.before.loop.text c.before.before.before.before.before.before.before.loop.place c.before.before.before.before.byte_at.result ∙ c.before.before.before.before.before.before.before.loop.invariant.0, omega arith, omega arith, paste-on c.before.before.before.before.before.before.before.before.before.before.before.args.literal.now c.before.before.before.before.before.before.before.before.before.before.before.args.binding-text.now c.before.before.before.before.before.before.before.before.before.before.before.args.space c.before.before.before.before.before.before.before.loop.text _ c.before.before.before.before.before.before.before.loop.at c.before.before.before.before.before.before.before.loop.place c.before.before.before.before.before.before.before.loop.left c.before.before.before.before.before.before.loop-test.true (c.before.before.put_byte.ensures ∙ ap (set c.before.before.before.before.before.before.before.loop.text c.before.before.before.before.before.before.before.loop.place) c.before.before.before.before.byte_at.ensures) ∙ c.before.before.before.before.before.before.before.loop.invariant.3)
+loop-again c = (ap Lists.length c.before.before.put_byte.ensures ∙ length-set c.before.before.before.before.before.before.before.loop.text c.before.before.before.before.before.before.before.loop.place c.before.before.before.before.byte_at.result ∙ c.before.before.before.before.before.before.before.loop.invariant.0, omega arith, omega arith, paste-on c.before.before.before.before.before.before.before.before.before.before.before.args.literal.now c.before.before.before.before.before.before.before.before.before.before.before.args.binding_text.now c.before.before.before.before.before.before.before.before.before.before.before.args.space c.before.before.before.before.before.before.before.loop.text _ c.before.before.before.before.before.before.before.loop.at c.before.before.before.before.before.before.before.loop.place c.before.before.before.before.before.before.before.loop.left c.before.before.before.before.before.before.loop-test.true (c.before.before.put_byte.ensures ∙ ap (set c.before.before.before.before.before.before.before.loop.text c.before.before.before.before.before.before.before.loop.place) c.before.before.before.before.byte_at.ensures) ∙ c.before.before.before.before.before.before.before.loop.invariant.3)
 
-same_length : tie.Need-same-length invariant-loop decreases-loop
+same_length : tie.Need-same_length invariant-loop decreases-loop
 same_length c = c.before.loop.invariant.0
 
 returns : tie.Need-returns invariant-loop decreases-loop
-returns c = paste_none c.before.before.before.before.before.args.literal.now c.before.before.before.before.before.args.binding-text.now c.before.before.before.before.before.args.space c.before.loop.text c.before.loop.at c.before.loop.place c.before.loop.left c.loop-test.false ∙ c.before.loop.invariant.3
+returns c = paste_none c.before.before.before.before.before.args.literal.now c.before.before.before.before.before.args.binding_text.now c.before.before.before.before.before.args.space c.before.loop.text c.before.loop.at c.before.loop.place c.before.loop.left c.loop-test.false ∙ c.before.loop.invariant.3
 
-pub copy-each-spec : {M : Type 1} → statement M
-copy-each-spec =
+pub copy_each_spec : {M : Type 1} → statement M
+copy_each_spec =
     tie.close
     (tie.spec
     invariant-loop
     decreases-loop
     loop-holds
-    byte-at-requires
-    put-byte-requires
+    byte_at-requires
+    put_byte-requires
     add_at
     add-place
     sub-left

@@ -17,5 +17,5 @@ returns-2 c = rw c.match.keys2
 returns-3 : tie.Need-returns-3
 returns-3 c = no-marks c.before.args.kind c.before.requires c.match.rest.0.1 c.match.rest.1
 
-pub marks-of-spec : {M : Type 1} → statement M
-marks-of-spec = tie.close (tie.spec returns returns-2 returns-3)
+pub marks_of_spec : {M : Type 1} → statement M
+marks_of_spec = tie.close (tie.spec returns returns-2 returns-3)

@@ -12,5 +12,5 @@ returns c = rw c.if1.true
 returns-2 : tie.Need-returns-2
 returns-2 c = no-mark c.before.args.marked c.before.args.kind c.before.requires c.if1.false
 
-pub misplaced-spec : {M : Type 1} → statement M
-misplaced-spec = tie.close (tie.spec returns returns-2)
+pub misplaced_spec : {M : Type 1} → statement M
+misplaced_spec = tie.close (tie.spec returns returns-2)

@@ -10,5 +10,5 @@ returns c = rw c.if1.true
 returns-2 : tie.Need-returns-2
 returns-2 c = rw (le-leb 1 c.before.args.number (omega arith))
 
-pub one-of-spec : {M : Type 1} → statement M
-one-of-spec = tie.close (tie.spec returns returns-2)
+pub one_of_spec : {M : Type 1} → statement M
+one_of_spec = tie.close (tie.spec returns returns-2)

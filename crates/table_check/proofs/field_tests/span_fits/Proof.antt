@@ -5,11 +5,11 @@ use borrow.Author.Rules.{rules}
 use Rattle.table_check.proofs.field_tests.span_fits.Statement.{statement}
 use Rattle.table_check.proofs.field_tests.span_fits.Tie as tie
 
-add-result : tie.Need-overflow-add-result
+add-result : tie.Need-overflow_add-result
 add-result c = search rules
 
 returns : tie.Need-returns
 returns c = sym (span-is c.args.text.now c.args.offset c.args.size)
 
-pub span-fits-spec : {M : Type 1} → statement M
-span-fits-spec = tie.close (tie.spec add-result returns)
+pub span_fits_spec : {M : Type 1} → statement M
+span_fits_spec = tie.close (tie.spec add-result returns)

@@ -9,5 +9,5 @@ returns c = rw (eq-eqb _ _ c.if1.true)
 returns-2 : tie.Need-returns-2
 returns-2 c = rw (ne_eqb _ _ c.if1.false)
 
-pub extent-fits-spec : {M : Type 1} → statement M
-extent-fits-spec = tie.close (tie.spec returns returns-2)
+pub extent_fits_spec : {M : Type 1} → statement M
+extent_fits_spec = tie.close (tie.spec returns returns-2)

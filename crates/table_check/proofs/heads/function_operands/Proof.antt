@@ -15,5 +15,5 @@ returns-2 c = rw c.match.keys2
 returns-3 : tie.Need-returns-3
 returns-3 c = one-called _ c.match.rest.0.1 c.match.rest.1
 
-pub function-operands-spec : {M : Type 1} → statement M
-function-operands-spec = tie.close (tie.spec returns returns-2 returns-3)
+pub function_operands_spec : {M : Type 1} → statement M
+function_operands_spec = tie.close (tie.spec returns returns-2 returns-3)

@@ -11,29 +11,29 @@ use borrow.Author.Rules.{rules}
 use Rattle.table_check.proofs.heads.operand_count.Statement.{statement}
 use Rattle.table_check.proofs.heads.operand_count.Tie as tie
 
-add-word-at : tie.Need-overflow-add-word-at
-add-word-at c = search rules
+add-word_at : tie.Need-overflow_add-word_at
+add-word_at c = search rules
 
-word-at-requires : tie.Need-word-at-requires
-word-at-requires c κs = omega (arith, head-is 12 (omega arith) c.match.keys5)
+word_at-requires : tie.Need-word_at-requires
+word_at-requires c κs = omega (arith, head-is 12 (omega arith) c.match.keys5)
 
-add-word-at-2 : tie.Need-overflow-add-word-at-2
-add-word-at-2 c = search rules
+add-word_at-2 : tie.Need-overflow_add-word_at-2
+add-word_at-2 c = search rules
 
-word-at-requires-2 : tie.Need-word-at-requires-2
-word-at-requires-2 c κs = omega (arith, head-is 13 (omega arith) c.match.keys6)
+word_at-requires-2 : tie.Need-word_at-requires-2
+word_at-requires-2 c κs = omega (arith, head-is 13 (omega arith) c.match.keys6)
 
-mul-result : tie.Need-overflow-mul-result
+mul-result : tie.Need-overflow_mul-result
 mul-result c = search rules
 
-add-function-operands : tie.Need-overflow-add-function-operands
-add-function-operands c = search rules
+add-function_operands : tie.Need-overflow_add-function_operands
+add-function_operands c = search rules
 
-shared-slice-read-function-operands : tie.Need-shared-slice-read-function-operands
-shared-slice-read-function-operands c = omega (arith, head-is 16 (omega arith) c.before.match.keys9)
+shared_slice_read-function_operands : tie.Need-shared_slice_read-function_operands
+shared_slice_read-function_operands c = omega (arith, head-is 16 (omega arith) c.before.match.keys9)
 
-function-operands-requires : tie.Need-function-operands-requires
-function-operands-requires c κs = search rules
+function_operands-requires : tie.Need-function_operands-requires
+function_operands-requires c κs = search rules
 
 returns : tie.Need-returns
 unfolding row_of kinds count_of numbers_of numbers_at field_bytes fields_bytes word_at
@@ -57,7 +57,7 @@ returns-5 c = rw c.before.match.keys5 c.word_at.ensures.0
 
 returns-6 : tie.Need-returns-6
 unfolding row_of kinds count_of numbers_of numbers_at field_bytes fields_bytes word_at
-returns-6 c = rw (c.before.match.keys6, c.word-at2.ensures.0)
+returns-6 c = rw (c.before.match.keys6, c.word_at2.ensures.0)
 
 returns-7 : tie.Need-returns-7
 unfolding row_of kinds count_of numbers_of numbers_at field_bytes fields_bytes word_at
@@ -69,7 +69,7 @@ returns-8 c = rw c.match.keys8
 
 returns-9 : tie.Need-returns-9
 unfolding row_of kinds count_of numbers_of numbers_at field_bytes fields_bytes word_at
-returns-9 c = rw (c.before.before.match.keys9, byte-is) c.function-operands.ensures
+returns-9 c = rw (c.before.before.match.keys9, byte-is) c.function_operands.ensures
 
 returns-10 : tie.Need-returns-10
 unfolding row_of kinds count_of numbers_of numbers_at field_bytes fields_bytes word_at
@@ -79,18 +79,18 @@ returns-10 c =
     no-operands a.table.now a.at a.kind c.before.before.requires.0 n.0.0.0.0.0.0.0.0.1 n.0.0.0.0.0.0.0.1
     n.0.0.0.0.0.0.1 n.0.0.0.0.0.1 n.0.0.0.0.1 n.0.0.0.1 n.0.0.1 n.0.1 n.1
 
-pub operand-count-spec : {M : Type 1} → statement M
-operand-count-spec =
+pub operand_count_spec : {M : Type 1} → statement M
+operand_count_spec =
     tie.close
     (tie.spec
-    add-word-at
-    word-at-requires
-    add-word-at-2
-    word-at-requires-2
+    add-word_at
+    word_at-requires
+    add-word_at-2
+    word_at-requires-2
     mul-result
-    add-function-operands
-    shared-slice-read-function-operands
-    function-operands-requires
+    add-function_operands
+    shared_slice_read-function_operands
+    function_operands-requires
     returns
     returns-2
     returns-3

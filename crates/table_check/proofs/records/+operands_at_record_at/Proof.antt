@@ -12,32 +12,32 @@ use Rattle.table_check.proofs.faults.marks_of.Reads as marks-of-reads
 use Rattle.table_check.proofs.faults.may_mark.Reads as may-mark-reads
 use Rattle.table_check.proofs.records.+operands_at_record_at.{statement}
 use Rattle.table_check.proofs.records.+operands_at_record_at.Tie.{close}
-use Rattle.table_check.proofs.records.+operands_at_record_at.Proof.Kit.{μ-operands-at, μ-record-at, operands-at-at, operands-at-below, record-at-at, record-at-below}
-use Rattle.table_check.proofs.records.+operands_at_record_at.Proof.OperandsAt.{operands-at-Inv-loop, operands-at-μ-loop, operands-at-loop-holds, operands-at-may-mark-requires, operands-at-record-at-requires, operands-at-enum-known-number, operands-at-returns, operands-at-enum-known-after, operands-at-sub-left, operands-at-loop-less, operands-at-loop-again, operands-at-returns-2, operands-at-returns-3}
-use Rattle.table_check.proofs.records.+operands_at_record_at.Proof.RecordAt.{record-at-head-at-requires, record-at-enum-known-number, record-at-enum-known-kind, record-at-fault-requires, record-at-returns, record-at-returns-2, record-at-marks-of-requires, record-at-sub-operands-at, record-at-operands-at-requires, record-at-returns-3, record-at-returns-4}
+use Rattle.table_check.proofs.records.+operands_at_record_at.Proof.Kit.{μ-operands_at, μ-record_at, operands_at-at, operands_at-below, record_at-at, record_at-below}
+use Rattle.table_check.proofs.records.+operands_at_record_at.Proof.OperandsAt.{operands_at-Inv-loop, operands_at-μ-loop, operands_at-loop-holds, operands_at-may_mark-requires, operands_at-record_at-requires, operands_at-enum_known-number, operands_at-returns, operands_at-enum_known-after, operands_at-sub-left, operands_at-loop-less, operands_at-loop-again, operands_at-returns-2, operands_at-returns-3}
+use Rattle.table_check.proofs.records.+operands_at_record_at.Proof.RecordAt.{record_at-head_at-requires, record_at-enum_known-number, record_at-enum_known-kind, record_at-fault-requires, record_at-returns, record_at-returns-2, record_at-marks_of-requires, record_at-sub-operands_at, record_at-operands_at-requires, record_at-returns-3, record_at-returns-4}
 
-pub +operands-at-record-at-spec : {M : Type 1} → statement M
-+operands-at-record-at-spec = close μ-operands-at μ-record-at (λ t. operands-at-lts.spec (
+pub +operands_at_record_at_spec : {M : Type 1} → statement M
++operands_at_record_at_spec = close μ-operands_at μ-record_at (λ t. operands-at-lts.spec (
   may-mark-reads.Asked,
   may-mark-reads.Learnt,
-  record-at-below t,
+  record_at-below t,
   record-at.Post,
 )
-    (operands-at-at t)
+    (operands_at-at t)
     operands-at.Post
-    operands-at-Inv-loop
-    operands-at-μ-loop
-    (operands-at-loop-holds t)
-    (operands-at-may-mark-requires t)
-    (operands-at-record-at-requires t)
-    (operands-at-enum-known-number t)
-    (operands-at-returns t)
-    (operands-at-enum-known-after t)
-    (operands-at-sub-left t)
-    (operands-at-loop-less t)
-    (operands-at-loop-again t)
-    (operands-at-returns-2 t)
-    (operands-at-returns-3 t))
+    operands_at-Inv-loop
+    operands_at-μ-loop
+    (operands_at-loop-holds t)
+    (operands_at-may_mark-requires t)
+    (operands_at-record_at-requires t)
+    (operands_at-enum_known-number t)
+    (operands_at-returns t)
+    (operands_at-enum_known-after t)
+    (operands_at-sub-left t)
+    (operands_at-loop-less t)
+    (operands_at-loop-again t)
+    (operands_at-returns-2 t)
+    (operands_at-returns-3 t))
     λ t. record-at-lts.spec (
       head-at-reads.Asked,
       head-at-reads.Learnt,
@@ -45,19 +45,19 @@ pub +operands-at-record-at-spec : {M : Type 1} → statement M
       fault-reads.Learnt,
       marks-of-reads.Asked,
       marks-of-reads.Learnt,
-      operands-at-below t,
+      operands_at-below t,
       operands-at.Post,
     )
-    (record-at-at t)
+    (record_at-at t)
     record-at.Post
-    (record-at-head-at-requires t)
-    (record-at-enum-known-number t)
-    (record-at-enum-known-kind t)
-    (record-at-fault-requires t)
-    (record-at-returns t)
-    (record-at-returns-2 t)
-    (record-at-marks-of-requires t)
-    (record-at-sub-operands-at t)
-    (record-at-operands-at-requires t)
-    (record-at-returns-3 t)
-    (record-at-returns-4 t)
+    (record_at-head_at-requires t)
+    (record_at-enum_known-number t)
+    (record_at-enum_known-kind t)
+    (record_at-fault-requires t)
+    (record_at-returns t)
+    (record_at-returns-2 t)
+    (record_at-marks_of-requires t)
+    (record_at-sub-operands_at t)
+    (record_at-operands_at-requires t)
+    (record_at-returns-3 t)
+    (record_at-returns-4 t)

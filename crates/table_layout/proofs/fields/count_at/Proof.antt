@@ -3,14 +3,14 @@ use borrow.Author.Rules.{rules}
 use Rattle.table_layout.proofs.fields.count_at.Statement.{statement}
 use Rattle.table_layout.proofs.fields.count_at.Tie as tie
 
-add-word-at : tie.Need-overflow-add-word-at
-add-word-at c = search rules
+add-word_at : tie.Need-overflow_add-word_at
+add-word_at c = search rules
 
-word-at-requires : tie.Need-word-at-requires
-word-at-requires c κs = search rules
+word_at-requires : tie.Need-word_at-requires
+word_at-requires c κs = search rules
 
 returns : tie.Need-returns
 returns c = c.word_at.ensures
 
-pub count-at-spec : {M : Type 1} → statement M
-count-at-spec = tie.close (tie.spec add-word-at word-at-requires returns)
+pub count_at_spec : {M : Type 1} → statement M
+count_at_spec = tie.close (tie.spec add-word_at word_at-requires returns)

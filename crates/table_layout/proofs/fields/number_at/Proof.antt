@@ -4,14 +4,14 @@ use borrow.Author.Rules.{rules}
 use Rattle.table_layout.proofs.fields.number_at.Statement.{statement}
 use Rattle.table_layout.proofs.fields.number_at.Tie as tie
 
-add-result : tie.Need-overflow-add-result
+add-result : tie.Need-overflow_add-result
 add-result c = search rules
 
-shared-slice-read-result : tie.Need-shared-slice-read-result
-shared-slice-read-result c = search rules
+shared_slice_read-result : tie.Need-shared_slice_read-result
+shared_slice_read-result c = search rules
 
 returns : tie.Need-returns
 returns c = refl
 
-pub number-at-spec : {M : Type 1} → statement M
-number-at-spec = tie.close (tie.spec add-result shared-slice-read-result returns)
+pub number_at_spec : {M : Type 1} → statement M
+number_at_spec = tie.close (tie.spec add-result shared_slice_read-result returns)

@@ -3,20 +3,20 @@ use borrow.Author.Rules.{rules}
 use Rattle.table_layout.proofs.fields.span_at.Statement.{statement}
 use Rattle.table_layout.proofs.fields.span_at.Tie as tie
 
-add-word-at : tie.Need-overflow-add-word-at
-add-word-at c = search rules
+add-word_at : tie.Need-overflow_add-word_at
+add-word_at c = search rules
 
-word-at-requires : tie.Need-word-at-requires
-word-at-requires c κs = search rules
+word_at-requires : tie.Need-word_at-requires
+word_at-requires c κs = search rules
 
-add-word-at-2 : tie.Need-overflow-add-word-at-2
-add-word-at-2 c = search rules
+add-word_at-2 : tie.Need-overflow_add-word_at-2
+add-word_at-2 c = search rules
 
-word-at-requires-2 : tie.Need-word-at-requires-2
-word-at-requires-2 c κs = search rules
+word_at-requires-2 : tie.Need-word_at-requires-2
+word_at-requires-2 c κs = search rules
 
 returns : tie.Need-returns
-returns c = (c.before.word_at.ensures.0, c.word-at2.ensures.0)
+returns c = (c.before.word_at.ensures.0, c.word_at2.ensures.0)
 
-pub span-at-spec : {M : Type 1} → statement M
-span-at-spec = tie.close (tie.spec add-word-at word-at-requires add-word-at-2 word-at-requires-2 returns)
+pub span_at_spec : {M : Type 1} → statement M
+span_at_spec = tie.close (tie.spec add-word_at word_at-requires add-word_at-2 word_at-requires-2 returns)

@@ -7,32 +7,32 @@ use borrow.Author.Rules.{rules}
 use Rattle.table_layout.proofs.number_literals.bits_at.Statement.{statement}
 use Rattle.table_layout.proofs.number_literals.bits_at.Tie as tie
 
-add_half : tie.Need-overflow-add-half
+add_half : tie.Need-overflow_add-half
 add_half c = search rules
 
 half-requires : tie.Need-half-requires
 half-requires c κs = search rules
 
-add-half-2 : tie.Need-overflow-add-half-2
+add-half-2 : tie.Need-overflow_add-half-2
 add-half-2 c = search rules
 
-add-half-3 : tie.Need-overflow-add-half-3
+add-half-3 : tie.Need-overflow_add-half-3
 add-half-3 c = search rules
 
 half-requires-2 : tie.Need-half-requires-2
 half-requires-2 c κs = search rules
 
-mul-result : tie.Need-overflow-mul-result
+mul-result : tie.Need-overflow_mul-result
 mul-result c = search rules
 
-add-result : tie.Need-overflow-add-result
+add-result : tie.Need-overflow_add-result
 add-result c = search rules
 
 returns : tie.Need-returns
 returns c = let e = long-is c.before.before.before.args.table.now (c.before.before.before.args.at + fields_at) in omega arith
 
-pub bits-at-spec : {M : Type 1} → statement M
-bits-at-spec =
+pub bits_at_spec : {M : Type 1} → statement M
+bits_at_spec =
     tie.close
     (tie.spec
     add_half

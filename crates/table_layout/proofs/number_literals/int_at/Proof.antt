@@ -4,14 +4,14 @@ use borrow.Author.Rules.{rules}
 use Rattle.table_layout.proofs.number_literals.int_at.Statement.{statement}
 use Rattle.table_layout.proofs.number_literals.int_at.Tie as tie
 
-bits-at-requires : tie.Need-bits-at-requires
-bits-at-requires c κs = search rules
+bits_at-requires : tie.Need-bits_at-requires
+bits_at-requires c κs = search rules
 
 signed-requires : tie.Need-signed-requires
 signed-requires c κs = search rules
 
 returns : tie.Need-returns
-returns c = given_back c.signed.ensures (record { fits = c.before.bits_at.type-inv }) c.before.bits_at.ensures
+returns c = given_back c.signed.ensures (record { fits = c.before.bits_at.type_inv }) c.before.bits_at.ensures
 
-pub int-at-spec : {M : Type 1} → statement M
-int-at-spec = tie.close (tie.spec bits-at-requires signed-requires returns)
+pub int_at_spec : {M : Type 1} → statement M
+int_at_spec = tie.close (tie.spec bits_at-requires signed-requires returns)

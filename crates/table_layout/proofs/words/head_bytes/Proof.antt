@@ -5,46 +5,46 @@ use Rattle.table_layout.proofs.KindLaws.{head-table, one_byte}
 use Rattle.table_layout.proofs.words.head_bytes.Statement.{statement}
 use Rattle.table_layout.proofs.words.head_bytes.Tie as tie
 
-add-result : tie.Need-overflow-add-result
+add-result : tie.Need-overflow_add-result
 add-result c = search rules
 
-add-result-2 : tie.Need-overflow-add-result-2
+add-result-2 : tie.Need-overflow_add-result-2
 add-result-2 c = search rules
 
-add-result-3 : tie.Need-overflow-add-result-3
+add-result-3 : tie.Need-overflow_add-result-3
 add-result-3 c = search rules
 
-add-result-4 : tie.Need-overflow-add-result-4
+add-result-4 : tie.Need-overflow_add-result-4
 add-result-4 c = search rules
 
-add-result-5 : tie.Need-overflow-add-result-5
+add-result-5 : tie.Need-overflow_add-result-5
 add-result-5 c = search rules
 
-add-result-6 : tie.Need-overflow-add-result-6
+add-result-6 : tie.Need-overflow_add-result-6
 add-result-6 c = search rules
 
-add-result-7 : tie.Need-overflow-add-result-7
+add-result-7 : tie.Need-overflow_add-result-7
 add-result-7 c = search rules
 
-add-result-8 : tie.Need-overflow-add-result-8
+add-result-8 : tie.Need-overflow_add-result-8
 add-result-8 c = search rules
 
-add-result-9 : tie.Need-overflow-add-result-9
+add-result-9 : tie.Need-overflow_add-result-9
 add-result-9 c = search rules
 
-add-result-10 : tie.Need-overflow-add-result-10
+add-result-10 : tie.Need-overflow_add-result-10
 add-result-10 c = search rules
 
-add-result-11 : tie.Need-overflow-add-result-11
+add-result-11 : tie.Need-overflow_add-result-11
 add-result-11 c = search rules
 
-add-result-12 : tie.Need-overflow-add-result-12
+add-result-12 : tie.Need-overflow_add-result-12
 add-result-12 c = search rules
 
-add-result-13 : tie.Need-overflow-add-result-13
+add-result-13 : tie.Need-overflow_add-result-13
 add-result-13 c = search rules
 
-add-result-14 : tie.Need-overflow-add-result-14
+add-result-14 : tie.Need-overflow_add-result-14
 add-result-14 c = search rules
 
 returns : tie.Need-returns
@@ -88,8 +88,8 @@ returns-13 c =
     let n = c.match.rest in
     (one_byte c.before.args.kind c.before.requires n.0.0.0.0.0.0.0.0.0.0.0.1 n.0.0.0.0.0.0.0.0.0.0.1 n.0.0.0.0.0.0.0.0.0.1 n.0.0.0.0.0.0.0.0.1 n.0.0.0.0.0.0.0.1 n.0.0.0.0.0.0.1 n.0.0.0.0.0.1 n.0.0.0.0.1 n.0.0.0.1 n.0.0.1 n.0.1 n.1, omega arith, omega arith)
 
-pub head-bytes-spec : {M : Type 1} → statement M
-head-bytes-spec =
+pub head_bytes_spec : {M : Type 1} → statement M
+head_bytes_spec =
     tie.close
     (tie.spec
     add-result

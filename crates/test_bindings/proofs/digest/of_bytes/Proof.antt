@@ -15,8 +15,8 @@ decreases-loop bytes digest₀ at₀ digest at = length bytes - at
 loop-holds : tie.Need-loop-init invariant-loop decreases-loop
 loop-holds c = omega arith
 
-shared-slice-read-wide : tie.Need-shared-slice-read-wide invariant-loop decreases-loop
-shared-slice-read-wide c = search rules
+shared_slice_read-wide : tie.Need-shared_slice_read-wide invariant-loop decreases-loop
+shared_slice_read-wide c = search rules
 
 wide-requires : tie.Need-wide-requires invariant-loop decreases-loop
 wide-requires c κs = search rules
@@ -24,7 +24,7 @@ wide-requires c κs = search rules
 mix-requires : tie.Need-mix-requires invariant-loop decreases-loop
 mix-requires c κs = search rules
 
-add_at : tie.Need-overflow-add-at invariant-loop decreases-loop
+add_at : tie.Need-overflow_add-at invariant-loop decreases-loop
 add_at c = omega arith
 
 loop-less : tie.Need-loop-smaller invariant-loop decreases-loop
@@ -36,14 +36,14 @@ loop-again c = omega arith
 returns : tie.Need-returns invariant-loop decreases-loop
 returns c = search rules
 
-pub of-bytes-spec : {M : Type 1} → statement M
-of-bytes-spec =
+pub of_bytes_spec : {M : Type 1} → statement M
+of_bytes_spec =
     tie.close
     (tie.spec
     invariant-loop
     decreases-loop
     loop-holds
-    shared-slice-read-wide
+    shared_slice_read-wide
     wide-requires
     mix-requires
     add_at

@@ -15,16 +15,16 @@ decreases-loop before words digest₀ at₀ digest at = length words - at
 loop-holds : tie.Need-loop-init invariant-loop decreases-loop
 loop-holds c = omega arith
 
-mul-word : tie.Need-overflow-mul-word invariant-loop decreases-loop
+mul-word : tie.Need-overflow_mul-word invariant-loop decreases-loop
 mul-word c = search rules
 
-shared-slice-read-word : tie.Need-shared-slice-read-word invariant-loop decreases-loop
-shared-slice-read-word c = search rules
+shared_slice_read-word : tie.Need-shared_slice_read-word invariant-loop decreases-loop
+shared_slice_read-word c = search rules
 
 word-requires : tie.Need-word-requires invariant-loop decreases-loop
 word-requires c κs = search rules
 
-add_at : tie.Need-overflow-add-at invariant-loop decreases-loop
+add_at : tie.Need-overflow_add-at invariant-loop decreases-loop
 add_at c = omega arith
 
 loop-less : tie.Need-loop-smaller invariant-loop decreases-loop
@@ -36,15 +36,15 @@ loop-again c = omega arith
 returns : tie.Need-returns invariant-loop decreases-loop
 returns c = search rules
 
-pub of-words-from-spec : {M : Type 1} → statement M
-of-words-from-spec =
+pub of_words_from_spec : {M : Type 1} → statement M
+of_words_from_spec =
     tie.close
     (tie.spec
     invariant-loop
     decreases-loop
     loop-holds
     mul-word
-    shared-slice-read-word
+    shared_slice_read-word
     word-requires
     add_at
     loop-less

@@ -16,28 +16,28 @@ decreases-loop cells₀ from bytes at₀ next₀ cells at next = length cells₀
 loop-holds : tie.Need-loop-init invariant-loop decreases-loop
 loop-holds c = (refl, omega arith)
 
-sub-if1 : tie.Need-overflow-sub-if1 invariant-loop decreases-loop
+sub-if1 : tie.Need-overflow_sub-if1 invariant-loop decreases-loop
 sub-if1 c = search rules
 
-same_length : tie.Need-same-length invariant-loop decreases-loop
+same_length : tie.Need-same_length invariant-loop decreases-loop
 same_length c = c.before.before.loop.invariant.0
 
 returns : tie.Need-returns invariant-loop decreases-loop
 returns c = search rules
 
-word-at-requires : tie.Need-word-at-requires invariant-loop decreases-loop
-word-at-requires c κs = search rules
+word_at-requires : tie.Need-word_at-requires invariant-loop decreases-loop
+word_at-requires c κs = search rules
 
-mul-cells : tie.Need-overflow-mul-cells invariant-loop decreases-loop
+mul-cells : tie.Need-overflow_mul-cells invariant-loop decreases-loop
 mul-cells c = search rules
 
-slice-write-cells : tie.Need-slice-write-cells invariant-loop decreases-loop
-slice-write-cells c = search rules
+slice_write-cells : tie.Need-slice_write-cells invariant-loop decreases-loop
+slice_write-cells c = search rules
 
-add_at : tie.Need-overflow-add-at invariant-loop decreases-loop
+add_at : tie.Need-overflow_add-at invariant-loop decreases-loop
 add_at c = omega arith
 
-add-next : tie.Need-overflow-add-next invariant-loop decreases-loop
+add-next : tie.Need-overflow_add-next invariant-loop decreases-loop
 add-next c = omega arith
 
 loop-less : tie.Need-loop-smaller invariant-loop decreases-loop
@@ -46,14 +46,14 @@ loop-less c = let i = c.before.before.before.loop.invariant in omega arith
 loop-again : tie.Need-loop-preserved invariant-loop decreases-loop
 loop-again c = (length-set c.before.before.before.loop.cells c.before.before.before.loop.at _ ∙ c.before.before.before.loop.invariant.0, omega arith)
 
-same-length-2 : tie.Need-same-length-2 invariant-loop decreases-loop
-same-length-2 c = c.before.loop.invariant.0
+same_length-2 : tie.Need-same_length-2 invariant-loop decreases-loop
+same_length-2 c = c.before.loop.invariant.0
 
 returns-2 : tie.Need-returns-2 invariant-loop decreases-loop
 returns-2 c = search rules
 
-pub put-words-spec : {M : Type 1} → statement M
-put-words-spec =
+pub put_words_spec : {M : Type 1} → statement M
+put_words_spec =
     tie.close
     (tie.spec
     invariant-loop
@@ -62,12 +62,12 @@ put-words-spec =
     sub-if1
     same_length
     returns
-    word-at-requires
+    word_at-requires
     mul-cells
-    slice-write-cells
+    slice_write-cells
     add_at
     add-next
     loop-less
     loop-again
-    same-length-2
+    same_length-2
     returns-2)

@@ -10,5 +10,5 @@ returns c = (omega arith, simp length-take (omega arith))
 returns-2 : tie.Need-returns-2
 returns-2 c = (omega arith, simp length-take (omega arith))
 
-pub some-words-spec : {M : Type 1} → statement M
-some-words-spec = tie.close (tie.spec returns returns-2)
+pub some_words_spec : {M : Type 1} → statement M
+some_words_spec = tie.close (tie.spec returns returns-2)

@@ -14,13 +14,13 @@ decreases-loop scope sum₀ at₀ sum at = 128 - at
 loop-holds : tie.Need-loop-init invariant-loop decreases-loop
 loop-holds c = omega arith
 
-value-of-requires : tie.Need-value-of-requires invariant-loop decreases-loop
-value-of-requires c κs = search rules
+value_of-requires : tie.Need-value_of-requires invariant-loop decreases-loop
+value_of-requires c κs = search rules
 
-slot-digest-requires : tie.Need-slot-digest-requires invariant-loop decreases-loop
-slot-digest-requires c κs = search rules
+slot_digest-requires : tie.Need-slot_digest-requires invariant-loop decreases-loop
+slot_digest-requires c κs = search rules
 
-add_at : tie.Need-overflow-add-at invariant-loop decreases-loop
+add_at : tie.Need-overflow_add-at invariant-loop decreases-loop
 add_at c = search rules
 
 loop-less : tie.Need-loop-smaller invariant-loop decreases-loop
@@ -32,15 +32,15 @@ loop-again c = omega arith
 returns : tie.Need-returns invariant-loop decreases-loop
 returns c = search rules
 
-pub slots-digest-spec : {M : Type 1} → statement M
-slots-digest-spec =
+pub slots_digest_spec : {M : Type 1} → statement M
+slots_digest_spec =
     tie.close
     (tie.spec
     invariant-loop
     decreases-loop
     loop-holds
-    value-of-requires
-    slot-digest-requires
+    value_of-requires
+    slot_digest-requires
     add_at
     loop-less
     loop-again

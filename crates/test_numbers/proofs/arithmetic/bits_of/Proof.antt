@@ -36,13 +36,13 @@ plain (negsuc n) h t = absurd (true≢false t)
 below : (c : tie.Then1) → to_z w64 (18446744073709551615 - of_z w64 c.before.args.z) ≡ pos (mag c.before.args.z)
 below c = turned c.before.args.z c.before.ranges.z (rw (to_z-of_z w64 c.before.args.z c.before.ranges.z) at c.if1.true)
 
-cast-result : tie.Need-overflow-cast-result
+cast-result : tie.Need-overflow_cast-result
 cast-result c = rw (below c) (tt, record { fits = omega (arith, c.before.ranges.z.sfits) })
 
-sub-result : tie.Need-overflow-sub-result
+sub-result : tie.Need-overflow_sub-result
 sub-result c = rw (below c) (omega (arith, c.before.ranges.z.sfits))
 
-cast-result-2 : tie.Need-overflow-cast-result-2
+cast-result-2 : tie.Need-overflow_cast-result-2
 cast-result-2 c =
     rw (to_z-of_z w64 c.before.args.z c.before.ranges.z)
     (plain c.before.args.z c.before.ranges.z (rw (to_z-of_z w64 c.before.args.z c.before.ranges.z) at c.if1.false))
@@ -53,5 +53,5 @@ returns c = search rules
 returns-2 : tie.Need-returns-2
 returns-2 c = search rules
 
-pub bits-of-spec : {M : Type 1} → statement M
-bits-of-spec = tie.close (tie.spec cast-result sub-result cast-result-2 returns returns-2)
+pub bits_of_spec : {M : Type 1} → statement M
+bits_of_spec = tie.close (tie.spec cast-result sub-result cast-result-2 returns returns-2)

@@ -14,16 +14,16 @@ decreases-loop word at₀ at = length word - at
 loop-holds : tie.Need-loop-init invariant-loop decreases-loop
 loop-holds c = search rules
 
-shared-slice-read-is-upper : tie.Need-shared-slice-read-is-upper invariant-loop decreases-loop
-shared-slice-read-is-upper c = search rules
+shared_slice_read-is_upper : tie.Need-shared_slice_read-is_upper invariant-loop decreases-loop
+shared_slice_read-is_upper c = search rules
 
-is-upper-requires : tie.Need-is-upper-requires invariant-loop decreases-loop
-is-upper-requires c κs = search rules
+is_upper-requires : tie.Need-is_upper-requires invariant-loop decreases-loop
+is_upper-requires c κs = search rules
 
 returns : tie.Need-returns invariant-loop decreases-loop
 returns c = search rules
 
-add_at : tie.Need-overflow-add-at invariant-loop decreases-loop
+add_at : tie.Need-overflow_add-at invariant-loop decreases-loop
 add_at c = search rules
 
 loop-less : tie.Need-loop-smaller invariant-loop decreases-loop
@@ -35,15 +35,15 @@ loop-again c = search rules
 returns-2 : tie.Need-returns-2 invariant-loop decreases-loop
 returns-2 c = search rules
 
-pub has-upper-spec : {M : Type 1} → statement M
-has-upper-spec =
+pub has_upper_spec : {M : Type 1} → statement M
+has_upper_spec =
     tie.close
     (tie.spec
     invariant-loop
     decreases-loop
     loop-holds
-    shared-slice-read-is-upper
-    is-upper-requires
+    shared_slice_read-is_upper
+    is_upper-requires
     returns
     add_at
     loop-less

@@ -17,13 +17,13 @@ loop-holds c = search rules
 returns : tie.Need-returns invariant-loop decreases-loop
 returns c = search rules
 
-shared-slice-read-if2 : tie.Need-shared-slice-read-if2 invariant-loop decreases-loop
-shared-slice-read-if2 c = search rules
+shared_slice_read-if2 : tie.Need-shared_slice_read-if2 invariant-loop decreases-loop
+shared_slice_read-if2 c = search rules
 
-sub-left : tie.Need-overflow-sub-left invariant-loop decreases-loop
+sub-left : tie.Need-overflow_sub-left invariant-loop decreases-loop
 sub-left c = search rules
 
-add_at : tie.Need-overflow-add-at invariant-loop decreases-loop
+add_at : tie.Need-overflow_add-at invariant-loop decreases-loop
 add_at c = search rules
 
 loop-less : tie.Need-loop-smaller invariant-loop decreases-loop
@@ -43,7 +43,7 @@ start_spec =
     decreases-loop
     loop-holds
     returns
-    shared-slice-read-if2
+    shared_slice_read-if2
     sub-left
     add_at
     loop-less

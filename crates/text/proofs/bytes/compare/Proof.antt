@@ -18,11 +18,11 @@ shorter-requires c κs = search rules
 loop-holds : tie.Need-loop-init invariant-loop decreases-loop
 loop-holds c = order-start _ _
 
-shared-slice-read-left-byte : tie.Need-shared-slice-read-left-byte invariant-loop decreases-loop
-shared-slice-read-left-byte c = search rules
+shared_slice_read-left_byte : tie.Need-shared_slice_read-left_byte invariant-loop decreases-loop
+shared_slice_read-left_byte c = search rules
 
-shared-slice-read-right-byte : tie.Need-shared-slice-read-right-byte invariant-loop decreases-loop
-shared-slice-read-right-byte c = search rules
+shared_slice_read-right_byte : tie.Need-shared_slice_read-right_byte invariant-loop decreases-loop
+shared_slice_read-right_byte c = search rules
 
 returns : tie.Need-returns invariant-loop decreases-loop
 returns c = less-here c.before.before.before.before.loop.invariant (omega arith) (omega arith) (omega arith)
@@ -30,7 +30,7 @@ returns c = less-here c.before.before.before.before.loop.invariant (omega arith)
 returns-2 : tie.Need-returns-2 invariant-loop decreases-loop
 returns-2 c = greater-here c.before.before.before.before.before.loop.invariant (omega arith) (omega arith) (omega arith)
 
-add_at : tie.Need-overflow-add-at invariant-loop decreases-loop
+add_at : tie.Need-overflow_add-at invariant-loop decreases-loop
 add_at c = search rules
 
 loop-less : tie.Need-loop-smaller invariant-loop decreases-loop
@@ -48,16 +48,16 @@ returns-4 c = right-ended c.before.before.before.loop.invariant (omega arith) (o
 returns-5 : tie.Need-returns-5 invariant-loop decreases-loop
 returns-5 c = both-ended c.before.before.before.loop.invariant (omega arith) (omega arith)
 
-pub compare-spec : {M : Type 1} → statement M
-compare-spec =
+pub compare_spec : {M : Type 1} → statement M
+compare_spec =
     tie.close
     (tie.spec
     invariant-loop
     decreases-loop
     shorter-requires
     loop-holds
-    shared-slice-read-left-byte
-    shared-slice-read-right-byte
+    shared_slice_read-left_byte
+    shared_slice_read-right_byte
     returns
     returns-2
     add_at

@@ -19,16 +19,16 @@ returns c = unlike-lengths _ _ (omega arith)
 loop-holds : tie.Need-loop-init invariant-loop decreases-loop
 loop-holds c = equal-start _ _
 
-shared-slice-read-if2 : tie.Need-shared-slice-read-if2 invariant-loop decreases-loop
-shared-slice-read-if2 c = search rules
+shared_slice_read-if2 : tie.Need-shared_slice_read-if2 invariant-loop decreases-loop
+shared_slice_read-if2 c = search rules
 
-shared-slice-read-if2-2 : tie.Need-shared-slice-read-if2-2 invariant-loop decreases-loop
-shared-slice-read-if2-2 c = search rules
+shared_slice_read-if2-2 : tie.Need-shared_slice_read-if2-2 invariant-loop decreases-loop
+shared_slice_read-if2-2 c = search rules
 
 returns-2 : tie.Need-returns-2 invariant-loop decreases-loop
 returns-2 c = unlike-here c.before.before.before.before.loop.invariant (omega arith) (omega arith) (omega arith)
 
-add_at : tie.Need-overflow-add-at invariant-loop decreases-loop
+add_at : tie.Need-overflow_add-at invariant-loop decreases-loop
 add_at c = search rules
 
 loop-less : tie.Need-loop-smaller invariant-loop decreases-loop
@@ -40,16 +40,16 @@ loop-again c = alike-here c.before.before.before.before.loop.invariant (omega ar
 returns-3 : tie.Need-returns-3 invariant-loop decreases-loop
 returns-3 c = equal-ended c.before.loop.invariant (omega arith) (omega arith)
 
-pub equal-spec : {M : Type 1} → statement M
-equal-spec =
+pub equal_spec : {M : Type 1} → statement M
+equal_spec =
     tie.close
     (tie.spec
     invariant-loop
     decreases-loop
     returns
     loop-holds
-    shared-slice-read-if2
-    shared-slice-read-if2-2
+    shared_slice_read-if2
+    shared_slice_read-if2-2
     returns-2
     add_at
     loop-less

@@ -13,7 +13,7 @@ use borrow.Author.Rules.{rules}
 use Rattle.text.proofs.sequences.of_four.Statement.{statement}
 use Rattle.text.proofs.sequences.of_four.Tie as tie
 
-sub-if1 : tie.Need-overflow-sub-if1
+sub-if1 : tie.Need-overflow_sub-if1
 sub-if1 c = search rules
 
 returns : tie.Need-returns
@@ -23,17 +23,17 @@ returns c =
     let first = get_or a.part.now a.at 0 in
     breaks-off a.part.now a.at p.0 ((low_of first to high_of first) ∷ (0x80 to 0xBF) ∷ (0x80 to 0xBF) ∷ []) (four-opens first p.1 p.2) (omega arith)
 
-shared-slice-read-second-fits : tie.Need-shared-slice-read-second-fits
-shared-slice-read-second-fits c = search rules
+shared_slice_read-second_fits : tie.Need-shared_slice_read-second_fits
+shared_slice_read-second_fits c = search rules
 
-add-second-fits : tie.Need-overflow-add-second-fits
-add-second-fits c = search rules
+add-second_fits : tie.Need-overflow_add-second_fits
+add-second_fits c = search rules
 
-shared-slice-read-second-fits-2 : tie.Need-shared-slice-read-second-fits-2
-shared-slice-read-second-fits-2 c = search rules
+shared_slice_read-second_fits-2 : tie.Need-shared_slice_read-second_fits-2
+shared_slice_read-second_fits-2 c = search rules
 
-second-fits-requires : tie.Need-second-fits-requires
-second-fits-requires c κs = search rules
+second_fits-requires : tie.Need-second_fits-requires
+second_fits-requires c κs = search rules
 
 returns-2 : tie.Need-returns-2
 returns-2 c =
@@ -41,13 +41,13 @@ returns-2 c =
     let p = c.before.before.before.before.before.before.requires in
     let first = get_or a.part.now a.at 0 in
     three-more a.part.now a.at p.0 (low_of first to high_of first) (0x80 to 0xBF) (0x80 to 0xBF) false (inside (0x80 to 0xBF) (get_or a.part.now (a.at + 2) 0)) (inside (0x80 to 0xBF) (get_or a.part.now (a.at + 3) 0)) (four-opens first p.1 p.2) (omega arith)
-    (sym c.before.second-fits.ensures ∙ not-true _ c.if2.true) refl refl
+    (sym c.before.second_fits.ensures ∙ not-true _ c.if2.true) refl refl
 
-add-continues : tie.Need-overflow-add-continues
+add-continues : tie.Need-overflow_add-continues
 add-continues c = search rules
 
-shared-slice-read-continues : tie.Need-shared-slice-read-continues
-shared-slice-read-continues c = search rules
+shared_slice_read-continues : tie.Need-shared_slice_read-continues
+shared_slice_read-continues c = search rules
 
 continues-requires : tie.Need-continues-requires
 continues-requires c κs = search rules
@@ -58,13 +58,13 @@ returns-3 c =
     let p = c.before.before.before.before.before.before.before.before.before.requires in
     let first = get_or a.part.now a.at 0 in
     three-more a.part.now a.at p.0 (low_of first to high_of first) (0x80 to 0xBF) (0x80 to 0xBF) true false (inside (0x80 to 0xBF) (get_or a.part.now (a.at + 3) 0)) (four-opens first p.1 p.2) (omega arith)
-    (sym c.before.before.before.before.second-fits.ensures ∙ not-false _ c.before.before.before.if2.false) (sym c.before.continues.ensures ∙ not-true _ c.if3.true) refl
+    (sym c.before.before.before.before.second_fits.ensures ∙ not-false _ c.before.before.before.if2.false) (sym c.before.continues.ensures ∙ not-true _ c.if3.true) refl
 
-add-continues-2 : tie.Need-overflow-add-continues-2
+add-continues-2 : tie.Need-overflow_add-continues-2
 add-continues-2 c = search rules
 
-shared-slice-read-continues-2 : tie.Need-shared-slice-read-continues-2
-shared-slice-read-continues-2 c = search rules
+shared_slice_read-continues-2 : tie.Need-shared_slice_read-continues-2
+shared_slice_read-continues-2 c = search rules
 
 continues-requires-2 : tie.Need-continues-requires-2
 continues-requires-2 c κs = search rules
@@ -75,7 +75,7 @@ returns-4 c =
     let p = c.before.before.before.before.before.before.before.before.before.before.before.before.requires in
     let first = get_or a.part.now a.at 0 in
     three-more a.part.now a.at p.0 (low_of first to high_of first) (0x80 to 0xBF) (0x80 to 0xBF) true true true (four-opens first p.1 p.2) (omega arith)
-    (sym c.before.before.before.before.before.before.before.second-fits.ensures ∙ not-false _ c.before.before.before.before.before.before.if2.false) (sym c.before.before.before.before.continues.ensures ∙ not-false _ c.before.before.before.if3.false)
+    (sym c.before.before.before.before.before.before.before.second_fits.ensures ∙ not-false _ c.before.before.before.before.before.before.if2.false) (sym c.before.before.before.before.continues.ensures ∙ not-false _ c.before.before.before.if3.false)
     (sym c.before.continues2.ensures ∙ c.if4.true)
 
 returns-5 : tie.Need-returns-5
@@ -84,26 +84,26 @@ returns-5 c =
     let p = c.before.before.before.before.before.before.before.before.before.before.before.before.requires in
     let first = get_or a.part.now a.at 0 in
     three-more a.part.now a.at p.0 (low_of first to high_of first) (0x80 to 0xBF) (0x80 to 0xBF) true true false (four-opens first p.1 p.2) (omega arith)
-    (sym c.before.before.before.before.before.before.before.second-fits.ensures ∙ not-false _ c.before.before.before.before.before.before.if2.false) (sym c.before.before.before.before.continues.ensures ∙ not-false _ c.before.before.before.if3.false)
+    (sym c.before.before.before.before.before.before.before.second_fits.ensures ∙ not-false _ c.before.before.before.before.before.before.if2.false) (sym c.before.before.before.before.continues.ensures ∙ not-false _ c.before.before.before.if3.false)
     (sym c.before.continues2.ensures ∙ c.if4.false)
 
-pub of-four-spec : {M : Type 1} → statement M
-of-four-spec =
+pub of_four_spec : {M : Type 1} → statement M
+of_four_spec =
     tie.close
     (tie.spec
     sub-if1
     returns
-    shared-slice-read-second-fits
-    add-second-fits
-    shared-slice-read-second-fits-2
-    second-fits-requires
+    shared_slice_read-second_fits
+    add-second_fits
+    shared_slice_read-second_fits-2
+    second_fits-requires
     returns-2
     add-continues
-    shared-slice-read-continues
+    shared_slice_read-continues
     continues-requires
     returns-3
     add-continues-2
-    shared-slice-read-continues-2
+    shared_slice_read-continues-2
     continues-requires-2
     returns-4
     returns-5)

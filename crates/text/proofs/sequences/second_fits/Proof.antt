@@ -5,17 +5,17 @@ use borrow.Author.Rules.{rules}
 use Rattle.text.proofs.sequences.second_fits.Statement.{statement}
 use Rattle.text.proofs.sequences.second_fits.Tie as tie
 
-low-of-requires : tie.Need-low-of-requires
-low-of-requires c κs = search rules
+low_of-requires : tie.Need-low_of-requires
+low_of-requires c κs = search rules
 
-high-of-requires : tie.Need-high-of-requires
-high-of-requires c κs = search rules
+high_of-requires : tie.Need-high_of-requires
+high_of-requires c κs = search rules
 
 returns : tie.Need-returns
-returns c = rw (← c.before.before.low_of.ensures, ← c.high-of.ensures, inside-upper _ _ _ c.before.if1.true)
+returns c = rw (← c.before.before.low_of.ensures, ← c.high_of.ensures, inside-upper _ _ _ c.before.if1.true)
 
 returns-2 : tie.Need-returns-2
 returns-2 c = rw (← c.before.low_of.ensures, inside_under _ _ _ c.if1.false, lt-leb _ _ c.if1.false)
 
-pub second-fits-spec : {M : Type 1} → statement M
-second-fits-spec = tie.close (tie.spec low-of-requires high-of-requires returns returns-2)
+pub second_fits_spec : {M : Type 1} → statement M
+second_fits_spec = tie.close (tie.spec low_of-requires high_of-requires returns returns-2)

@@ -8,8 +8,8 @@ use borrow.Author.Rules.{rules}
 use Rattle.text.proofs.sequences.sequence.Statement.{statement}
 use Rattle.text.proofs.sequences.sequence.Tie as tie
 
-shared-slice-read-first : tie.Need-shared-slice-read-first
-shared-slice-read-first c = search rules
+shared_slice_read-first : tie.Need-shared_slice_read-first
+shared_slice_read-first c = search rules
 
 returns : tie.Need-returns
 unfolding table
@@ -22,14 +22,14 @@ returns-2 c =
     let a = c.before.before.before.before.args in
     none-opens a.part.now a.at c.before.before.before.before.requires (begins-none-under _ (omega arith) (omega arith))
 
-of-two-requires : tie.Need-of-two-requires
-of-two-requires c κs = search rules
+of_two-requires : tie.Need-of_two-requires
+of_two-requires c κs = search rules
 
 returns-3 : tie.Need-returns-3
 returns-3 c = search rules
 
-of-three-requires : tie.Need-of-three-requires
-of-three-requires c κs = search rules
+of_three-requires : tie.Need-of_three-requires
+of_three-requires c κs = search rules
 
 returns-4 : tie.Need-returns-4
 returns-4 c = search rules
@@ -39,23 +39,23 @@ returns-5 c =
     let a = c.before.before.before.before.before.before.before.args in
     none-opens a.part.now a.at c.before.before.before.before.before.before.before.requires (begins-none-over _ (omega arith))
 
-of-four-requires : tie.Need-of-four-requires
-of-four-requires c κs = search rules
+of_four-requires : tie.Need-of_four-requires
+of_four-requires c κs = search rules
 
 returns-6 : tie.Need-returns-6
 returns-6 c = search rules
 
-pub sequence-spec : {M : Type 1} → statement M
-sequence-spec =
+pub sequence_spec : {M : Type 1} → statement M
+sequence_spec =
     tie.close
     (tie.spec
-    shared-slice-read-first
+    shared_slice_read-first
     returns
     returns-2
-    of-two-requires
+    of_two-requires
     returns-3
-    of-three-requires
+    of_three-requires
     returns-4
     returns-5
-    of-four-requires
+    of_four-requires
     returns-6)

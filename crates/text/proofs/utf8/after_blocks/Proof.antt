@@ -18,7 +18,7 @@ decreases-loop part first block at₀ at = length part - at
 loop-holds : tie.Need-loop-init invariant-loop decreases-loop
 loop-holds c = passes-start c.before.requires.0
 
-sub-loop : tie.Need-overflow-sub-loop invariant-loop decreases-loop
+sub-loop : tie.Need-overflow_sub-loop invariant-loop decreases-loop
 sub-loop c = c.loop.invariant.within
 
 ascii-requires : tie.Need-ascii-requires invariant-loop decreases-loop
@@ -27,7 +27,7 @@ ascii-requires c κs = omega (arith, c.before.loop.invariant.within)
 returns : tie.Need-returns invariant-loop decreases-loop
 returns c = c.before.before.before.loop.invariant
 
-add_at : tie.Need-overflow-add-at invariant-loop decreases-loop
+add_at : tie.Need-overflow_add-at invariant-loop decreases-loop
 add_at c = omega (arith, c.before.before.before.loop.invariant.within)
 
 loop-less : tie.Need-loop-smaller invariant-loop decreases-loop
@@ -42,8 +42,8 @@ loop-again c =
 returns-2 : tie.Need-returns-2 invariant-loop decreases-loop
 returns-2 c = c.before.loop.invariant
 
-pub after-blocks-spec : {M : Type 1} → statement M
-after-blocks-spec =
+pub after_blocks_spec : {M : Type 1} → statement M
+after_blocks_spec =
     tie.close
     (tie.spec
     invariant-loop

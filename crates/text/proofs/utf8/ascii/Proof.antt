@@ -17,13 +17,13 @@ decreases-loop part at count seen₀ done₀ seen done = count - done
 loop-holds : tie.Need-loop-init invariant-loop decreases-loop
 loop-holds c = (omega arith, refl)
 
-add-seen : tie.Need-overflow-add-seen invariant-loop decreases-loop
+add-seen : tie.Need-overflow_add-seen invariant-loop decreases-loop
 add-seen c = search rules
 
-shared-slice-read-seen : tie.Need-shared-slice-read-seen invariant-loop decreases-loop
-shared-slice-read-seen c = search rules
+shared_slice_read-seen : tie.Need-shared_slice_read-seen invariant-loop decreases-loop
+shared_slice_read-seen c = search rules
 
-add_done : tie.Need-overflow-add-done invariant-loop decreases-loop
+add_done : tie.Need-overflow_add-done invariant-loop decreases-loop
 add_done c = search rules
 
 loop-less : tie.Need-loop-smaller invariant-loop decreases-loop
@@ -38,15 +38,15 @@ returns c =
     let e : l.done ≡ c.before.before.args.count = omega (arith, l.invariant.0) in
     rw (l.invariant.1, e)
 
-pub ascii-spec : {M : Type 1} → statement M
-ascii-spec =
+pub ascii_spec : {M : Type 1} → statement M
+ascii_spec =
     tie.close
     (tie.spec
     invariant-loop
     decreases-loop
     loop-holds
     add-seen
-    shared-slice-read-seen
+    shared_slice_read-seen
     add_done
     loop-less
     loop-again

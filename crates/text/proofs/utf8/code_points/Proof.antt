@@ -19,16 +19,16 @@ decreases-loop part count₀ at₀ count at = length part - at
 loop-holds : tie.Need-loop-init invariant-loop decreases-loop
 loop-holds c = count-start _
 
-shared-slice-read-continues : tie.Need-shared-slice-read-continues invariant-loop decreases-loop
-shared-slice-read-continues c = search rules
+shared_slice_read-continues : tie.Need-shared_slice_read-continues invariant-loop decreases-loop
+shared_slice_read-continues c = search rules
 
 continues-requires : tie.Need-continues-requires invariant-loop decreases-loop
 continues-requires c κs = search rules
 
-add-count : tie.Need-overflow-add-count invariant-loop decreases-loop
+add-count : tie.Need-overflow_add-count invariant-loop decreases-loop
 add-count c = search rules
 
-add_at : tie.Need-overflow-add-at invariant-loop decreases-loop
+add_at : tie.Need-overflow_add-at invariant-loop decreases-loop
 add_at c = search rules
 
 loop-less : tie.Need-loop-smaller invariant-loop decreases-loop
@@ -46,14 +46,14 @@ loop-again c =
 returns : tie.Need-returns invariant-loop decreases-loop
 returns c = count-ended c.before.loop.invariant (omega arith)
 
-pub code-points-spec : {M : Type 1} → statement M
-code-points-spec =
+pub code_points_spec : {M : Type 1} → statement M
+code_points_spec =
     tie.close
     (tie.spec
     invariant-loop
     decreases-loop
     loop-holds
-    shared-slice-read-continues
+    shared_slice_read-continues
     continues-requires
     add-count
     add_at

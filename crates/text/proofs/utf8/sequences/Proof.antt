@@ -24,7 +24,7 @@ returns c =
     passes-nowhere c.before.before.before.loop.invariant (omega (arith, c.before.before.before.before.before.requires.1))
     (sym c.if1.true ∙ c.before.sequence.ensures)
 
-add_at : tie.Need-overflow-add-at invariant-loop decreases-loop
+add_at : tie.Need-overflow_add-at invariant-loop decreases-loop
 add_at c =
     let w = passes-sequence c.before.before.before.loop.invariant (omega (arith, c.before.before.before.before.before.requires.1)) c.before.sequence.ensures
     c.if1.false in
@@ -41,8 +41,8 @@ loop-again c =
 returns-2 : tie.Need-returns-2 invariant-loop decreases-loop
 returns-2 c = (c.before.loop.invariant, omega arith)
 
-pub sequences-spec : {M : Type 1} → statement M
-sequences-spec =
+pub sequences_spec : {M : Type 1} → statement M
+sequences_spec =
     tie.close
     (tie.spec
     invariant-loop

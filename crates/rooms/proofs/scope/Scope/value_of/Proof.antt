@@ -9,20 +9,20 @@ use Rattle.rooms.proofs.scope.Scope.value_of.Reads as reads
 use Rattle.rooms.proofs.scope.Scope.value_of.Lts as lts
 use Rattle.rooms.proofs.Scopes.{read-slot, no_slot, mapped-length}
 
-mul-slot : tie.Need-overflow-mul-slot
+mul-slot : tie.Need-overflow_mul-slot
 mul-slot c = search rules
 
-element-copy-out-slot : tie.Need-element-copy-out-slot
-element-copy-out-slot c = search rules
+element_copy_out-slot : tie.Need-element_copy_out-slot
+element_copy_out-slot c = search rules
 
 whole : (c : lts.Else1 reads.Pre reads.Post) → length c.before.args.t1.slots ≡ 128
-whole c = mapped-length c.before.args.t1.slots _ 128 c.before.well-formed.0.1.1.0.1.0.1
+whole c = mapped-length c.before.args.t1.slots _ 128 c.before.well_formed.0.1.1.0.1.0.1
 
 returns : tie.Need-returns
-returns c = read-slot c.before.before.args.t1 c.before.before.args.name _ (mapped-length c.before.before.args.t1.slots _ 128 c.before.before.well-formed.0.1.1.0.1.0.1) (omega arith)
+returns c = read-slot c.before.before.args.t1 c.before.before.args.name _ (mapped-length c.before.before.args.t1.slots _ 128 c.before.before.well_formed.0.1.1.0.1.0.1) (omega arith)
 
 returns-2 : tie.Need-returns-2
 returns-2 c = sym (no_slot c.before.args.t1 c.before.args.name (whole c) (omega arith))
 
-pub value-of-spec : {M : Type 1} → statement M
-value-of-spec = tie.close (tie.spec mul-slot element-copy-out-slot returns returns-2)
+pub value_of_spec : {M : Type 1} → statement M
+value_of_spec = tie.close (tie.spec mul-slot element_copy_out-slot returns returns-2)

@@ -9,20 +9,20 @@ use Rattle.rooms.proofs.scope.Scope.with.Reads as reads
 use Rattle.rooms.proofs.scope.Scope.with.Lts as lts
 use Rattle.rooms.proofs.Scopes.{none-stored, mapped-length}
 
-mul-slot : tie.Need-overflow-mul-slot
+mul-slot : tie.Need-overflow_mul-slot
 mul-slot c = search rules
 
-element-set-from-slot : tie.Need-element-set-from-slot
-element-set-from-slot c = search rules
+element_set_from-slot : tie.Need-element_set_from-slot
+element_set_from-slot c = search rules
 
 returns : tie.Need-returns
 returns c = search rules
 
 whole : (c : lts.Else1 reads.Pre reads.Post) → length c.before.args.scope.slots ≡ 128
-whole c = mapped-length c.before.args.scope.slots _ 128 c.before.well-formed.0.1.1.0.1.0.1
+whole c = mapped-length c.before.args.scope.slots _ 128 c.before.well_formed.0.1.1.0.1.0.1
 
 returns-2 : tie.Need-returns-2
 returns-2 c = sym (none-stored c.before.args.scope c.before.args.name c.before.args.value (whole c) (omega arith))
 
-pub with-spec : {M : Type 1} → statement M
-with-spec = tie.close (tie.spec mul-slot element-set-from-slot returns returns-2)
+pub with_spec : {M : Type 1} → statement M
+with_spec = tie.close (tie.spec mul-slot element_set_from-slot returns returns-2)

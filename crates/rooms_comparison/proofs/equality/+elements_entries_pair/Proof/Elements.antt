@@ -21,39 +21,39 @@ elements-μ-loop literal binding-cells binding-text cells text limit depth space
 pub elements-loop-holds : (t : ℕ) → elements-lts.Need-loop-init (elements-claims t) (elements-at t) elements.Post elements-Inv-loop elements-μ-loop
 elements-loop-holds t c = (omega (arith, c.before.before.before.before.before.ranges.first.fits, c.before.before.before.before.before.ranges.length.fits), omega (arith, c.before.before.before.before.before.ranges.from.fits, c.before.before.before.before.before.ranges.length.fits), refl)
 
-pub elements-cell-at-requires : (t : ℕ) → elements-lts.Need-cell-at-requires (elements-claims t) (elements-at t) elements.Post elements-Inv-loop elements-μ-loop
+pub elements-cell-at-requires : (t : ℕ) → elements-lts.Need-cell_at-requires (elements-claims t) (elements-at t) elements.Post elements-Inv-loop elements-μ-loop
 elements-cell-at-requires t c κs = search rules
 
-pub elements-cell-at-requires-2 : (t : ℕ) → elements-lts.Need-cell-at-requires-2 (elements-claims t) (elements-at t) elements.Post elements-Inv-loop elements-μ-loop
+pub elements-cell-at-requires-2 : (t : ℕ) → elements-lts.Need-cell_at-requires-2 (elements-claims t) (elements-at t) elements.Post elements-Inv-loop elements-μ-loop
 elements-cell-at-requires-2 t c κs = search rules
 
 pub elements-pair-requires : (t : ℕ) → elements-lts.Need-pair-requires (elements-claims t) (elements-at t) elements.Post elements-Inv-loop elements-μ-loop
 elements-pair-requires t c κs = (omega (arith, c.before.before.before.before.before.before.before.before.before.requires.0), tt)
 
-pub elements-enum-known-more : (t : ℕ) → elements-lts.Need-enum-known-more (elements-claims t) (elements-at t) elements.Post elements-Inv-loop elements-μ-loop
+pub elements-enum-known-more : (t : ℕ) → elements-lts.Need-enum_known-more (elements-claims t) (elements-at t) elements.Post elements-Inv-loop elements-μ-loop
 elements-enum-known-more t c = search rules
 
-pub elements-enum-known-more-2 : (t : ℕ) → elements-lts.Need-enum-known-more-2 (elements-claims t) (elements-at t) elements.Post elements-Inv-loop elements-μ-loop
+pub elements-enum-known-more-2 : (t : ℕ) → elements-lts.Need-enum_known-more-2 (elements-claims t) (elements-at t) elements.Post elements-Inv-loop elements-μ-loop
 elements-enum-known-more-2 t c = search rules
 
 pub elements-returns : (t : ℕ) → elements-lts.Need-returns (elements-claims t) (elements-at t) elements.Post elements-Inv-loop elements-μ-loop
 unfolding cell_at
-elements-returns t c = elements-unlike (λ (v w : Value) (j : ℕ). equal_in c.before.before.before.before.before.before.before.before.before.before.before.before.before.args.depth c.before.before.before.before.before.before.before.before.before.before.before.before.before.args.limit (rooms c.before.before.before.before.before.before.before.before.before.before.before.before.before.args.literal.now c.before.before.before.before.before.before.before.before.before.before.before.before.before.args.binding-cells.now c.before.before.before.before.before.before.before.before.before.before.before.before.before.args.binding-text.now c.before.before.before.before.before.before.before.before.before.before.before.before.before.args.cells.now c.before.before.before.before.before.before.before.before.before.before.before.before.before.args.text.now) v w j) (rooms c.before.before.before.before.before.before.before.before.before.before.before.before.before.args.literal.now c.before.before.before.before.before.before.before.before.before.before.before.before.before.args.binding-cells.now c.before.before.before.before.before.before.before.before.before.before.before.before.before.args.binding-text.now c.before.before.before.before.before.before.before.before.before.before.before.before.before.args.cells.now c.before.before.before.before.before.before.before.before.before.before.before.before.before.args.text.now) c.before.before.before.before.before.before.before.before.before.before.before.before.before.args.space c.before.before.before.before.before.before.before.before.before.before.before.before.before.args.there c.before.before.before.before.before.before.before.loop.at c.before.before.before.before.before.before.before.loop.other c.before.before.before.before.before.before.before.loop.left c.before.before.before.before.before.before.before.loop.pairs c.before.more2.given.0.0 c.before.before.before.pair.result c.before.before.before.before.before.before.loop-test.true (c.before.before.before.pair.ensures ∙ (λ i. equal_in c.before.before.before.before.before.before.before.before.before.before.before.before.before.args.depth c.before.before.before.before.before.before.before.before.before.before.before.before.before.args.limit (rooms c.before.before.before.before.before.before.before.before.before.before.before.before.before.args.literal.now c.before.before.before.before.before.before.before.before.before.before.before.before.before.args.binding-cells.now c.before.before.before.before.before.before.before.before.before.before.before.before.before.args.binding-text.now c.before.before.before.before.before.before.before.before.before.before.before.before.before.args.cells.now c.before.before.before.before.before.before.before.before.before.before.before.before.before.args.text.now) (c.before.before.before.before.before.Cell-at.ensures i) (c.before.before.before.before.cell-at2.ensures i) c.before.before.before.before.before.before.before.loop.pairs)) c.before.more2.given.1 ∙ c.before.before.before.before.before.before.before.loop.invariant.2
+elements-returns t c = elements-unlike (λ (v w : Value) (j : ℕ). equal_in c.before.before.before.before.before.before.before.before.before.before.before.before.before.args.depth c.before.before.before.before.before.before.before.before.before.before.before.before.before.args.limit (rooms c.before.before.before.before.before.before.before.before.before.before.before.before.before.args.literal.now c.before.before.before.before.before.before.before.before.before.before.before.before.before.args.binding_cells.now c.before.before.before.before.before.before.before.before.before.before.before.before.before.args.binding_text.now c.before.before.before.before.before.before.before.before.before.before.before.before.before.args.cells.now c.before.before.before.before.before.before.before.before.before.before.before.before.before.args.text.now) v w j) (rooms c.before.before.before.before.before.before.before.before.before.before.before.before.before.args.literal.now c.before.before.before.before.before.before.before.before.before.before.before.before.before.args.binding_cells.now c.before.before.before.before.before.before.before.before.before.before.before.before.before.args.binding_text.now c.before.before.before.before.before.before.before.before.before.before.before.before.before.args.cells.now c.before.before.before.before.before.before.before.before.before.before.before.before.before.args.text.now) c.before.before.before.before.before.before.before.before.before.before.before.before.before.args.space c.before.before.before.before.before.before.before.before.before.before.before.before.before.args.there c.before.before.before.before.before.before.before.loop.at c.before.before.before.before.before.before.before.loop.other c.before.before.before.before.before.before.before.loop.left c.before.before.before.before.before.before.before.loop.pairs c.before.more2.given.0.0 c.before.before.before.pair.result c.before.before.before.before.before.before.loop-test.true (c.before.before.before.pair.ensures ∙ (λ i. equal_in c.before.before.before.before.before.before.before.before.before.before.before.before.before.args.depth c.before.before.before.before.before.before.before.before.before.before.before.before.before.args.limit (rooms c.before.before.before.before.before.before.before.before.before.before.before.before.before.args.literal.now c.before.before.before.before.before.before.before.before.before.before.before.before.before.args.binding_cells.now c.before.before.before.before.before.before.before.before.before.before.before.before.before.args.binding_text.now c.before.before.before.before.before.before.before.before.before.before.before.before.before.args.cells.now c.before.before.before.before.before.before.before.before.before.before.before.before.before.args.text.now) (c.before.before.before.before.before.Cell-at.ensures i) (c.before.before.before.before.cell_at2.ensures i) c.before.before.before.before.before.before.before.loop.pairs)) c.before.more2.given.1 ∙ c.before.before.before.before.before.before.before.loop.invariant.2
 
-pub elements-enum-known-more-3 : (t : ℕ) → elements-lts.Need-enum-known-more-3 (elements-claims t) (elements-at t) elements.Post elements-Inv-loop elements-μ-loop
+pub elements-enum-known-more-3 : (t : ℕ) → elements-lts.Need-enum_known-more-3 (elements-claims t) (elements-at t) elements.Post elements-Inv-loop elements-μ-loop
 elements-enum-known-more-3 t c = search rules
 
 pub elements-returns-2 : (t : ℕ) → elements-lts.Need-returns-2 (elements-claims t) (elements-at t) elements.Post elements-Inv-loop elements-μ-loop
 unfolding cell_at
-elements-returns-2 t c = elements-out (λ (v w : Value) (j : ℕ). equal_in c.before.before.before.before.before.before.before.before.before.before.before.before.before.args.depth c.before.before.before.before.before.before.before.before.before.before.before.before.before.args.limit (rooms c.before.before.before.before.before.before.before.before.before.before.before.before.before.args.literal.now c.before.before.before.before.before.before.before.before.before.before.before.before.before.args.binding-cells.now c.before.before.before.before.before.before.before.before.before.before.before.before.before.args.binding-text.now c.before.before.before.before.before.before.before.before.before.before.before.before.before.args.cells.now c.before.before.before.before.before.before.before.before.before.before.before.before.before.args.text.now) v w j) (rooms c.before.before.before.before.before.before.before.before.before.before.before.before.before.args.literal.now c.before.before.before.before.before.before.before.before.before.before.before.before.before.args.binding-cells.now c.before.before.before.before.before.before.before.before.before.before.before.before.before.args.binding-text.now c.before.before.before.before.before.before.before.before.before.before.before.before.before.args.cells.now c.before.before.before.before.before.before.before.before.before.before.before.before.before.args.text.now) c.before.before.before.before.before.before.before.before.before.before.before.before.before.args.space c.before.before.before.before.before.before.before.before.before.before.before.before.before.args.there c.before.before.before.before.before.before.before.loop.at c.before.before.before.before.before.before.before.loop.other c.before.before.before.before.before.before.before.loop.left c.before.before.before.before.before.before.before.loop.pairs c.before.more3.given.0.0 c.before.before.before.pair.result c.before.before.before.before.before.before.loop-test.true (c.before.before.before.pair.ensures ∙ (λ i. equal_in c.before.before.before.before.before.before.before.before.before.before.before.before.before.args.depth c.before.before.before.before.before.before.before.before.before.before.before.before.before.args.limit (rooms c.before.before.before.before.before.before.before.before.before.before.before.before.before.args.literal.now c.before.before.before.before.before.before.before.before.before.before.before.before.before.args.binding-cells.now c.before.before.before.before.before.before.before.before.before.before.before.before.before.args.binding-text.now c.before.before.before.before.before.before.before.before.before.before.before.before.before.args.cells.now c.before.before.before.before.before.before.before.before.before.before.before.before.before.args.text.now) (c.before.before.before.before.before.Cell-at.ensures i) (c.before.before.before.before.cell-at2.ensures i) c.before.before.before.before.before.before.before.loop.pairs)) c.before.more3.given.1 ∙ c.before.before.before.before.before.before.before.loop.invariant.2
+elements-returns-2 t c = elements-out (λ (v w : Value) (j : ℕ). equal_in c.before.before.before.before.before.before.before.before.before.before.before.before.before.args.depth c.before.before.before.before.before.before.before.before.before.before.before.before.before.args.limit (rooms c.before.before.before.before.before.before.before.before.before.before.before.before.before.args.literal.now c.before.before.before.before.before.before.before.before.before.before.before.before.before.args.binding_cells.now c.before.before.before.before.before.before.before.before.before.before.before.before.before.args.binding_text.now c.before.before.before.before.before.before.before.before.before.before.before.before.before.args.cells.now c.before.before.before.before.before.before.before.before.before.before.before.before.before.args.text.now) v w j) (rooms c.before.before.before.before.before.before.before.before.before.before.before.before.before.args.literal.now c.before.before.before.before.before.before.before.before.before.before.before.before.before.args.binding_cells.now c.before.before.before.before.before.before.before.before.before.before.before.before.before.args.binding_text.now c.before.before.before.before.before.before.before.before.before.before.before.before.before.args.cells.now c.before.before.before.before.before.before.before.before.before.before.before.before.before.args.text.now) c.before.before.before.before.before.before.before.before.before.before.before.before.before.args.space c.before.before.before.before.before.before.before.before.before.before.before.before.before.args.there c.before.before.before.before.before.before.before.loop.at c.before.before.before.before.before.before.before.loop.other c.before.before.before.before.before.before.before.loop.left c.before.before.before.before.before.before.before.loop.pairs c.before.more3.given.0.0 c.before.before.before.pair.result c.before.before.before.before.before.before.loop-test.true (c.before.before.before.pair.ensures ∙ (λ i. equal_in c.before.before.before.before.before.before.before.before.before.before.before.before.before.args.depth c.before.before.before.before.before.before.before.before.before.before.before.before.before.args.limit (rooms c.before.before.before.before.before.before.before.before.before.before.before.before.before.args.literal.now c.before.before.before.before.before.before.before.before.before.before.before.before.before.args.binding_cells.now c.before.before.before.before.before.before.before.before.before.before.before.before.before.args.binding_text.now c.before.before.before.before.before.before.before.before.before.before.before.before.before.args.cells.now c.before.before.before.before.before.before.before.before.before.before.before.before.before.args.text.now) (c.before.before.before.before.before.Cell-at.ensures i) (c.before.before.before.before.cell_at2.ensures i) c.before.before.before.before.before.before.before.loop.pairs)) c.before.more3.given.1 ∙ c.before.before.before.before.before.before.before.loop.invariant.2
 
-pub elements-add-at : (t : ℕ) → elements-lts.Need-overflow-add-at (elements-claims t) (elements-at t) elements.Post elements-Inv-loop elements-μ-loop
+pub elements-add-at : (t : ℕ) → elements-lts.Need-overflow_add-at (elements-claims t) (elements-at t) elements.Post elements-Inv-loop elements-μ-loop
 elements-add-at t c = search rules
 
-pub elements-add-other : (t : ℕ) → elements-lts.Need-overflow-add-other (elements-claims t) (elements-at t) elements.Post elements-Inv-loop elements-μ-loop
+pub elements-add-other : (t : ℕ) → elements-lts.Need-overflow_add-other (elements-claims t) (elements-at t) elements.Post elements-Inv-loop elements-μ-loop
 elements-add-other t c = search rules
 
-pub elements-sub-left : (t : ℕ) → elements-lts.Need-overflow-sub-left (elements-claims t) (elements-at t) elements.Post elements-Inv-loop elements-μ-loop
+pub elements-sub-left : (t : ℕ) → elements-lts.Need-overflow_sub-left (elements-claims t) (elements-at t) elements.Post elements-Inv-loop elements-μ-loop
 elements-sub-left t c = search rules
 
 pub elements-loop-less : (t : ℕ) → elements-lts.Need-loop-smaller (elements-claims t) (elements-at t) elements.Post elements-Inv-loop elements-μ-loop
@@ -61,7 +61,7 @@ elements-loop-less t c = search rules
 
 pub elements-loop-again : (t : ℕ) → elements-lts.Need-loop-preserved (elements-claims t) (elements-at t) elements.Post elements-Inv-loop elements-μ-loop
 unfolding cell_at
-elements-loop-again t c = (omega arith, omega arith, elements-on (λ (v w : Value) (j : ℕ). equal_in c.before.before.before.before.before.before.before.before.before.before.before.before.before.args.depth c.before.before.before.before.before.before.before.before.before.before.before.before.before.args.limit (rooms c.before.before.before.before.before.before.before.before.before.before.before.before.before.args.literal.now c.before.before.before.before.before.before.before.before.before.before.before.before.before.args.binding-cells.now c.before.before.before.before.before.before.before.before.before.before.before.before.before.args.binding-text.now c.before.before.before.before.before.before.before.before.before.before.before.before.before.args.cells.now c.before.before.before.before.before.before.before.before.before.before.before.before.before.args.text.now) v w j) (rooms c.before.before.before.before.before.before.before.before.before.before.before.before.before.args.literal.now c.before.before.before.before.before.before.before.before.before.before.before.before.before.args.binding-cells.now c.before.before.before.before.before.before.before.before.before.before.before.before.before.args.binding-text.now c.before.before.before.before.before.before.before.before.before.before.before.before.before.args.cells.now c.before.before.before.before.before.before.before.before.before.before.before.before.before.args.text.now) c.before.before.before.before.before.before.before.before.before.before.before.before.before.args.space c.before.before.before.before.before.before.before.before.before.before.before.before.before.args.there c.before.before.before.before.before.before.before.loop.at c.before.before.before.before.before.before.before.loop.other c.before.before.before.before.before.before.before.loop.left c.before.before.before.before.before.before.before.loop.pairs c.before.more.given.0.0 c.before.before.before.pair.result c.before.before.before.before.before.before.loop-test.true (c.before.before.before.pair.ensures ∙ (λ i. equal_in c.before.before.before.before.before.before.before.before.before.before.before.before.before.args.depth c.before.before.before.before.before.before.before.before.before.before.before.before.before.args.limit (rooms c.before.before.before.before.before.before.before.before.before.before.before.before.before.args.literal.now c.before.before.before.before.before.before.before.before.before.before.before.before.before.args.binding-cells.now c.before.before.before.before.before.before.before.before.before.before.before.before.before.args.binding-text.now c.before.before.before.before.before.before.before.before.before.before.before.before.before.args.cells.now c.before.before.before.before.before.before.before.before.before.before.before.before.before.args.text.now) (c.before.before.before.before.before.Cell-at.ensures i) (c.before.before.before.before.cell-at2.ensures i) c.before.before.before.before.before.before.before.loop.pairs)) c.before.more.given.1 ∙ c.before.before.before.before.before.before.before.loop.invariant.2)
+elements-loop-again t c = (omega arith, omega arith, elements-on (λ (v w : Value) (j : ℕ). equal_in c.before.before.before.before.before.before.before.before.before.before.before.before.before.args.depth c.before.before.before.before.before.before.before.before.before.before.before.before.before.args.limit (rooms c.before.before.before.before.before.before.before.before.before.before.before.before.before.args.literal.now c.before.before.before.before.before.before.before.before.before.before.before.before.before.args.binding_cells.now c.before.before.before.before.before.before.before.before.before.before.before.before.before.args.binding_text.now c.before.before.before.before.before.before.before.before.before.before.before.before.before.args.cells.now c.before.before.before.before.before.before.before.before.before.before.before.before.before.args.text.now) v w j) (rooms c.before.before.before.before.before.before.before.before.before.before.before.before.before.args.literal.now c.before.before.before.before.before.before.before.before.before.before.before.before.before.args.binding_cells.now c.before.before.before.before.before.before.before.before.before.before.before.before.before.args.binding_text.now c.before.before.before.before.before.before.before.before.before.before.before.before.before.args.cells.now c.before.before.before.before.before.before.before.before.before.before.before.before.before.args.text.now) c.before.before.before.before.before.before.before.before.before.before.before.before.before.args.space c.before.before.before.before.before.before.before.before.before.before.before.before.before.args.there c.before.before.before.before.before.before.before.loop.at c.before.before.before.before.before.before.before.loop.other c.before.before.before.before.before.before.before.loop.left c.before.before.before.before.before.before.before.loop.pairs c.before.more.given.0.0 c.before.before.before.pair.result c.before.before.before.before.before.before.loop-test.true (c.before.before.before.pair.ensures ∙ (λ i. equal_in c.before.before.before.before.before.before.before.before.before.before.before.before.before.args.depth c.before.before.before.before.before.before.before.before.before.before.before.before.before.args.limit (rooms c.before.before.before.before.before.before.before.before.before.before.before.before.before.args.literal.now c.before.before.before.before.before.before.before.before.before.before.before.before.before.args.binding_cells.now c.before.before.before.before.before.before.before.before.before.before.before.before.before.args.binding_text.now c.before.before.before.before.before.before.before.before.before.before.before.before.before.args.cells.now c.before.before.before.before.before.before.before.before.before.before.before.before.before.args.text.now) (c.before.before.before.before.before.Cell-at.ensures i) (c.before.before.before.before.cell_at2.ensures i) c.before.before.before.before.before.before.before.loop.pairs)) c.before.more.given.1 ∙ c.before.before.before.before.before.before.before.loop.invariant.2)
 
 pub elements-returns-3 : (t : ℕ) → elements-lts.Need-returns-3 (elements-claims t) (elements-at t) elements.Post elements-Inv-loop elements-μ-loop
-elements-returns-3 t c = elements-none (λ (v w : Value) (j : ℕ). equal_in c.before.before.before.before.before.before.before.args.depth c.before.before.before.before.before.before.before.args.limit (rooms c.before.before.before.before.before.before.before.args.literal.now c.before.before.before.before.before.before.before.args.binding-cells.now c.before.before.before.before.before.before.before.args.binding-text.now c.before.before.before.before.before.before.before.args.cells.now c.before.before.before.before.before.before.before.args.text.now) v w j) (rooms c.before.before.before.before.before.before.before.args.literal.now c.before.before.before.before.before.before.before.args.binding-cells.now c.before.before.before.before.before.before.before.args.binding-text.now c.before.before.before.before.before.before.before.args.cells.now c.before.before.before.before.before.before.before.args.text.now) c.before.before.before.before.before.before.before.args.space c.before.before.before.before.before.before.before.args.there c.before.loop.at c.before.loop.other c.before.loop.left c.before.loop.pairs c.loop-test.false ∙ c.before.loop.invariant.2
+elements-returns-3 t c = elements-none (λ (v w : Value) (j : ℕ). equal_in c.before.before.before.before.before.before.before.args.depth c.before.before.before.before.before.before.before.args.limit (rooms c.before.before.before.before.before.before.before.args.literal.now c.before.before.before.before.before.before.before.args.binding_cells.now c.before.before.before.before.before.before.before.args.binding_text.now c.before.before.before.before.before.before.before.args.cells.now c.before.before.before.before.before.before.before.args.text.now) v w j) (rooms c.before.before.before.before.before.before.before.args.literal.now c.before.before.before.before.before.before.before.args.binding_cells.now c.before.before.before.before.before.before.before.args.binding_text.now c.before.before.before.before.before.before.before.args.cells.now c.before.before.before.before.before.before.before.args.text.now) c.before.before.before.before.before.before.before.args.space c.before.before.before.before.before.before.before.args.there c.before.loop.at c.before.loop.other c.before.loop.left c.before.loop.pairs c.loop-test.false ∙ c.before.loop.invariant.2

@@ -22,62 +22,62 @@ entries-μ-loop literal binding-cells binding-text cells text limit depth space 
 pub entries-loop-holds : (t : ℕ) → entries-lts.Need-loop-init (entries-claims t) (entries_at t) entries.Post entries-Inv-loop entries-μ-loop
 entries-loop-holds t c = (omega (arith, c.before.before.before.before.before.ranges.first.fits, c.before.before.before.before.before.ranges.length.fits), refl)
 
-pub entries-cell-at-requires : (t : ℕ) → entries-lts.Need-cell-at-requires (entries-claims t) (entries_at t) entries.Post entries-Inv-loop entries-μ-loop
+pub entries-cell-at-requires : (t : ℕ) → entries-lts.Need-cell_at-requires (entries-claims t) (entries_at t) entries.Post entries-Inv-loop entries-μ-loop
 entries-cell-at-requires t c κs = search rules
 
 pub entries-find-requires : (t : ℕ) → entries-lts.Need-find-requires (entries-claims t) (entries_at t) entries.Post entries-Inv-loop entries-μ-loop
 entries-find-requires t c κs = search rules
 
-pub entries-enum-known-cell : (t : ℕ) → entries-lts.Need-enum-known-cell (entries-claims t) (entries_at t) entries.Post entries-Inv-loop entries-μ-loop
+pub entries-enum-known-cell : (t : ℕ) → entries-lts.Need-enum_known-cell (entries-claims t) (entries_at t) entries.Post entries-Inv-loop entries-μ-loop
 entries-enum-known-cell t c = search rules
 
-pub entries-add-cell-at : (t : ℕ) → entries-lts.Need-overflow-add-cell-at (entries-claims t) (entries_at t) entries.Post entries-Inv-loop entries-μ-loop
+pub entries-add-cell-at : (t : ℕ) → entries-lts.Need-overflow_add-cell_at (entries-claims t) (entries_at t) entries.Post entries-Inv-loop entries-μ-loop
 entries-add-cell-at t c = search rules
 
-pub entries-cell-at-requires-2 : (t : ℕ) → entries-lts.Need-cell-at-requires-2 (entries-claims t) (entries_at t) entries.Post entries-Inv-loop entries-μ-loop
+pub entries-cell-at-requires-2 : (t : ℕ) → entries-lts.Need-cell_at-requires-2 (entries-claims t) (entries_at t) entries.Post entries-Inv-loop entries-μ-loop
 entries-cell-at-requires-2 t c κs = search rules
 
-pub entries-cell-at-requires-3 : (t : ℕ) → entries-lts.Need-cell-at-requires-3 (entries-claims t) (entries_at t) entries.Post entries-Inv-loop entries-μ-loop
+pub entries-cell-at-requires-3 : (t : ℕ) → entries-lts.Need-cell_at-requires-3 (entries-claims t) (entries_at t) entries.Post entries-Inv-loop entries-μ-loop
 entries-cell-at-requires-3 t c κs = search rules
 
 pub entries-pair-requires : (t : ℕ) → entries-lts.Need-pair-requires (entries-claims t) (entries_at t) entries.Post entries-Inv-loop entries-μ-loop
 entries-pair-requires t c κs = (omega (arith, c.before.before.before.before.before.before.before.before.before.before.before.before.before.before.requires.0), tt)
 
-pub entries-enum-known-more : (t : ℕ) → entries-lts.Need-enum-known-more (entries-claims t) (entries_at t) entries.Post entries-Inv-loop entries-μ-loop
+pub entries-enum-known-more : (t : ℕ) → entries-lts.Need-enum_known-more (entries-claims t) (entries_at t) entries.Post entries-Inv-loop entries-μ-loop
 entries-enum-known-more t c = search rules
 
-pub entries-enum-known-more-2 : (t : ℕ) → entries-lts.Need-enum-known-more-2 (entries-claims t) (entries_at t) entries.Post entries-Inv-loop entries-μ-loop
+pub entries-enum-known-more-2 : (t : ℕ) → entries-lts.Need-enum_known-more-2 (entries-claims t) (entries_at t) entries.Post entries-Inv-loop entries-μ-loop
 entries-enum-known-more-2 t c = search rules
 
 pub entries-returns : (t : ℕ) → entries-lts.Need-returns (entries-claims t) (entries_at t) entries.Post entries-Inv-loop entries-μ-loop
 unfolding cell_at
-entries-returns t c = entries-unlike (λ (v w : Value) (j : ℕ). equal_in c.before.before.before.before.before.before.before.before.before.before.before.before.before.before.before.before.before.before.args.depth c.before.before.before.before.before.before.before.before.before.before.before.before.before.before.before.before.before.before.args.limit (rooms c.before.before.before.before.before.before.before.before.before.before.before.before.before.before.before.before.before.before.args.literal.now c.before.before.before.before.before.before.before.before.before.before.before.before.before.before.before.before.before.before.args.binding-cells.now c.before.before.before.before.before.before.before.before.before.before.before.before.before.before.before.before.before.before.args.binding-text.now c.before.before.before.before.before.before.before.before.before.before.before.before.before.before.before.before.before.before.args.cells.now c.before.before.before.before.before.before.before.before.before.before.before.before.before.before.before.before.before.before.args.text.now) v w j) c.before.before.before.before.before.before.before.before.before.before.before.before.before.before.before.before.before.before.args.limit (rooms c.before.before.before.before.before.before.before.before.before.before.before.before.before.before.before.before.before.before.args.literal.now c.before.before.before.before.before.before.before.before.before.before.before.before.before.before.before.before.before.before.args.binding-cells.now c.before.before.before.before.before.before.before.before.before.before.before.before.before.before.before.before.before.before.args.binding-text.now c.before.before.before.before.before.before.before.before.before.before.before.before.before.before.before.before.before.before.args.cells.now c.before.before.before.before.before.before.before.before.before.before.before.before.before.before.before.before.before.before.args.text.now) c.before.before.before.before.before.before.before.before.before.before.before.before.before.before.before.before.before.before.args.space c.before.before.before.before.before.before.before.before.before.before.before.before.before.before.before.before.before.before.args.there c.before.before.before.before.before.before.before.before.before.before.before.before.before.before.before.before.before.before.args.from c.before.before.before.before.before.before.before.before.before.before.before.before.before.before.before.before.before.before.args.length c.before.before.before.before.before.before.before.before.before.before.before.before.loop.at c.before.before.before.before.before.before.before.before.before.before.before.before.loop.left c.before.before.before.before.before.before.before.before.before.before.before.before.loop.pairs c.before.before.before.before.before.before.before.cell.given.0.0 c.before.before.before.before.before.before.before.cell.given.0.1.0 c.before.more2.given.0.0 c.before.before.before.before.before.before.before.before.before.find.result c.before.before.before.pair.result c.before.before.before.before.before.before.before.before.before.before.before.loop-test.true (c.before.before.before.before.before.before.before.before.before.find.ensures ∙ (λ i. find_in c.before.before.before.before.before.before.before.before.before.before.before.before.before.before.before.before.before.before.args.limit (rooms c.before.before.before.before.before.before.before.before.before.before.before.before.before.before.before.before.before.before.args.literal.now c.before.before.before.before.before.before.before.before.before.before.before.before.before.before.before.before.before.before.args.binding-cells.now c.before.before.before.before.before.before.before.before.before.before.before.before.before.before.before.before.before.before.args.binding-text.now c.before.before.before.before.before.before.before.before.before.before.before.before.before.before.before.before.before.before.args.cells.now c.before.before.before.before.before.before.before.before.before.before.before.before.before.before.before.before.before.before.args.text.now) (c.before.before.before.before.before.before.before.before.before.before.Cell-at.ensures i) c.before.before.before.before.before.before.before.before.before.before.before.before.before.before.before.before.before.before.args.there c.before.before.before.before.before.before.before.before.before.before.before.before.before.before.before.before.before.before.args.from c.before.before.before.before.before.before.before.before.before.before.before.before.before.before.before.before.before.before.args.length c.before.before.before.before.before.before.before.before.before.before.before.before.loop.pairs)) c.before.before.before.before.before.before.before.cell.given.1 (c.before.before.before.pair.ensures ∙ (λ i. equal_in c.before.before.before.before.before.before.before.before.before.before.before.before.before.before.before.before.before.before.args.depth c.before.before.before.before.before.before.before.before.before.before.before.before.before.before.before.before.before.before.args.limit (rooms c.before.before.before.before.before.before.before.before.before.before.before.before.before.before.before.before.before.before.args.literal.now c.before.before.before.before.before.before.before.before.before.before.before.before.before.before.before.before.before.before.args.binding-cells.now c.before.before.before.before.before.before.before.before.before.before.before.before.before.before.before.before.before.before.args.binding-text.now c.before.before.before.before.before.before.before.before.before.before.before.before.before.before.before.before.before.before.args.cells.now c.before.before.before.before.before.before.before.before.before.before.before.before.before.before.before.before.before.before.args.text.now) (c.before.before.before.before.before.cell-at2.ensures i) (c.before.before.before.before.cell-at3.ensures i) c.before.before.before.before.before.before.before.cell.given.0.1.0)) c.before.more2.given.1 ∙ c.before.before.before.before.before.before.before.before.before.before.before.before.loop.invariant.1
+entries-returns t c = entries-unlike (λ (v w : Value) (j : ℕ). equal_in c.before.before.before.before.before.before.before.before.before.before.before.before.before.before.before.before.before.before.args.depth c.before.before.before.before.before.before.before.before.before.before.before.before.before.before.before.before.before.before.args.limit (rooms c.before.before.before.before.before.before.before.before.before.before.before.before.before.before.before.before.before.before.args.literal.now c.before.before.before.before.before.before.before.before.before.before.before.before.before.before.before.before.before.before.args.binding_cells.now c.before.before.before.before.before.before.before.before.before.before.before.before.before.before.before.before.before.before.args.binding_text.now c.before.before.before.before.before.before.before.before.before.before.before.before.before.before.before.before.before.before.args.cells.now c.before.before.before.before.before.before.before.before.before.before.before.before.before.before.before.before.before.before.args.text.now) v w j) c.before.before.before.before.before.before.before.before.before.before.before.before.before.before.before.before.before.before.args.limit (rooms c.before.before.before.before.before.before.before.before.before.before.before.before.before.before.before.before.before.before.args.literal.now c.before.before.before.before.before.before.before.before.before.before.before.before.before.before.before.before.before.before.args.binding_cells.now c.before.before.before.before.before.before.before.before.before.before.before.before.before.before.before.before.before.before.args.binding_text.now c.before.before.before.before.before.before.before.before.before.before.before.before.before.before.before.before.before.before.args.cells.now c.before.before.before.before.before.before.before.before.before.before.before.before.before.before.before.before.before.before.args.text.now) c.before.before.before.before.before.before.before.before.before.before.before.before.before.before.before.before.before.before.args.space c.before.before.before.before.before.before.before.before.before.before.before.before.before.before.before.before.before.before.args.there c.before.before.before.before.before.before.before.before.before.before.before.before.before.before.before.before.before.before.args.from c.before.before.before.before.before.before.before.before.before.before.before.before.before.before.before.before.before.before.args.length c.before.before.before.before.before.before.before.before.before.before.before.before.loop.at c.before.before.before.before.before.before.before.before.before.before.before.before.loop.left c.before.before.before.before.before.before.before.before.before.before.before.before.loop.pairs c.before.before.before.before.before.before.before.cell.given.0.0 c.before.before.before.before.before.before.before.cell.given.0.1.0 c.before.more2.given.0.0 c.before.before.before.before.before.before.before.before.before.find.result c.before.before.before.pair.result c.before.before.before.before.before.before.before.before.before.before.before.loop-test.true (c.before.before.before.before.before.before.before.before.before.find.ensures ∙ (λ i. find_in c.before.before.before.before.before.before.before.before.before.before.before.before.before.before.before.before.before.before.args.limit (rooms c.before.before.before.before.before.before.before.before.before.before.before.before.before.before.before.before.before.before.args.literal.now c.before.before.before.before.before.before.before.before.before.before.before.before.before.before.before.before.before.before.args.binding_cells.now c.before.before.before.before.before.before.before.before.before.before.before.before.before.before.before.before.before.before.args.binding_text.now c.before.before.before.before.before.before.before.before.before.before.before.before.before.before.before.before.before.before.args.cells.now c.before.before.before.before.before.before.before.before.before.before.before.before.before.before.before.before.before.before.args.text.now) (c.before.before.before.before.before.before.before.before.before.before.Cell-at.ensures i) c.before.before.before.before.before.before.before.before.before.before.before.before.before.before.before.before.before.before.args.there c.before.before.before.before.before.before.before.before.before.before.before.before.before.before.before.before.before.before.args.from c.before.before.before.before.before.before.before.before.before.before.before.before.before.before.before.before.before.before.args.length c.before.before.before.before.before.before.before.before.before.before.before.before.loop.pairs)) c.before.before.before.before.before.before.before.cell.given.1 (c.before.before.before.pair.ensures ∙ (λ i. equal_in c.before.before.before.before.before.before.before.before.before.before.before.before.before.before.before.before.before.before.args.depth c.before.before.before.before.before.before.before.before.before.before.before.before.before.before.before.before.before.before.args.limit (rooms c.before.before.before.before.before.before.before.before.before.before.before.before.before.before.before.before.before.before.args.literal.now c.before.before.before.before.before.before.before.before.before.before.before.before.before.before.before.before.before.before.args.binding_cells.now c.before.before.before.before.before.before.before.before.before.before.before.before.before.before.before.before.before.before.args.binding_text.now c.before.before.before.before.before.before.before.before.before.before.before.before.before.before.before.before.before.before.args.cells.now c.before.before.before.before.before.before.before.before.before.before.before.before.before.before.before.before.before.before.args.text.now) (c.before.before.before.before.before.cell_at2.ensures i) (c.before.before.before.before.cell_at3.ensures i) c.before.before.before.before.before.before.before.cell.given.0.1.0)) c.before.more2.given.1 ∙ c.before.before.before.before.before.before.before.before.before.before.before.before.loop.invariant.1
 
-pub entries-enum-known-more-3 : (t : ℕ) → entries-lts.Need-enum-known-more-3 (entries-claims t) (entries_at t) entries.Post entries-Inv-loop entries-μ-loop
+pub entries-enum-known-more-3 : (t : ℕ) → entries-lts.Need-enum_known-more-3 (entries-claims t) (entries_at t) entries.Post entries-Inv-loop entries-μ-loop
 entries-enum-known-more-3 t c = search rules
 
 pub entries-returns-2 : (t : ℕ) → entries-lts.Need-returns-2 (entries-claims t) (entries_at t) entries.Post entries-Inv-loop entries-μ-loop
 unfolding cell_at
-entries-returns-2 t c = entries-out (λ (v w : Value) (j : ℕ). equal_in c.before.before.before.before.before.before.before.before.before.before.before.before.before.before.before.before.before.before.args.depth c.before.before.before.before.before.before.before.before.before.before.before.before.before.before.before.before.before.before.args.limit (rooms c.before.before.before.before.before.before.before.before.before.before.before.before.before.before.before.before.before.before.args.literal.now c.before.before.before.before.before.before.before.before.before.before.before.before.before.before.before.before.before.before.args.binding-cells.now c.before.before.before.before.before.before.before.before.before.before.before.before.before.before.before.before.before.before.args.binding-text.now c.before.before.before.before.before.before.before.before.before.before.before.before.before.before.before.before.before.before.args.cells.now c.before.before.before.before.before.before.before.before.before.before.before.before.before.before.before.before.before.before.args.text.now) v w j) c.before.before.before.before.before.before.before.before.before.before.before.before.before.before.before.before.before.before.args.limit (rooms c.before.before.before.before.before.before.before.before.before.before.before.before.before.before.before.before.before.before.args.literal.now c.before.before.before.before.before.before.before.before.before.before.before.before.before.before.before.before.before.before.args.binding-cells.now c.before.before.before.before.before.before.before.before.before.before.before.before.before.before.before.before.before.before.args.binding-text.now c.before.before.before.before.before.before.before.before.before.before.before.before.before.before.before.before.before.before.args.cells.now c.before.before.before.before.before.before.before.before.before.before.before.before.before.before.before.before.before.before.args.text.now) c.before.before.before.before.before.before.before.before.before.before.before.before.before.before.before.before.before.before.args.space c.before.before.before.before.before.before.before.before.before.before.before.before.before.before.before.before.before.before.args.there c.before.before.before.before.before.before.before.before.before.before.before.before.before.before.before.before.before.before.args.from c.before.before.before.before.before.before.before.before.before.before.before.before.before.before.before.before.before.before.args.length c.before.before.before.before.before.before.before.before.before.before.before.before.loop.at c.before.before.before.before.before.before.before.before.before.before.before.before.loop.left c.before.before.before.before.before.before.before.before.before.before.before.before.loop.pairs c.before.before.before.before.before.before.before.cell.given.0.0 c.before.before.before.before.before.before.before.cell.given.0.1.0 c.before.more3.given.0.0 c.before.before.before.before.before.before.before.before.before.find.result c.before.before.before.pair.result c.before.before.before.before.before.before.before.before.before.before.before.loop-test.true (c.before.before.before.before.before.before.before.before.before.find.ensures ∙ (λ i. find_in c.before.before.before.before.before.before.before.before.before.before.before.before.before.before.before.before.before.before.args.limit (rooms c.before.before.before.before.before.before.before.before.before.before.before.before.before.before.before.before.before.before.args.literal.now c.before.before.before.before.before.before.before.before.before.before.before.before.before.before.before.before.before.before.args.binding-cells.now c.before.before.before.before.before.before.before.before.before.before.before.before.before.before.before.before.before.before.args.binding-text.now c.before.before.before.before.before.before.before.before.before.before.before.before.before.before.before.before.before.before.args.cells.now c.before.before.before.before.before.before.before.before.before.before.before.before.before.before.before.before.before.before.args.text.now) (c.before.before.before.before.before.before.before.before.before.before.Cell-at.ensures i) c.before.before.before.before.before.before.before.before.before.before.before.before.before.before.before.before.before.before.args.there c.before.before.before.before.before.before.before.before.before.before.before.before.before.before.before.before.before.before.args.from c.before.before.before.before.before.before.before.before.before.before.before.before.before.before.before.before.before.before.args.length c.before.before.before.before.before.before.before.before.before.before.before.before.loop.pairs)) c.before.before.before.before.before.before.before.cell.given.1 (c.before.before.before.pair.ensures ∙ (λ i. equal_in c.before.before.before.before.before.before.before.before.before.before.before.before.before.before.before.before.before.before.args.depth c.before.before.before.before.before.before.before.before.before.before.before.before.before.before.before.before.before.before.args.limit (rooms c.before.before.before.before.before.before.before.before.before.before.before.before.before.before.before.before.before.before.args.literal.now c.before.before.before.before.before.before.before.before.before.before.before.before.before.before.before.before.before.before.args.binding-cells.now c.before.before.before.before.before.before.before.before.before.before.before.before.before.before.before.before.before.before.args.binding-text.now c.before.before.before.before.before.before.before.before.before.before.before.before.before.before.before.before.before.before.args.cells.now c.before.before.before.before.before.before.before.before.before.before.before.before.before.before.before.before.before.before.args.text.now) (c.before.before.before.before.before.cell-at2.ensures i) (c.before.before.before.before.cell-at3.ensures i) c.before.before.before.before.before.before.before.cell.given.0.1.0)) c.before.more3.given.1 ∙ c.before.before.before.before.before.before.before.before.before.before.before.before.loop.invariant.1
+entries-returns-2 t c = entries-out (λ (v w : Value) (j : ℕ). equal_in c.before.before.before.before.before.before.before.before.before.before.before.before.before.before.before.before.before.before.args.depth c.before.before.before.before.before.before.before.before.before.before.before.before.before.before.before.before.before.before.args.limit (rooms c.before.before.before.before.before.before.before.before.before.before.before.before.before.before.before.before.before.before.args.literal.now c.before.before.before.before.before.before.before.before.before.before.before.before.before.before.before.before.before.before.args.binding_cells.now c.before.before.before.before.before.before.before.before.before.before.before.before.before.before.before.before.before.before.args.binding_text.now c.before.before.before.before.before.before.before.before.before.before.before.before.before.before.before.before.before.before.args.cells.now c.before.before.before.before.before.before.before.before.before.before.before.before.before.before.before.before.before.before.args.text.now) v w j) c.before.before.before.before.before.before.before.before.before.before.before.before.before.before.before.before.before.before.args.limit (rooms c.before.before.before.before.before.before.before.before.before.before.before.before.before.before.before.before.before.before.args.literal.now c.before.before.before.before.before.before.before.before.before.before.before.before.before.before.before.before.before.before.args.binding_cells.now c.before.before.before.before.before.before.before.before.before.before.before.before.before.before.before.before.before.before.args.binding_text.now c.before.before.before.before.before.before.before.before.before.before.before.before.before.before.before.before.before.before.args.cells.now c.before.before.before.before.before.before.before.before.before.before.before.before.before.before.before.before.before.before.args.text.now) c.before.before.before.before.before.before.before.before.before.before.before.before.before.before.before.before.before.before.args.space c.before.before.before.before.before.before.before.before.before.before.before.before.before.before.before.before.before.before.args.there c.before.before.before.before.before.before.before.before.before.before.before.before.before.before.before.before.before.before.args.from c.before.before.before.before.before.before.before.before.before.before.before.before.before.before.before.before.before.before.args.length c.before.before.before.before.before.before.before.before.before.before.before.before.loop.at c.before.before.before.before.before.before.before.before.before.before.before.before.loop.left c.before.before.before.before.before.before.before.before.before.before.before.before.loop.pairs c.before.before.before.before.before.before.before.cell.given.0.0 c.before.before.before.before.before.before.before.cell.given.0.1.0 c.before.more3.given.0.0 c.before.before.before.before.before.before.before.before.before.find.result c.before.before.before.pair.result c.before.before.before.before.before.before.before.before.before.before.before.loop-test.true (c.before.before.before.before.before.before.before.before.before.find.ensures ∙ (λ i. find_in c.before.before.before.before.before.before.before.before.before.before.before.before.before.before.before.before.before.before.args.limit (rooms c.before.before.before.before.before.before.before.before.before.before.before.before.before.before.before.before.before.before.args.literal.now c.before.before.before.before.before.before.before.before.before.before.before.before.before.before.before.before.before.before.args.binding_cells.now c.before.before.before.before.before.before.before.before.before.before.before.before.before.before.before.before.before.before.args.binding_text.now c.before.before.before.before.before.before.before.before.before.before.before.before.before.before.before.before.before.before.args.cells.now c.before.before.before.before.before.before.before.before.before.before.before.before.before.before.before.before.before.before.args.text.now) (c.before.before.before.before.before.before.before.before.before.before.Cell-at.ensures i) c.before.before.before.before.before.before.before.before.before.before.before.before.before.before.before.before.before.before.args.there c.before.before.before.before.before.before.before.before.before.before.before.before.before.before.before.before.before.before.args.from c.before.before.before.before.before.before.before.before.before.before.before.before.before.before.before.before.before.before.args.length c.before.before.before.before.before.before.before.before.before.before.before.before.loop.pairs)) c.before.before.before.before.before.before.before.cell.given.1 (c.before.before.before.pair.ensures ∙ (λ i. equal_in c.before.before.before.before.before.before.before.before.before.before.before.before.before.before.before.before.before.before.args.depth c.before.before.before.before.before.before.before.before.before.before.before.before.before.before.before.before.before.before.args.limit (rooms c.before.before.before.before.before.before.before.before.before.before.before.before.before.before.before.before.before.before.args.literal.now c.before.before.before.before.before.before.before.before.before.before.before.before.before.before.before.before.before.before.args.binding_cells.now c.before.before.before.before.before.before.before.before.before.before.before.before.before.before.before.before.before.before.args.binding_text.now c.before.before.before.before.before.before.before.before.before.before.before.before.before.before.before.before.before.before.args.cells.now c.before.before.before.before.before.before.before.before.before.before.before.before.before.before.before.before.before.before.args.text.now) (c.before.before.before.before.before.cell_at2.ensures i) (c.before.before.before.before.cell_at3.ensures i) c.before.before.before.before.before.before.before.cell.given.0.1.0)) c.before.more3.given.1 ∙ c.before.before.before.before.before.before.before.before.before.before.before.before.loop.invariant.1
 
-pub entries-enum-known-looked : (t : ℕ) → entries-lts.Need-enum-known-looked (entries-claims t) (entries_at t) entries.Post entries-Inv-loop entries-μ-loop
+pub entries-enum-known-looked : (t : ℕ) → entries-lts.Need-enum_known-looked (entries-claims t) (entries_at t) entries.Post entries-Inv-loop entries-μ-loop
 entries-enum-known-looked t c = search rules
 
 pub entries-returns-3 : (t : ℕ) → entries-lts.Need-returns-3 (entries-claims t) (entries_at t) entries.Post entries-Inv-loop entries-μ-loop
 unfolding cell_at
-entries-returns-3 t c = entries-missing (λ (v w : Value) (j : ℕ). equal_in c.before.before.before.before.before.before.before.before.before.before.before.before.args.depth c.before.before.before.before.before.before.before.before.before.before.before.before.args.limit (rooms c.before.before.before.before.before.before.before.before.before.before.before.before.args.literal.now c.before.before.before.before.before.before.before.before.before.before.before.before.args.binding-cells.now c.before.before.before.before.before.before.before.before.before.before.before.before.args.binding-text.now c.before.before.before.before.before.before.before.before.before.before.before.before.args.cells.now c.before.before.before.before.before.before.before.before.before.before.before.before.args.text.now) v w j) c.before.before.before.before.before.before.before.before.before.before.before.before.args.limit (rooms c.before.before.before.before.before.before.before.before.before.before.before.before.args.literal.now c.before.before.before.before.before.before.before.before.before.before.before.before.args.binding-cells.now c.before.before.before.before.before.before.before.before.before.before.before.before.args.binding-text.now c.before.before.before.before.before.before.before.before.before.before.before.before.args.cells.now c.before.before.before.before.before.before.before.before.before.before.before.before.args.text.now) c.before.before.before.before.before.before.before.before.before.before.before.before.args.space c.before.before.before.before.before.before.before.before.before.before.before.before.args.there c.before.before.before.before.before.before.before.before.before.before.before.before.args.from c.before.before.before.before.before.before.before.before.before.before.before.before.args.length c.before.before.before.before.before.before.loop.at c.before.before.before.before.before.before.loop.left c.before.before.before.before.before.before.loop.pairs c.before.looked.given.0.0 c.before.before.before.find.result c.before.before.before.before.before.loop-test.true (c.before.before.before.find.ensures ∙ (λ i. find_in c.before.before.before.before.before.before.before.before.before.before.before.before.args.limit (rooms c.before.before.before.before.before.before.before.before.before.before.before.before.args.literal.now c.before.before.before.before.before.before.before.before.before.before.before.before.args.binding-cells.now c.before.before.before.before.before.before.before.before.before.before.before.before.args.binding-text.now c.before.before.before.before.before.before.before.before.before.before.before.before.args.cells.now c.before.before.before.before.before.before.before.before.before.before.before.before.args.text.now) (c.before.before.before.before.Cell-at.ensures i) c.before.before.before.before.before.before.before.before.before.before.before.before.args.there c.before.before.before.before.before.before.before.before.before.before.before.before.args.from c.before.before.before.before.before.before.before.before.before.before.before.before.args.length c.before.before.before.before.before.before.loop.pairs)) c.before.looked.given.1 ∙ c.before.before.before.before.before.before.loop.invariant.1
+entries-returns-3 t c = entries-missing (λ (v w : Value) (j : ℕ). equal_in c.before.before.before.before.before.before.before.before.before.before.before.before.args.depth c.before.before.before.before.before.before.before.before.before.before.before.before.args.limit (rooms c.before.before.before.before.before.before.before.before.before.before.before.before.args.literal.now c.before.before.before.before.before.before.before.before.before.before.before.before.args.binding_cells.now c.before.before.before.before.before.before.before.before.before.before.before.before.args.binding_text.now c.before.before.before.before.before.before.before.before.before.before.before.before.args.cells.now c.before.before.before.before.before.before.before.before.before.before.before.before.args.text.now) v w j) c.before.before.before.before.before.before.before.before.before.before.before.before.args.limit (rooms c.before.before.before.before.before.before.before.before.before.before.before.before.args.literal.now c.before.before.before.before.before.before.before.before.before.before.before.before.args.binding_cells.now c.before.before.before.before.before.before.before.before.before.before.before.before.args.binding_text.now c.before.before.before.before.before.before.before.before.before.before.before.before.args.cells.now c.before.before.before.before.before.before.before.before.before.before.before.before.args.text.now) c.before.before.before.before.before.before.before.before.before.before.before.before.args.space c.before.before.before.before.before.before.before.before.before.before.before.before.args.there c.before.before.before.before.before.before.before.before.before.before.before.before.args.from c.before.before.before.before.before.before.before.before.before.before.before.before.args.length c.before.before.before.before.before.before.loop.at c.before.before.before.before.before.before.loop.left c.before.before.before.before.before.before.loop.pairs c.before.looked.given.0.0 c.before.before.before.find.result c.before.before.before.before.before.loop-test.true (c.before.before.before.find.ensures ∙ (λ i. find_in c.before.before.before.before.before.before.before.before.before.before.before.before.args.limit (rooms c.before.before.before.before.before.before.before.before.before.before.before.before.args.literal.now c.before.before.before.before.before.before.before.before.before.before.before.before.args.binding_cells.now c.before.before.before.before.before.before.before.before.before.before.before.before.args.binding_text.now c.before.before.before.before.before.before.before.before.before.before.before.before.args.cells.now c.before.before.before.before.before.before.before.before.before.before.before.before.args.text.now) (c.before.before.before.before.Cell-at.ensures i) c.before.before.before.before.before.before.before.before.before.before.before.before.args.there c.before.before.before.before.before.before.before.before.before.before.before.before.args.from c.before.before.before.before.before.before.before.before.before.before.before.before.args.length c.before.before.before.before.before.before.loop.pairs)) c.before.looked.given.1 ∙ c.before.before.before.before.before.before.loop.invariant.1
 
-pub entries-enum-known-looked-2 : (t : ℕ) → entries-lts.Need-enum-known-looked-2 (entries-claims t) (entries_at t) entries.Post entries-Inv-loop entries-μ-loop
+pub entries-enum-known-looked-2 : (t : ℕ) → entries-lts.Need-enum_known-looked-2 (entries-claims t) (entries_at t) entries.Post entries-Inv-loop entries-μ-loop
 entries-enum-known-looked-2 t c = search rules
 
 pub entries-returns-4 : (t : ℕ) → entries-lts.Need-returns-4 (entries-claims t) (entries_at t) entries.Post entries-Inv-loop entries-μ-loop
 unfolding cell_at
-entries-returns-4 t c = entries-unfound (λ (v w : Value) (j : ℕ). equal_in c.before.before.before.before.before.before.before.before.before.before.before.before.args.depth c.before.before.before.before.before.before.before.before.before.before.before.before.args.limit (rooms c.before.before.before.before.before.before.before.before.before.before.before.before.args.literal.now c.before.before.before.before.before.before.before.before.before.before.before.before.args.binding-cells.now c.before.before.before.before.before.before.before.before.before.before.before.before.args.binding-text.now c.before.before.before.before.before.before.before.before.before.before.before.before.args.cells.now c.before.before.before.before.before.before.before.before.before.before.before.before.args.text.now) v w j) c.before.before.before.before.before.before.before.before.before.before.before.before.args.limit (rooms c.before.before.before.before.before.before.before.before.before.before.before.before.args.literal.now c.before.before.before.before.before.before.before.before.before.before.before.before.args.binding-cells.now c.before.before.before.before.before.before.before.before.before.before.before.before.args.binding-text.now c.before.before.before.before.before.before.before.before.before.before.before.before.args.cells.now c.before.before.before.before.before.before.before.before.before.before.before.before.args.text.now) c.before.before.before.before.before.before.before.before.before.before.before.before.args.space c.before.before.before.before.before.before.before.before.before.before.before.before.args.there c.before.before.before.before.before.before.before.before.before.before.before.before.args.from c.before.before.before.before.before.before.before.before.before.before.before.before.args.length c.before.before.before.before.before.before.loop.at c.before.before.before.before.before.before.loop.left c.before.before.before.before.before.before.loop.pairs c.before.looked2.given.0.0 c.before.before.before.find.result c.before.before.before.before.before.loop-test.true (c.before.before.before.find.ensures ∙ (λ i. find_in c.before.before.before.before.before.before.before.before.before.before.before.before.args.limit (rooms c.before.before.before.before.before.before.before.before.before.before.before.before.args.literal.now c.before.before.before.before.before.before.before.before.before.before.before.before.args.binding-cells.now c.before.before.before.before.before.before.before.before.before.before.before.before.args.binding-text.now c.before.before.before.before.before.before.before.before.before.before.before.before.args.cells.now c.before.before.before.before.before.before.before.before.before.before.before.before.args.text.now) (c.before.before.before.before.Cell-at.ensures i) c.before.before.before.before.before.before.before.before.before.before.before.before.args.there c.before.before.before.before.before.before.before.before.before.before.before.before.args.from c.before.before.before.before.before.before.before.before.before.before.before.before.args.length c.before.before.before.before.before.before.loop.pairs)) c.before.looked2.given.1 ∙ c.before.before.before.before.before.before.loop.invariant.1
+entries-returns-4 t c = entries-unfound (λ (v w : Value) (j : ℕ). equal_in c.before.before.before.before.before.before.before.before.before.before.before.before.args.depth c.before.before.before.before.before.before.before.before.before.before.before.before.args.limit (rooms c.before.before.before.before.before.before.before.before.before.before.before.before.args.literal.now c.before.before.before.before.before.before.before.before.before.before.before.before.args.binding_cells.now c.before.before.before.before.before.before.before.before.before.before.before.before.args.binding_text.now c.before.before.before.before.before.before.before.before.before.before.before.before.args.cells.now c.before.before.before.before.before.before.before.before.before.before.before.before.args.text.now) v w j) c.before.before.before.before.before.before.before.before.before.before.before.before.args.limit (rooms c.before.before.before.before.before.before.before.before.before.before.before.before.args.literal.now c.before.before.before.before.before.before.before.before.before.before.before.before.args.binding_cells.now c.before.before.before.before.before.before.before.before.before.before.before.before.args.binding_text.now c.before.before.before.before.before.before.before.before.before.before.before.before.args.cells.now c.before.before.before.before.before.before.before.before.before.before.before.before.args.text.now) c.before.before.before.before.before.before.before.before.before.before.before.before.args.space c.before.before.before.before.before.before.before.before.before.before.before.before.args.there c.before.before.before.before.before.before.before.before.before.before.before.before.args.from c.before.before.before.before.before.before.before.before.before.before.before.before.args.length c.before.before.before.before.before.before.loop.at c.before.before.before.before.before.before.loop.left c.before.before.before.before.before.before.loop.pairs c.before.looked2.given.0.0 c.before.before.before.find.result c.before.before.before.before.before.loop-test.true (c.before.before.before.find.ensures ∙ (λ i. find_in c.before.before.before.before.before.before.before.before.before.before.before.before.args.limit (rooms c.before.before.before.before.before.before.before.before.before.before.before.before.args.literal.now c.before.before.before.before.before.before.before.before.before.before.before.before.args.binding_cells.now c.before.before.before.before.before.before.before.before.before.before.before.before.args.binding_text.now c.before.before.before.before.before.before.before.before.before.before.before.before.args.cells.now c.before.before.before.before.before.before.before.before.before.before.before.before.args.text.now) (c.before.before.before.before.Cell-at.ensures i) c.before.before.before.before.before.before.before.before.before.before.before.before.args.there c.before.before.before.before.before.before.before.before.before.before.before.before.args.from c.before.before.before.before.before.before.before.before.before.before.before.before.args.length c.before.before.before.before.before.before.loop.pairs)) c.before.looked2.given.1 ∙ c.before.before.before.before.before.before.loop.invariant.1
 
-pub entries-add-at : (t : ℕ) → entries-lts.Need-overflow-add-at (entries-claims t) (entries_at t) entries.Post entries-Inv-loop entries-μ-loop
+pub entries-add-at : (t : ℕ) → entries-lts.Need-overflow_add-at (entries-claims t) (entries_at t) entries.Post entries-Inv-loop entries-μ-loop
 entries-add-at t c = search rules
 
-pub entries-sub-left : (t : ℕ) → entries-lts.Need-overflow-sub-left (entries-claims t) (entries_at t) entries.Post entries-Inv-loop entries-μ-loop
+pub entries-sub-left : (t : ℕ) → entries-lts.Need-overflow_sub-left (entries-claims t) (entries_at t) entries.Post entries-Inv-loop entries-μ-loop
 entries-sub-left t c = search rules
 
 pub entries-loop-less : (t : ℕ) → entries-lts.Need-loop-smaller (entries-claims t) (entries_at t) entries.Post entries-Inv-loop entries-μ-loop
@@ -85,7 +85,7 @@ entries-loop-less t c = search rules
 
 pub entries-loop-again : (t : ℕ) → entries-lts.Need-loop-preserved (entries-claims t) (entries_at t) entries.Post entries-Inv-loop entries-μ-loop
 unfolding cell_at
-entries-loop-again t c = (omega arith, entries-on (λ (v w : Value) (j : ℕ). equal_in c.before.before.before.before.before.before.before.before.before.before.before.before.before.before.before.before.before.before.args.depth c.before.before.before.before.before.before.before.before.before.before.before.before.before.before.before.before.before.before.args.limit (rooms c.before.before.before.before.before.before.before.before.before.before.before.before.before.before.before.before.before.before.args.literal.now c.before.before.before.before.before.before.before.before.before.before.before.before.before.before.before.before.before.before.args.binding-cells.now c.before.before.before.before.before.before.before.before.before.before.before.before.before.before.before.before.before.before.args.binding-text.now c.before.before.before.before.before.before.before.before.before.before.before.before.before.before.before.before.before.before.args.cells.now c.before.before.before.before.before.before.before.before.before.before.before.before.before.before.before.before.before.before.args.text.now) v w j) c.before.before.before.before.before.before.before.before.before.before.before.before.before.before.before.before.before.before.args.limit (rooms c.before.before.before.before.before.before.before.before.before.before.before.before.before.before.before.before.before.before.args.literal.now c.before.before.before.before.before.before.before.before.before.before.before.before.before.before.before.before.before.before.args.binding-cells.now c.before.before.before.before.before.before.before.before.before.before.before.before.before.before.before.before.before.before.args.binding-text.now c.before.before.before.before.before.before.before.before.before.before.before.before.before.before.before.before.before.before.args.cells.now c.before.before.before.before.before.before.before.before.before.before.before.before.before.before.before.before.before.before.args.text.now) c.before.before.before.before.before.before.before.before.before.before.before.before.before.before.before.before.before.before.args.space c.before.before.before.before.before.before.before.before.before.before.before.before.before.before.before.before.before.before.args.there c.before.before.before.before.before.before.before.before.before.before.before.before.before.before.before.before.before.before.args.from c.before.before.before.before.before.before.before.before.before.before.before.before.before.before.before.before.before.before.args.length c.before.before.before.before.before.before.before.before.before.before.before.before.loop.at c.before.before.before.before.before.before.before.before.before.before.before.before.loop.left c.before.before.before.before.before.before.before.before.before.before.before.before.loop.pairs c.before.before.before.before.before.before.before.cell.given.0.0 c.before.before.before.before.before.before.before.cell.given.0.1.0 c.before.more.given.0.0 c.before.before.before.before.before.before.before.before.before.find.result c.before.before.before.pair.result c.before.before.before.before.before.before.before.before.before.before.before.loop-test.true (c.before.before.before.before.before.before.before.before.before.find.ensures ∙ (λ i. find_in c.before.before.before.before.before.before.before.before.before.before.before.before.before.before.before.before.before.before.args.limit (rooms c.before.before.before.before.before.before.before.before.before.before.before.before.before.before.before.before.before.before.args.literal.now c.before.before.before.before.before.before.before.before.before.before.before.before.before.before.before.before.before.before.args.binding-cells.now c.before.before.before.before.before.before.before.before.before.before.before.before.before.before.before.before.before.before.args.binding-text.now c.before.before.before.before.before.before.before.before.before.before.before.before.before.before.before.before.before.before.args.cells.now c.before.before.before.before.before.before.before.before.before.before.before.before.before.before.before.before.before.before.args.text.now) (c.before.before.before.before.before.before.before.before.before.before.Cell-at.ensures i) c.before.before.before.before.before.before.before.before.before.before.before.before.before.before.before.before.before.before.args.there c.before.before.before.before.before.before.before.before.before.before.before.before.before.before.before.before.before.before.args.from c.before.before.before.before.before.before.before.before.before.before.before.before.before.before.before.before.before.before.args.length c.before.before.before.before.before.before.before.before.before.before.before.before.loop.pairs)) c.before.before.before.before.before.before.before.cell.given.1 (c.before.before.before.pair.ensures ∙ (λ i. equal_in c.before.before.before.before.before.before.before.before.before.before.before.before.before.before.before.before.before.before.args.depth c.before.before.before.before.before.before.before.before.before.before.before.before.before.before.before.before.before.before.args.limit (rooms c.before.before.before.before.before.before.before.before.before.before.before.before.before.before.before.before.before.before.args.literal.now c.before.before.before.before.before.before.before.before.before.before.before.before.before.before.before.before.before.before.args.binding-cells.now c.before.before.before.before.before.before.before.before.before.before.before.before.before.before.before.before.before.before.args.binding-text.now c.before.before.before.before.before.before.before.before.before.before.before.before.before.before.before.before.before.before.args.cells.now c.before.before.before.before.before.before.before.before.before.before.before.before.before.before.before.before.before.before.args.text.now) (c.before.before.before.before.before.cell-at2.ensures i) (c.before.before.before.before.cell-at3.ensures i) c.before.before.before.before.before.before.before.cell.given.0.1.0)) c.before.more.given.1 ∙ c.before.before.before.before.before.before.before.before.before.before.before.before.loop.invariant.1)
+entries-loop-again t c = (omega arith, entries-on (λ (v w : Value) (j : ℕ). equal_in c.before.before.before.before.before.before.before.before.before.before.before.before.before.before.before.before.before.before.args.depth c.before.before.before.before.before.before.before.before.before.before.before.before.before.before.before.before.before.before.args.limit (rooms c.before.before.before.before.before.before.before.before.before.before.before.before.before.before.before.before.before.before.args.literal.now c.before.before.before.before.before.before.before.before.before.before.before.before.before.before.before.before.before.before.args.binding_cells.now c.before.before.before.before.before.before.before.before.before.before.before.before.before.before.before.before.before.before.args.binding_text.now c.before.before.before.before.before.before.before.before.before.before.before.before.before.before.before.before.before.before.args.cells.now c.before.before.before.before.before.before.before.before.before.before.before.before.before.before.before.before.before.before.args.text.now) v w j) c.before.before.before.before.before.before.before.before.before.before.before.before.before.before.before.before.before.before.args.limit (rooms c.before.before.before.before.before.before.before.before.before.before.before.before.before.before.before.before.before.before.args.literal.now c.before.before.before.before.before.before.before.before.before.before.before.before.before.before.before.before.before.before.args.binding_cells.now c.before.before.before.before.before.before.before.before.before.before.before.before.before.before.before.before.before.before.args.binding_text.now c.before.before.before.before.before.before.before.before.before.before.before.before.before.before.before.before.before.before.args.cells.now c.before.before.before.before.before.before.before.before.before.before.before.before.before.before.before.before.before.before.args.text.now) c.before.before.before.before.before.before.before.before.before.before.before.before.before.before.before.before.before.before.args.space c.before.before.before.before.before.before.before.before.before.before.before.before.before.before.before.before.before.before.args.there c.before.before.before.before.before.before.before.before.before.before.before.before.before.before.before.before.before.before.args.from c.before.before.before.before.before.before.before.before.before.before.before.before.before.before.before.before.before.before.args.length c.before.before.before.before.before.before.before.before.before.before.before.before.loop.at c.before.before.before.before.before.before.before.before.before.before.before.before.loop.left c.before.before.before.before.before.before.before.before.before.before.before.before.loop.pairs c.before.before.before.before.before.before.before.cell.given.0.0 c.before.before.before.before.before.before.before.cell.given.0.1.0 c.before.more.given.0.0 c.before.before.before.before.before.before.before.before.before.find.result c.before.before.before.pair.result c.before.before.before.before.before.before.before.before.before.before.before.loop-test.true (c.before.before.before.before.before.before.before.before.before.find.ensures ∙ (λ i. find_in c.before.before.before.before.before.before.before.before.before.before.before.before.before.before.before.before.before.before.args.limit (rooms c.before.before.before.before.before.before.before.before.before.before.before.before.before.before.before.before.before.before.args.literal.now c.before.before.before.before.before.before.before.before.before.before.before.before.before.before.before.before.before.before.args.binding_cells.now c.before.before.before.before.before.before.before.before.before.before.before.before.before.before.before.before.before.before.args.binding_text.now c.before.before.before.before.before.before.before.before.before.before.before.before.before.before.before.before.before.before.args.cells.now c.before.before.before.before.before.before.before.before.before.before.before.before.before.before.before.before.before.before.args.text.now) (c.before.before.before.before.before.before.before.before.before.before.Cell-at.ensures i) c.before.before.before.before.before.before.before.before.before.before.before.before.before.before.before.before.before.before.args.there c.before.before.before.before.before.before.before.before.before.before.before.before.before.before.before.before.before.before.args.from c.before.before.before.before.before.before.before.before.before.before.before.before.before.before.before.before.before.before.args.length c.before.before.before.before.before.before.before.before.before.before.before.before.loop.pairs)) c.before.before.before.before.before.before.before.cell.given.1 (c.before.before.before.pair.ensures ∙ (λ i. equal_in c.before.before.before.before.before.before.before.before.before.before.before.before.before.before.before.before.before.before.args.depth c.before.before.before.before.before.before.before.before.before.before.before.before.before.before.before.before.before.before.args.limit (rooms c.before.before.before.before.before.before.before.before.before.before.before.before.before.before.before.before.before.before.args.literal.now c.before.before.before.before.before.before.before.before.before.before.before.before.before.before.before.before.before.before.args.binding_cells.now c.before.before.before.before.before.before.before.before.before.before.before.before.before.before.before.before.before.before.args.binding_text.now c.before.before.before.before.before.before.before.before.before.before.before.before.before.before.before.before.before.before.args.cells.now c.before.before.before.before.before.before.before.before.before.before.before.before.before.before.before.before.before.before.args.text.now) (c.before.before.before.before.before.cell_at2.ensures i) (c.before.before.before.before.cell_at3.ensures i) c.before.before.before.before.before.before.before.cell.given.0.1.0)) c.before.more.given.1 ∙ c.before.before.before.before.before.before.before.before.before.before.before.before.loop.invariant.1)
 
 pub entries-returns-5 : (t : ℕ) → entries-lts.Need-returns-5 (entries-claims t) (entries_at t) entries.Post entries-Inv-loop entries-μ-loop
-entries-returns-5 t c = entries_none (λ (v w : Value) (j : ℕ). equal_in c.before.before.before.before.before.before.before.args.depth c.before.before.before.before.before.before.before.args.limit (rooms c.before.before.before.before.before.before.before.args.literal.now c.before.before.before.before.before.before.before.args.binding-cells.now c.before.before.before.before.before.before.before.args.binding-text.now c.before.before.before.before.before.before.before.args.cells.now c.before.before.before.before.before.before.before.args.text.now) v w j) c.before.before.before.before.before.before.before.args.limit (rooms c.before.before.before.before.before.before.before.args.literal.now c.before.before.before.before.before.before.before.args.binding-cells.now c.before.before.before.before.before.before.before.args.binding-text.now c.before.before.before.before.before.before.before.args.cells.now c.before.before.before.before.before.before.before.args.text.now) c.before.before.before.before.before.before.before.args.space c.before.before.before.before.before.before.before.args.there c.before.before.before.before.before.before.before.args.from c.before.before.before.before.before.before.before.args.length c.before.loop.at c.before.loop.left c.before.loop.pairs c.loop-test.false ∙ c.before.loop.invariant.1
+entries-returns-5 t c = entries_none (λ (v w : Value) (j : ℕ). equal_in c.before.before.before.before.before.before.before.args.depth c.before.before.before.before.before.before.before.args.limit (rooms c.before.before.before.before.before.before.before.args.literal.now c.before.before.before.before.before.before.before.args.binding_cells.now c.before.before.before.before.before.before.before.args.binding_text.now c.before.before.before.before.before.before.before.args.cells.now c.before.before.before.before.before.before.before.args.text.now) v w j) c.before.before.before.before.before.before.before.args.limit (rooms c.before.before.before.before.before.before.before.args.literal.now c.before.before.before.before.before.before.before.args.binding_cells.now c.before.before.before.before.before.before.before.args.binding_text.now c.before.before.before.before.before.before.before.args.cells.now c.before.before.before.before.before.before.before.args.text.now) c.before.before.before.before.before.before.before.args.space c.before.before.before.before.before.before.before.args.there c.before.before.before.before.before.before.before.args.from c.before.before.before.before.before.before.before.args.length c.before.loop.at c.before.loop.left c.before.loop.pairs c.loop-test.false ∙ c.before.loop.invariant.1

@@ -11,42 +11,42 @@ use Rattle.table_check.proofs.records.+operands_at_record_at.Lts-record_at as re
 use Rattle.table_check.proofs.heads.head_at.Reads as head-at-reads
 use Rattle.table_check.proofs.faults.fault.Reads as fault-reads
 use Rattle.table_check.proofs.faults.marks_of.Reads as marks-of-reads
-use Rattle.table_check.proofs.records.+operands_at_record_at.Proof.Kit.{operands-at-below, record-at-at}
+use Rattle.table_check.proofs.records.+operands_at_record_at.Proof.Kit.{operands_at-below, record_at-at}
 
-pub record-at-head-at-requires : (t : ℕ) → record-at-lts.Need-head-at-requires (
+pub record-at-head-at-requires : (t : ℕ) → record-at-lts.Need-head_at-requires (
   head-at-reads.Asked,
   head-at-reads.Learnt,
   fault-reads.Asked,
   fault-reads.Learnt,
   marks-of-reads.Asked,
   marks-of-reads.Learnt,
-  operands-at-below t,
+  operands_at-below t,
   operands-at.Post,
-) (record-at-at t) record-at.Post
+) (record_at-at t) record-at.Post
 record-at-head-at-requires t c κs = c.before.before.requires.1
 
-pub record-at-enum-known-number : (t : ℕ) → record-at-lts.Need-enum-known-number (
+pub record-at-enum-known-number : (t : ℕ) → record-at-lts.Need-enum_known-number (
   head-at-reads.Asked,
   head-at-reads.Learnt,
   fault-reads.Asked,
   fault-reads.Learnt,
   marks-of-reads.Asked,
   marks-of-reads.Learnt,
-  operands-at-below t,
+  operands_at-below t,
   operands-at.Post,
-) (record-at-at t) record-at.Post
+) (record_at-at t) record-at.Post
 record-at-enum-known-number t c = search rules
 
-pub record-at-enum-known-kind : (t : ℕ) → record-at-lts.Need-enum-known-kind (
+pub record-at-enum-known-kind : (t : ℕ) → record-at-lts.Need-enum_known-kind (
   head-at-reads.Asked,
   head-at-reads.Learnt,
   fault-reads.Asked,
   fault-reads.Learnt,
   marks-of-reads.Asked,
   marks-of-reads.Learnt,
-  operands-at-below t,
+  operands_at-below t,
   operands-at.Post,
-) (record-at-at t) record-at.Post
+) (record_at-at t) record-at.Post
 record-at-enum-known-kind t c = search rules
 
 pub record-at-fault-requires : (t : ℕ) → record-at-lts.Need-fault-requires (
@@ -56,9 +56,9 @@ pub record-at-fault-requires : (t : ℕ) → record-at-lts.Need-fault-requires (
   fault-reads.Learnt,
   marks-of-reads.Asked,
   marks-of-reads.Learnt,
-  operands-at-below t,
+  operands_at-below t,
   operands-at.Post,
-) (record-at-at t) record-at.Post
+) (record_at-at t) record-at.Post
 record-at-fault-requires t c κs =
     let a = c.before.before.before.before.before.before.args in
     let w = sym c.before.kind.given.1 ∙ c.before.before.before.head_at.ensures in
@@ -72,9 +72,9 @@ pub record-at-returns : (t : ℕ) → record-at-lts.Need-returns (
   fault-reads.Learnt,
   marks-of-reads.Asked,
   marks-of-reads.Learnt,
-  operands-at-below t,
+  operands_at-below t,
   operands-at.Post,
-) (record-at-at t) record-at.Post
+) (record_at-at t) record-at.Post
 record-at-returns t c =
     let a = c.before.before.before.before.before.before.before.before.args in
     let w = sym c.before.before.before.kind.given.1 ∙ c.before.before.before.before.before.head_at.ensures in
@@ -87,56 +87,56 @@ pub record-at-returns-2 : (t : ℕ) → record-at-lts.Need-returns-2 (
   fault-reads.Learnt,
   marks-of-reads.Asked,
   marks-of-reads.Learnt,
-  operands-at-below t,
+  operands_at-below t,
   operands-at.Post,
-) (record-at-at t) record-at.Post
+) (record_at-at t) record-at.Post
 record-at-returns-2 t c =
     let a = c.before.before.before.before.before.before.before.before.before.args in
     let w = sym c.before.before.before.before.kind.given.1 ∙ c.before.before.before.before.before.before.head_at.ensures in
     leaf-ends a.table.now a.text.now a.at a.end w a.marked a.levels c.before.before.fault.ensures c.before.if1.false c.if2.true
 
-pub record-at-marks-of-requires : (t : ℕ) → record-at-lts.Need-marks-of-requires (
+pub record-at-marks-of-requires : (t : ℕ) → record-at-lts.Need-marks_of-requires (
   head-at-reads.Asked,
   head-at-reads.Learnt,
   fault-reads.Asked,
   fault-reads.Learnt,
   marks-of-reads.Asked,
   marks-of-reads.Learnt,
-  operands-at-below t,
+  operands_at-below t,
   operands-at.Post,
-) (record-at-at t) record-at.Post
+) (record_at-at t) record-at.Post
 record-at-marks-of-requires t c κs =
     let a = c.before.before.before.before.before.before.before.before.before.args in
     let w = sym c.before.before.before.before.kind.given.1 ∙ c.before.before.before.before.before.before.head_at.ensures in
     let o = found a.table.now a.at a.end w in
     rw o.kind o.here.known
 
-pub record-at-sub-operands-at : (t : ℕ) → record-at-lts.Need-overflow-sub-operands-at (
+pub record-at-sub-operands-at : (t : ℕ) → record-at-lts.Need-overflow_sub-operands_at (
   head-at-reads.Asked,
   head-at-reads.Learnt,
   fault-reads.Asked,
   fault-reads.Learnt,
   marks-of-reads.Asked,
   marks-of-reads.Learnt,
-  operands-at-below t,
+  operands_at-below t,
   operands-at.Post,
-) (record-at-at t) record-at.Post
+) (record_at-at t) record-at.Post
 record-at-sub-operands-at t c =
     let a = c.before.before.before.before.before.before.before.before.before.before.args in
     let w = sym c.before.before.before.before.before.kind.given.1 ∙ c.before.before.before.before.before.before.before.head_at.ensures in
     let h = level-left a.table.now a.text.now a.at a.end w a.marked a.levels c.before.before.before.fault.ensures c.before.before.if1.false in
     omega arith
 
-pub record-at-operands-at-requires : (t : ℕ) → record-at-lts.Need-operands-at-requires (
+pub record-at-operands-at-requires : (t : ℕ) → record-at-lts.Need-operands_at-requires (
   head-at-reads.Asked,
   head-at-reads.Learnt,
   fault-reads.Asked,
   fault-reads.Learnt,
   marks-of-reads.Asked,
   marks-of-reads.Learnt,
-  operands-at-below t,
+  operands_at-below t,
   operands-at.Post,
-) (record-at-at t) record-at.Post
+) (record_at-at t) record-at.Post
 record-at-operands-at-requires t c κs =
     let a = c.before.before.before.before.before.before.before.before.before.before.args in
     let w = sym c.before.before.before.before.before.kind.given.1 ∙ c.before.before.before.before.before.before.before.head_at.ensures in
@@ -151,9 +151,9 @@ pub record-at-returns-3 : (t : ℕ) → record-at-lts.Need-returns-3 (
   fault-reads.Learnt,
   marks-of-reads.Asked,
   marks-of-reads.Learnt,
-  operands-at-below t,
+  operands_at-below t,
   operands-at.Post,
-) (record-at-at t) record-at.Post
+) (record_at-at t) record-at.Post
 record-at-returns-3 t c =
     let a = c.before.before.before.before.before.before.args in
     refused-head a.table.now a.text.now a.at a.end a.levels a.marked (sym c.before.number.given.1 ∙ c.before.before.before.head_at.ensures)
@@ -165,12 +165,12 @@ pub record-at-returns-4 : (t : ℕ) → record-at-lts.Need-returns-4 (
   fault-reads.Learnt,
   marks-of-reads.Asked,
   marks-of-reads.Learnt,
-  operands-at-below t,
+  operands_at-below t,
   operands-at.Post,
-) (record-at-at t) record-at.Post
+) (record_at-at t) record-at.Post
 record-at-returns-4 t c =
     let a = c.before.before.before.before.before.before.before.before.before.before.before.args in
     let w = sym c.before.before.before.before.before.before.kind.given.1 ∙ c.before.before.before.before.before.before.before.before.head_at.ensures in
-    c.operands-at.ensures ∙
-    (rw c.before.marks-of.ensures
+    c.operands_at.ensures ∙
+    (rw c.before.marks_of.ensures
     (goes_on a.table.now a.text.now a.at a.end w a.marked a.levels c.before.before.before.before.fault.ensures c.before.before.before.if1.false))
