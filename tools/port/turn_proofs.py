@@ -63,6 +63,12 @@ class Function:
             at, count = above, count + 1
         return count
 
+    def above(self, place):
+        """The place and those on the way to it, the nearest first."""
+        while place is not None:
+            yield place
+            place = self.parent(place)
+
     def last_of(self, place):
         """The name of the record in which an arm's place stands."""
         return self.places[place][1]
@@ -94,11 +100,12 @@ class Turned:
     def path(self, var, place, fields):
         """A path off a record of an old place, as a path today."""
         f = self.function
-        at, fields = place, list(fields)
+        start, at, fields = place, place, list(fields)
         while fields and fields[0] == "before":
-            at = f.parent(at)
             fields.pop(0)
-            if at is None:
+            if f.parent(at) is not None:
+                at = f.parent(at)
+            elif not fields:
                 self.left(f"`{var}`: more `.before` than places")
                 return None
         if not fields:
@@ -106,9 +113,20 @@ class Turned:
             if n is None:
                 return None
             return var + ".before" * n
-        step = plain(fields[0])
-        row = f.places[at][0]
-        arm = f.arms[at]
+        # the table of the kit's names takes some steps for words of its own
+        step = plain({"is_is_leaf": "is_leaf", "type_size": "size_of", "well_formed-2": "well_formed2"}.get(fields[0], re.sub("_lem$", "", fields[0])))
+        if step in ("args", "requires", "ranges", "well-formed", "good", "utf8", "type-inv", "lifetimes", "fits", "known"):
+            return ".".join([var, *fields])
+        # first where the path says, then anywhere on the way here: a step's old name stands once in a function
+        for place in [at, *f.above(start)]:
+            found = self.step(var, place, step, fields)
+            if found:
+                return found
+        self.left(f"`{'.'.join(fields)}` at {at}: no step of that name (here: {f.places[at][0][2][0]})")
+        return None
+
+    def step(self, var, at, step, fields):
+        row, arm = self.function.places[at][0], self.function.arms[at]
         if arm:
             best = None
             for new, old, old_path in arm[2]:
@@ -118,14 +136,9 @@ class Turned:
             if best:
                 return ".".join([var, arm[0], best[0], *fields[1 + len(best[2]) :]])
             if any(plain(old) == step for _, old, _ in arm[2]):
-                self.left(f"`{'.'.join(fields)}` at {at}: no field of {arm[0]} has that path")
                 return None
         if plain(row[2][0]) == step:
             return ".".join([var, row[2][1], *fields[1:]])
-        if step in ("args", "requires", "ranges", "well-formed", "good", "utf8", "type-inv", "lifetimes", "fits", "known"):
-            return ".".join([var, *fields])
-        # a step that an inner place has too
-        self.left(f"`{'.'.join(fields)}` at {at}: no step of that name (here: {row[2][0]})")
         return None
 
     def inlined(self, code, variables):

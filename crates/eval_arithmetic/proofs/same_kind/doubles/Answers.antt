@@ -1,0 +1,17 @@
+-- `same_kind::doubles` meets its contract. Assumes nothing.
+use Rattle.eval_arithmetic.proofs.same_kind.doubles.Goals as goal
+
+pub returns-in-Add : goal.returns-in-Add
+returns-in-Add c = simp (c.in-Add.is, ← c.add.ensures, ← c.double_outcome.ensures)
+
+pub returns-in-Subtract : goal.returns-in-Subtract
+returns-in-Subtract c = simp (c.in-Subtract.is, ← c.sub.ensures, ← c.double_outcome-in-Subtract.ensures)
+
+pub returns-in-Divide : goal.returns-in-Divide
+returns-in-Divide c = simp (c.in-Divide.is, ← c.div.ensures, ← c.double_outcome-in-Divide.ensures)
+
+pub returns-in-Multiply : goal.returns-in-Multiply
+returns-in-Multiply c = simp (c.in-Multiply.is, ← c.mul.ensures, ← c.double_outcome-in-Multiply.ensures)
+
+pub returns-in-Remainder : goal.returns-in-Remainder
+returns-in-Remainder c = simp (c.in-Remainder.is, ← c.no_overload.ensures)

@@ -1,0 +1,11 @@
+-- `append_turn::gather_items` meets its contract. Assumes nothing.
+use Rattle.eval_comprehension.proofs.append_turn.gather_items.Goals as goal
+
+pub returns-in-Value : goal.returns-in-Value
+returns-in-Value c = simp (c.in-Value.is, ← c.gather_value.ensures)
+
+pub returns-in-Error : goal.returns-in-Error
+returns-in-Error c = simp c.in-Error.is
+
+pub returns-in-Exhausted : goal.returns-in-Exhausted
+returns-in-Exhausted c = simp c.in-Exhausted.is

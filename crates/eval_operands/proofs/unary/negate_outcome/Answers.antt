@@ -1,0 +1,11 @@
+-- `unary::negate_outcome` meets its contract. Assumes nothing.
+use Rattle.eval_operands.proofs.unary.negate_outcome.Goals as goal
+
+pub returns-in-Value : goal.returns-in-Value
+returns-in-Value c = simp (c.in-Value.is, ← c.negate.ensures)
+
+pub returns-in-Error : goal.returns-in-Error
+returns-in-Error c = simp c.in-Error.is
+
+pub returns-in-Exhausted : goal.returns-in-Exhausted
+returns-in-Exhausted c = simp c.in-Exhausted.is

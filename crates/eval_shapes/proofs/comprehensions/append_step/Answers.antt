@@ -1,0 +1,20 @@
+-- `comprehensions::append_step` meets its contract. Assumes nothing.
+use mathlib.Core.Path.{sym, ◌∙◌}
+use Rattle.eval_shapes.proofs.KindLaws.{sound-stands}
+use Rattle.eval_shapes.proofs.SeenOfRecords.{step-found, step-unlisted}
+use Rattle.eval_shapes.proofs.comprehensions.append_step.Goals as goal
+
+pub kind_at-requires : goal.kind_at-requires
+kind_at-requires c = (sound-stands c.args.table.now c.args.literal.now c.args.step c.requires).here
+
+pub guarded_step-requires : goal.guarded_step-requires
+guarded_step-requires c = (c.requires, sym c.kind_at.ensures ∙ c.if-kind_at-eq-CONDITIONAL.true)
+
+pub returns-then-kind_at-eq-CONDITIONAL : goal.returns-then-kind_at-eq-CONDITIONAL
+returns-then-kind_at-eq-CONDITIONAL c = c.guarded_step.ensures
+
+pub returns-in-At : goal.returns-in-At
+returns-in-At c = step-found c.args.table.now c.args.literal.now c.args.step c.requires (λ k. c.if-kind_at-eq-CONDITIONAL.false (c.kind_at.ensures ∙ k)) c.args.accumulator c.items_of.result c.in-At.list c.in-At.is c.items_of.ensures
+
+pub returns-in-No : goal.returns-in-No
+returns-in-No c = (step-unlisted c.args.table.now c.args.literal.now c.args.step c.requires (λ k. c.if-kind_at-eq-CONDITIONAL.false (c.kind_at.ensures ∙ k)) c.args.accumulator c.items_of.result c.in-No.is c.items_of.ensures.0, tt)

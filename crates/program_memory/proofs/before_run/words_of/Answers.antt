@@ -1,0 +1,10 @@
+-- `before_run::words_of` meets its contract. Assumes nothing.
+use native.Mathlib.Omega.{arith}
+use lib.ListN.{length-take}
+use Rattle.program_memory.proofs.before_run.words_of.Goals as goal
+
+pub returns-then-most-count : goal.returns-then-most-count
+returns-then-most-count c = (omega arith, (omega arith, simp length-take (omega arith)))
+
+pub returns-else-most-count : goal.returns-else-most-count
+returns-else-most-count c = (omega arith, (omega arith, simp length-take (omega arith)))

@@ -1,0 +1,17 @@
+-- `find` meets its contract: nothing is found before the loop's place. Assumes nothing.
+use Prim.Native.Nat.{◌-◌}
+use native.Mathlib.Omega.{arith}
+use Rattle.program_words.proofs.Places.{seek-start, seek-on, found_here, found_none}
+use Rattle.program_words.proofs.find.Goals as goal
+
+pub loop-at-init : goal.loop-at-init
+loop-at-init c = seek-start _ _ _
+
+pub returns-then-bytes-at : goal.returns-then-bytes-at
+returns-then-bytes-at c = found_here c.loop-at.invariant (omega arith) (omega arith)
+
+pub loop-at-preserved : goal.loop-at-preserved
+loop-at-preserved c = seek-on c.loop-at.invariant (omega arith) (omega arith)
+
+pub returns : goal.returns
+returns c = found_none c.loop-at.invariant (omega arith)

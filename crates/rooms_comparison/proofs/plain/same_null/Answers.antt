@@ -1,0 +1,13 @@
+-- `plain::same_null` meets its contract. Assumes nothing.
+use Rattle.meaning.specs.Value.{null}
+use Rattle.meaning.specs.Comparison.{rank}
+use Rattle.rooms_comparison.proofs.ScalarLaws.{null-same}
+use Rattle.rooms_comparison.proofs.Classes.{other-class, unlike-seen}
+use Rattle.rooms_comparison.proofs.plain.same_null.Goals as goal
+
+pub returns-in-Null : goal.returns-in-Null
+returns-in-Null c = λ l b t. simp c.in-Null.is null-same
+
+pub returns-in_default : goal.returns-in_default
+unfolding rank
+returns-in_default c = λ l b t. unlike-seen l b t null c.args.other (other-class 0 c.args.other c.in_default.in_default-own.keys2)
