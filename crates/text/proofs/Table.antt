@@ -91,6 +91,8 @@ in_row : (rows : List (List Range)) (byte : ℕ) (bytes : List ℕ) → InRows r
 in_row ([] ∷ rows) byte bytes (inr m) = let r = in_row rows byte bytes m in (suc r.0, r.1, r.2, r.3, r.4, r.5, r.6)
 in_row ((low to high ∷ ranges) ∷ rows) byte bytes (inl m) = (0, low, high, ranges, refl, m.0, m.1)
 in_row ((low to high ∷ ranges) ∷ rows) byte bytes (inr m) = let r = in_row rows byte bytes m in (suc r.0, r.1, r.2, r.3, r.4, r.5, r.6)
+in_row [] byte bytes x' = elim x' [ ]
+in_row ([] ∷ rows) byte bytes (inl m) = elim m [ ]
 
 -- the sequences of a row that a byte opens
 open_row : (rows : List (List Range)) (byte : ℕ) (bytes : List ℕ) (ranges : List Range) → opened rows byte ≡ some ranges → Matches ranges bytes → InRows rows (byte ∷ bytes)
@@ -150,6 +152,8 @@ continued (low to high ∷ ranges) (byte ∷ bytes) rest e m =
     let h = leb-true high 0xBF b.1 in
     let k = inside-holds low high byte m.0 in
     rw (inside-yes 0x80 0xBF byte (omega arith) (omega arith)) (continued ranges bytes rest a.1 m.1)
+continued [] (byte ∷ bytes) rest e m = elim m [ ]
+continued ((low to high) ∷ ranges) [] rest e m = elim m [ ]
 
 outside : (low high byte : ℕ) → (ltb high 0x80 || ltb 0xBF low) ≡ true → low ≤ byte → byte ≤ high → inside (0x80 to 0xBF) byte ≡ false
 outside low high byte e l h = go (ltb high 0x80) (ltb-true high 0x80) e
@@ -170,6 +174,8 @@ counted ((low to high ∷ ranges) ∷ rows) first rest e (inr m) =
     let a = (and-eq-true_iff (ltb high 0x80 || ltb 0xBF low) (continuing ranges && leading rows)).0 e in
     let b = (and-eq-true_iff (continuing ranges) (leading rows)).0 a.1 in
     counted rows first rest b.1 m
+counted [] first rest e m = elim m [ ]
+counted (((low to high) ∷ ranges) ∷ rows) [] rest e (inl m) = elim m [ ]
 
 -- ---- of the table
 -- A byte that a row begins with opens the rest of that row.

@@ -23,6 +23,8 @@ unfolding well_formed_from
 matched [] [] rest m = refl
 matched (range ∷ ranges) (byte ∷ bytes) rest m =
     ap (λ (t : Bool). well_formed_from (cond t (some ranges) none) (bytes ++ rest)) m.0 ∙ matched ranges bytes rest m.1
+matched [] (byte ∷ bytes) rest m = elim m [ ]
+matched (range ∷ ranges) [] rest m = elim m [ ]
 
 -- ---- a text is well formed exactly if it is made of the table's sequences
 not-empty : InRows table [] → ⊥
@@ -69,6 +71,7 @@ formed-characters bytes e = let s = split [] bytes e in go s.0 s.1 s.2 s.3 s.4 s
   where
     go : (first rest : List ℕ) → bytes ≡ first ++ rest → Matches [] first → (count : ℕ) → Characters rest count → (count : ℕ) × Characters bytes count
     go [] rest e m count s = (count, subst⁻¹ (λ (l : List ℕ). Characters l count) e s)
+    go (_ ∷ _) rest e m count s = elim m [ ]
 
 -- A text is well formed exactly if it is some number of the table's sequences, one after the other.
 pub well-formed-characters : (bytes : List ℕ) → (well_formed bytes ≡ true) ↔ ((count : ℕ) × Characters bytes count)

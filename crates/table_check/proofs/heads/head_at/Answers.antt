@@ -23,7 +23,7 @@ returns-then-end-at-2 c =
 
 pub returns-then-not-extent_fits : goal.returns-then-not-extent_fits
 returns-then-not-extent_fits c =
-    let f = sym c.extent_fits.ensures ∙ not-true _ c.if-not-extent_fits.true in
+    let f = sym c.extent_fits.ensures ∙ c.if-not-extent_fits.true in
     head-unfit c.args.table.now c.args.at c.if-table-at.false
     c.if-kind-ge-KINDS.false c.head_bytes-head.ensures.0
     c.if-end-at.false c.word_at-extent.ensures.0 c.if-end-at-2.false
@@ -31,7 +31,7 @@ returns-then-not-extent_fits c =
 
 pub returns : goal.returns
 returns c =
-    let f = sym c.extent_fits.ensures ∙ not-false _ c.if-not-extent_fits.false in
+    let f = sym c.extent_fits.ensures ∙ c.if-not-extent_fits.false in
     head-whole c.args.table.now c.args.at c.if-table-at.false
     c.if-kind-ge-KINDS.false c.head_bytes-head.ensures.0
     c.if-end-at.false c.word_at-extent.ensures.0 c.if-end-at-2.false

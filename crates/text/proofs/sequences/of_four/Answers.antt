@@ -20,24 +20,24 @@ pub returns-then-not-second_fits : goal.returns-then-not-second_fits
 returns-then-not-second_fits c =
     let first = get_or c.args.part.now c.args.at 0 in
     three-more c.args.part.now c.args.at c.requires.0 (low_of first to high_of first) (0x80 to 0xBF) (0x80 to 0xBF) false (inside (0x80 to 0xBF) (get_or c.args.part.now (c.args.at + 2) 0)) (inside (0x80 to 0xBF) (get_or c.args.part.now (c.args.at + 3) 0)) (four-opens first c.requires.1 c.requires.2) (omega arith)
-    (sym c.second_fits.ensures ∙ not-true _ c.if-not-second_fits.true) refl refl
+    (sym c.second_fits.ensures ∙ c.if-not-second_fits.true) refl refl
 
 pub returns-then-not-continues : goal.returns-then-not-continues
 returns-then-not-continues c =
     let first = get_or c.args.part.now c.args.at 0 in
     three-more c.args.part.now c.args.at c.requires.0 (low_of first to high_of first) (0x80 to 0xBF) (0x80 to 0xBF) true false (inside (0x80 to 0xBF) (get_or c.args.part.now (c.args.at + 3) 0)) (four-opens first c.requires.1 c.requires.2) (omega arith)
-    (sym c.second_fits.ensures ∙ not-false _ c.if-not-second_fits.false) (sym c.continues.ensures ∙ not-true _ c.if-not-continues.true) refl
+    (sym c.second_fits.ensures ∙ c.if-not-second_fits.false) (sym c.continues.ensures ∙ c.if-not-continues.true) refl
 
 pub returns-then-continues : goal.returns-then-continues
 returns-then-continues c =
     let first = get_or c.args.part.now c.args.at 0 in
     three-more c.args.part.now c.args.at c.requires.0 (low_of first to high_of first) (0x80 to 0xBF) (0x80 to 0xBF) true true true (four-opens first c.requires.1 c.requires.2) (omega arith)
-    (sym c.second_fits.ensures ∙ not-false _ c.if-not-second_fits.false) (sym c.continues.ensures ∙ not-false _ c.if-not-continues.false)
+    (sym c.second_fits.ensures ∙ c.if-not-second_fits.false) (sym c.continues.ensures ∙ c.if-not-continues.false)
     (sym c.continues-2.ensures ∙ c.if-continues.true)
 
 pub returns-else-continues : goal.returns-else-continues
 returns-else-continues c =
     let first = get_or c.args.part.now c.args.at 0 in
     three-more c.args.part.now c.args.at c.requires.0 (low_of first to high_of first) (0x80 to 0xBF) (0x80 to 0xBF) true true false (four-opens first c.requires.1 c.requires.2) (omega arith)
-    (sym c.second_fits.ensures ∙ not-false _ c.if-not-second_fits.false) (sym c.continues.ensures ∙ not-false _ c.if-not-continues.false)
+    (sym c.second_fits.ensures ∙ c.if-not-second_fits.false) (sym c.continues.ensures ∙ c.if-not-continues.false)
     (sym c.continues-2.ensures ∙ c.if-continues.false)

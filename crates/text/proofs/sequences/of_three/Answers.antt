@@ -20,16 +20,16 @@ pub returns-then-not-second_fits : goal.returns-then-not-second_fits
 returns-then-not-second_fits c =
     let first = get_or c.args.part.now c.args.at 0 in
     two-more c.args.part.now c.args.at c.requires.0 (low_of first to high_of first) (0x80 to 0xBF) false (inside (0x80 to 0xBF) (get_or c.args.part.now (c.args.at + 2) 0)) (three-opens first c.requires.1 c.requires.2) (omega arith)
-    (sym c.second_fits.ensures ∙ not-true _ c.if-not-second_fits.true) refl
+    (sym c.second_fits.ensures ∙ c.if-not-second_fits.true) refl
 
 pub returns-then-continues : goal.returns-then-continues
 returns-then-continues c =
     let first = get_or c.args.part.now c.args.at 0 in
     two-more c.args.part.now c.args.at c.requires.0 (low_of first to high_of first) (0x80 to 0xBF) true true (three-opens first c.requires.1 c.requires.2) (omega arith)
-    (sym c.second_fits.ensures ∙ not-false _ c.if-not-second_fits.false) (sym c.continues.ensures ∙ c.if-continues.true)
+    (sym c.second_fits.ensures ∙ c.if-not-second_fits.false) (sym c.continues.ensures ∙ c.if-continues.true)
 
 pub returns-else-continues : goal.returns-else-continues
 returns-else-continues c =
     let first = get_or c.args.part.now c.args.at 0 in
     two-more c.args.part.now c.args.at c.requires.0 (low_of first to high_of first) (0x80 to 0xBF) true false (three-opens first c.requires.1 c.requires.2) (omega arith)
-    (sym c.second_fits.ensures ∙ not-false _ c.if-not-second_fits.false) (sym c.continues.ensures ∙ c.if-continues.false)
+    (sym c.second_fits.ensures ∙ c.if-not-second_fits.false) (sym c.continues.ensures ∙ c.if-continues.false)

@@ -27,7 +27,7 @@ loop-at-smaller c = omega (arith, c.loop-at.invariant.within, c.requires.1)
 pub loop-at-preserved : goal.loop-at-preserved
 loop-at-preserved c =
     passes-block c.loop-at.invariant c.args.block (omega (arith, c.loop-at.invariant.within))
-    (ltb-true _ _ (sym c.ascii.ensures ∙ not-false _ c.if-not-ascii.false))
+    (ltb-true _ _ (sym c.ascii.ensures ∙ c.if-not-ascii.false))
 
 pub returns : goal.returns
 returns c = c.loop-at.invariant
