@@ -17,6 +17,7 @@ module _ (n : ℕ) where
   either ((p, some m) ∷ rs) ss (inl (inl e)) = inl e
   either ((p, some m) ∷ rs) ss (inl (inr h)) = inr (either rs ss (inl h))
   either ((p, some m) ∷ rs) ss (inr h) = inr (either rs ss (inr h))
+  either [] ss (inl x'') = elim x'' [ ]
 
   one_of : (rs ss : List Listed) → Has (rs ++ ss) n → Has rs n ⊎ Has ss n
   one_of [] ss h = inr h
@@ -55,10 +56,13 @@ module _ (n : ℕ) where
         (joined (records_of condition) _ (λ i. listed condition i) (joined (records_of step) (records_of result) (λ i. listed step i) (λ i. listed result i)))) h
     listed (call p f e) h = listed e h
     listed (or_value p e f) h = joined (records_of e) (records_of f) (λ i. listed e i) (λ i. listed f i) h
+    listed (Rattle.meaning.specs.Expr.literal _ _) h = elim h [ ]
+    listed (Rattle.meaning.specs.Expr.none_call _) h = elim h [ ]
 
     listed-elements : (es : Elements) → NamesInElements es n → Has (records_of_elements es) n
     listed-elements (element e es) h = joined (records_of e) _ (λ i. listed e i) (λ i. listed-elements es i) h
     listed-elements (marked_element p e es) h = joined (records_of e) _ (λ i. listed e i) (λ i. listed-elements es i) h
+    listed-elements Rattle.meaning.specs.Expr.no_elements h = elim h [ ]
 
     listed-pairs : (es : Pairs) → NamesInPairs es n → Has (records_of_pairs es) n
     listed-pairs (pair k e es) h = joined (records_of k) _ (λ i. listed k i) (joined (records_of e) _ (λ i. listed e i) (λ i. listed-pairs es i)) h
@@ -82,10 +86,14 @@ module _ (n : ℕ) where
         (parted (records_of condition) _ (λ i. named condition i) (parted (records_of step) (records_of result) (λ i. named step i) (λ i. named result i)))) h
     named (call p f e) h = named e h
     named (or_value p e f) h = parted (records_of e) (records_of f) (λ i. named e i) (λ i. named f i) h
+    named (Rattle.meaning.specs.Expr.literal _ _) h = elim h [ ]
+    named (name p m) (inr x5) = elim x5 [ ]
+    named (Rattle.meaning.specs.Expr.none_call _) h = elim h [ ]
 
     named-elements : (es : Elements) → Has (records_of_elements es) n → NamesInElements es n
     named-elements (element e es) h = parted (records_of e) _ (λ i. named e i) (λ i. named-elements es i) h
     named-elements (marked_element p e es) h = parted (records_of e) _ (λ i. named e i) (λ i. named-elements es i) h
+    named-elements Rattle.meaning.specs.Expr.no_elements h = elim h [ ]
 
     named-pairs : (es : Pairs) → Has (records_of_pairs es) n → NamesInPairs es n
     named-pairs (pair k e es) h = parted (records_of k) _ (λ i. named k i) (parted (records_of e) _ (λ i. named e i) (λ i. named-pairs es i)) h

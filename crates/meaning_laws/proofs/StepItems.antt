@@ -60,7 +60,7 @@ module _ (a i : ℕ) (fold : Option LogicalFold) (path : Option AppendStep) (ran
       covered-choice (run condition s) _ _ (covered-map c (h [] condition s InLoop.condition_of_item) (of_condition s))
       (λ g. covered-after r _ (covered-map r.0 (h c next (store s i x) (step_of_item g)) (of_next (store s i x)))
       (after-step-accounted a fold (λ t p. loop parts xs t p) (store s i x) pending r.1
-      (λ t still o. loop-accounted xs t still (λ b f u l y q.
+      (λ t still o. loop-accounted {P = λ y. P (c ++ (r.0 ++ y))} xs t still (λ b f u l y q.
       subst P (append_assoc c (r.0 ++ b) y ∙ ap (c ++◌) (append_assoc r.0 b y)) (h (c ++ (r.0 ++ b)) f u (later_item g o l) y q)))))
       (λ g. finish-accounted s pending
       (λ e. h c result s (subst (λ p. InLoop a i fold condition next result (x ∷ xs) s p c result s) (sym e) (result_at_false g))))
@@ -122,10 +122,10 @@ module _ (a i : ℕ) (fold : Option LogicalFold) (path : Option AppendStep) (ran
       (λ g. turn-accounted (λ t more. append_loop parts' way xs t more) u out
       (λ w e. h c w u (guard_of_item e g))
       (λ q k y o. subst P (append_assoc c q y) (h (c ++ q) items u (items_of_item g k) y o))
-      (λ q k vs e. append-accounted xs u (join out vs) (λ b f t r y o.
+      (λ q k vs e. append-accounted {P = λ y. P (c ++ (q ++ (n ++ (cells vs ∷ y))))} xs u (join out vs) (λ b f t r y o.
       subst P (append_assoc c (q ++ (n ++ (cells vs ∷ b))) y ∙ ap (c ++◌) (append_assoc q (n ++ (cells vs ∷ b)) y ∙
       ap (q ++◌) (append_assoc n (cells vs ∷ b) y))) (h (c ++ (q ++ (n ++ (cells vs ∷ b)))) f t (after_items g k e r) y o)))
-      (λ w e no. append-accounted xs u out (λ b f t r y o.
+      (λ w e no. append-accounted {P = λ y. P (c ++ ((run w u).0 ++ y))} xs u out (λ b f t r y o.
       subst P (append_assoc c ((run w u).0 ++ b) y ∙ ap (c ++◌) (append_assoc (run w u).0 b y))
       (h (c ++ ((run w u).0 ++ b)) f t (after_no_items e g no r) y o))))
       (λ g. silent-any _ (built-silent out (list out)))

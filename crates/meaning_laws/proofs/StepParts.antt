@@ -48,11 +48,11 @@ unfolding run_elements pure
 elements-accounted s no_elements vs a h = nothing
 elements-accounted {P} s (element e es) vs a h =
     element-accounted false (run e s) _ vs (covered-map (run e s).0 (h [] e first_element) (a.0 s))
-    (λ g ws. elements-accounted s es ws a.1
+    (λ g ws. elements-accounted {P = λ x. P ((run e s).0 ++ x)} s es ws a.1
     (λ b f i x o. subst P (append_assoc (run e s).0 b x) (h ((run e s).0 ++ b) f (after_element g i) x o)))
 elements-accounted {P} s (marked_element p e es) vs a h =
     element-accounted true (run e s) _ vs (covered-map (run e s).0 (h [] e first_marked) (a.0 s))
-    (λ g ws. elements-accounted s es ws a.1
+    (λ g ws. elements-accounted {P = λ x. P ((run e s).0 ++ x)} s es ws a.1
     (λ b f i x o. subst P (append_assoc (run e s).0 b x) (h ((run e s).0 ++ b) f (after_marked g i) x o)))
 
 -- ---- entries
@@ -93,7 +93,7 @@ pairs-accounted {P} s (pair k e ps) ready a h q =
     pair-accounted false (run k s) (run e s) ready _ (entry-accounted false (run k s) (run e s) ready
     (covered-map (run k s).0 (h [] k first_key) (a.0 s)) (λ g. covered-map (run e s).0 (h (run k s).0 e (its_value g)) (a.1 s))
     (λ g w n i. q (((run k s).0 ++ (run e s).0) ++ replicate n step) (its_key g w n i)))
-    (λ more g. pairs-accounted s ps more a.2
+    (λ more g. pairs-accounted {P = λ x. P (made ++ x)} s ps more a.2
     (λ b f i x o. subst P (append_assoc made b x) (h (made ++ b) f (after_entry g i) x o))
     (λ b i. q (made ++ b) (later_key g i)))
 pairs-accounted {P} s (marked_pair k p e ps) ready a h q =
@@ -101,7 +101,7 @@ pairs-accounted {P} s (marked_pair k p e ps) ready a h q =
     pair-accounted true (run k s) (run e s) ready _ (entry-accounted true (run k s) (run e s) ready
     (covered-map (run k s).0 (h [] k first_marked_key) (a.0 s)) (λ g. covered-map (run e s).0 (h (run k s).0 e (its_marked_value g)) (a.1 s))
     (λ g w n i. q (((run k s).0 ++ (run e s).0) ++ replicate n step) (its_marked_key g w n i)))
-    (λ more g. pairs-accounted s ps more a.2
+    (λ more g. pairs-accounted {P = λ x. P (made ++ x)} s ps more a.2
     (λ b f i x o. subst P (append_assoc made b x) (h (made ++ b) f (after_marked_entry g i) x o))
     (λ b i. q (made ++ b) (later_marked_key g i)))
 

@@ -8,16 +8,16 @@ use Rattle.board_state.proofs.SlotSteps.{slots_over, over_none, over-on, over-al
 use Rattle.board_state.proofs.put_scope.Goals as goal
 
 pub loop-at-init : goal.loop-at-init
-loop-at-init c = (refl, over_none c.args.t2.slots c.args.words.now, omega arith)
+loop-at-init c = (refl, over_none c.args.scope.slots c.args.words.now, omega arith)
 
 pub loop-at-preserved : goal.loop-at-preserved
 loop-at-preserved c = (again.0, again.1, omega arith)
   where
-    again : (length c.write_cell.new.0 ≡ length c.args.words.now) × (c.write_cell.new.0 ≡ slots_over c.args.t2.slots c.args.words.now (c.loop-at.at + 1))
-    again = over-on c.args.t2.slots c.args.words.now c.loop-at.words c.write_cell.new.0 c.loop-at.at _ (mapped-length c.args.t2.slots _ 128 c.well_formed.1.0.1.1.0.1.0.1) c.requires c.loop-at-test.true c.loop-at.invariant.0 c.loop-at.invariant.1 c.write_cell.ensures
+    again : (length c.write_cell.new.0 ≡ length c.args.words.now) × (c.write_cell.new.0 ≡ slots_over c.args.scope.slots c.args.words.now (c.loop-at.at + 1))
+    again = over-on c.args.scope.slots c.args.words.now c.loop-at.words c.write_cell.new.0 c.loop-at.at _ (mapped-length c.args.scope.slots _ 128 c.well_formed.1.0.1.1.0.1.0.1) c.requires c.loop-at-test.true c.loop-at.invariant.0 c.loop-at.invariant.1 c.write_cell.ensures
 
 pub shape_of-words : goal.shape_of-words
 shape_of-words c = c.loop-at.invariant.0
 
 pub returns : goal.returns
-returns c = c.loop-at.invariant.1 ∙ over-all c.args.t2.slots c.args.words.now c.loop-at.at (mapped-length c.args.t2.slots _ 128 c.well_formed.1.0.1.1.0.1.0.1) (omega arith)
+returns c = c.loop-at.invariant.1 ∙ over-all c.args.scope.slots c.args.words.now c.loop-at.at (mapped-length c.args.scope.slots _ 128 c.well_formed.1.0.1.1.0.1.0.1) (omega arith)

@@ -1,4 +1,5 @@
 -- `begun_first` meets its contract. Assumes nothing.
+use borrow.Enum.Refused.{opened}
 use Rattle.eval_shapes.proofs.KindLaws.{sound-stands}
 use Rattle.eval_shapes.proofs.NextLaws.{first-place, operand-start, default-place}
 use Rattle.eval_shapes.proofs.begun_first.Goals as goal
@@ -16,4 +17,4 @@ pub returns-in-OrValue : goal.returns-in-OrValue
 returns-in-OrValue c = default-place c.args.table.now c.args.literal.now c.args.at c.requires.0 c.args.fixed c.requires.1 c.first_operand.result c.first_operand.ensures c.in-OrValue.is c.end_at.result c.end_at.ensures
 
 pub returns-in_default : goal.returns-in_default
-returns-in_default c = first-place c.args.table.now c.args.literal.now c.args.at c.requires.0 c.args.fixed c.requires.1 c.first_operand-in_default.result c.first_operand-in_default.ensures c.in_default.in_default-own.keys2
+returns-in_default c = first-place c.args.table.now c.args.literal.now c.args.at c.requires.0 c.args.fixed c.requires.1 c.first_operand-in_default.result c.first_operand-in_default.ensures (opened c.in_default.in_default-own.keys2)

@@ -1,4 +1,5 @@
 -- `conditions::asks` meets its contract. Assumes nothing.
+use borrow.Enum.Refused.{opened}
 use mathlib.Core.Path.{refl}
 use Rattle.eval_outcomes.proofs.Stops.{by-stop}
 use Rattle.eval_logic.specs.Conditions.{asked_of}
@@ -6,7 +7,7 @@ use Rattle.eval_logic.specs.declared.conditions.Asked.TheVariants as Asked
 use Rattle.eval_logic.proofs.conditions.asks.Goals as goal
 
 pub returns-in_default : goal.returns-in_default
-returns-in_default c = by-stop (λ o. Asked.Ends o) (λ o. asked_of c.args.at o) (λ e p u. refl) (λ x u. refl) c.args.condition c.in_default.in_default-own.keys2
+returns-in_default c = by-stop (λ o. Asked.Ends o) (λ o. asked_of c.args.at o) (λ e p u. refl) (λ x u. refl) c.args.condition (opened c.in_default.in_default-own.keys2)
 
 pub returns-in-Yes : goal.returns-in-Yes
 returns-in-Yes c = simp (c.in-Value.is, ← c.truth_of.ensures, c.in-Yes.is)

@@ -18,7 +18,7 @@ list_parts-Inv-loop table literal binding-cells binding-text cells₀ text₀ li
 abbrev pub list_parts-μ-loop : list-parts-lts.decreases-loop
 list_parts-μ-loop table literal binding-cells binding-text cells₀ text₀ limit at first count scope place₀ left₀ spent₀ ready₀ cells text place left spent ready = left
 
-pub element-came : (t : ℕ) (c : list-parts-lts.Joined1 (list_parts-claims t) (list_parts-at t) list-parts.Post list_parts-Inv-loop list_parts-μ-loop) → Came c.before.before.before.before.before.before.before.before.before.before.before.before.before.args.table.now c.before.before.before.before.before.before.before.before.before.before.before.before.before.args.literal.now c.before.before.before.before.before.before.before.before.before.before.before.before.before.args.binding_cells.now c.before.before.before.before.before.before.before.before.before.before.before.before.before.args.binding_text.now c.before.before.before.before.before.before.before.before.before.before.before.before.before.args.limit (unmarked_at c.before.before.before.before.before.before.before.before.before.before.before.before.before.args.table.now c.before.before.before.before.before.loop.place) c.before.before.before.before.before.before.before.before.before.before.before.before.before.args.t9 c.before.before.before.before.before.loop.spent c.before.before.before.before.before.loop.cells c.before.before.before.before.before.loop.text c.if1.part c.if1.cells c.if1.text
+pub element-came : (t : ℕ) (c : list-parts-lts.Joined1 (list_parts-claims t) (list_parts-at t) list-parts.Post list_parts-Inv-loop list_parts-μ-loop) → Came c.before.before.before.before.before.before.before.before.before.before.before.before.before.args.table.now c.before.before.before.before.before.before.before.before.before.before.before.before.before.args.literal.now c.before.before.before.before.before.before.before.before.before.before.before.before.before.args.binding_cells.now c.before.before.before.before.before.before.before.before.before.before.before.before.before.args.binding_text.now c.before.before.before.before.before.before.before.before.before.before.before.before.before.args.limit (unmarked_at c.before.before.before.before.before.before.before.before.before.before.before.before.before.args.table.now c.before.before.before.before.before.loop.place) c.before.before.before.before.before.before.before.before.before.before.before.before.before.args.scope c.before.before.before.before.before.loop.spent c.before.before.before.before.before.loop.cells c.before.before.before.before.before.loop.text c.if1.part c.if1.cells c.if1.text
 element-came t c =
     let loop = c.before.before.before.before.before.loop in
     let unmarked = c.before.before.unmarked in

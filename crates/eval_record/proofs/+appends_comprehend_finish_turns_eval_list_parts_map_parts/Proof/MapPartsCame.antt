@@ -19,7 +19,7 @@ map_parts-Inv-loop table literal binding-cells binding-text cells₀ text₀ lim
 abbrev pub map_parts-μ-loop : map-parts-lts.decreases-loop
 map_parts-μ-loop table literal binding-cells binding-text cells₀ text₀ limit at first count scope place₀ left₀ spent₀ ready₀ cells text place left spent ready = left
 
-pub key-came : (t : ℕ) (c : map-parts-lts.Joined1 (map_parts-claims t) (map_parts-at t) map-parts.Post map_parts-Inv-loop map_parts-μ-loop) → Came c.before.before.before.before.before.before.before.before.before.before.before.args.table.now c.before.before.before.before.before.before.before.before.before.before.before.args.literal.now c.before.before.before.before.before.before.before.before.before.before.before.args.binding_cells.now c.before.before.before.before.before.before.before.before.before.before.before.args.binding_text.now c.before.before.before.before.before.before.before.before.before.before.before.args.limit c.before.before.before.loop.place c.before.before.before.before.before.before.before.before.before.before.before.args.t9 c.before.before.before.loop.spent c.before.before.before.loop.cells c.before.before.before.loop.text c.if1.one c.if1.cells c.if1.text
+pub key-came : (t : ℕ) (c : map-parts-lts.Joined1 (map_parts-claims t) (map_parts-at t) map-parts.Post map_parts-Inv-loop map_parts-μ-loop) → Came c.before.before.before.before.before.before.before.before.before.before.before.args.table.now c.before.before.before.before.before.before.before.before.before.before.before.args.literal.now c.before.before.before.before.before.before.before.before.before.before.before.args.binding_cells.now c.before.before.before.before.before.before.before.before.before.before.before.args.binding_text.now c.before.before.before.before.before.before.before.before.before.before.before.args.limit c.before.before.before.loop.place c.before.before.before.before.before.before.before.before.before.before.before.args.scope c.before.before.before.loop.spent c.before.before.before.loop.cells c.before.before.before.loop.text c.if1.one c.if1.cells c.if1.text
 key-came t c =
     let loop = c.before.before.before.loop in
     let start = c.before.before.before.before.before.before.before.before.before.before.before in
@@ -33,7 +33,7 @@ key-came t c =
     let long = (mapped-length args.t9.slots _ 128 good.1.1.1.1.1.1.1.1.0.1.1.0.1.0.1) in
     ⊎_elim (λ w. came-leaf table literal bindings texts args.limit loop.place args.t9 loop.spent loop.cells loop.text f.key long (leaf-here table loop.place c.before.is_is_leaf.ensures w.0.taken) w.1.ensures w.3.ensures w.4 w.5 w.6) (λ w. came-record table literal bindings texts args.limit loop.place args.t9 loop.spent loop.cells loop.text w.3.ensures w.3.kept.1.1.1.1.0 w.3.kept.1.1.1.1.1.0 w.8 w.9 w.10) c.if1.branch
 
-pub value-came : (t : ℕ) (c : map-parts-lts.Joined2 (map_parts-claims t) (map_parts-at t) map-parts.Post map_parts-Inv-loop map_parts-μ-loop) → Came c.before.before.before.before.before.before.before.before.before.before.before.before.before.before.before.before.before.before.before.before.args.table.now c.before.before.before.before.before.before.before.before.before.before.before.before.before.before.before.before.before.before.before.before.args.literal.now c.before.before.before.before.before.before.before.before.before.before.before.before.before.before.before.before.before.before.before.before.args.binding_cells.now c.before.before.before.before.before.before.before.before.before.before.before.before.before.before.before.before.before.before.before.before.args.binding_text.now c.before.before.before.before.before.before.before.before.before.before.before.before.before.before.before.before.before.before.before.before.args.limit (unmarked_at c.before.before.before.before.before.before.before.before.before.before.before.before.before.before.before.before.before.before.before.before.args.table.now (after c.before.before.before.before.before.before.before.before.before.before.before.before.before.before.before.before.before.before.before.before.args.table.now c.before.before.before.before.before.before.before.before.before.before.before.before.loop.place)) c.before.before.before.before.before.before.before.before.before.before.before.before.before.before.before.before.before.before.before.before.args.t9 c.before.before.before.before.before.before.key.given.0.1.0 c.before.before.before.before.before.before.before.before.before.if1.cells c.before.before.before.before.before.before.before.before.before.if1.text c.if2.part c.if2.cells c.if2.text
+pub value-came : (t : ℕ) (c : map-parts-lts.Joined2 (map_parts-claims t) (map_parts-at t) map-parts.Post map_parts-Inv-loop map_parts-μ-loop) → Came c.before.before.before.before.before.before.before.before.before.before.before.before.before.before.before.before.before.before.before.before.args.table.now c.before.before.before.before.before.before.before.before.before.before.before.before.before.before.before.before.before.before.before.before.args.literal.now c.before.before.before.before.before.before.before.before.before.before.before.before.before.before.before.before.before.before.before.before.args.binding_cells.now c.before.before.before.before.before.before.before.before.before.before.before.before.before.before.before.before.before.before.before.before.args.binding_text.now c.before.before.before.before.before.before.before.before.before.before.before.before.before.before.before.before.before.before.before.before.args.limit (unmarked_at c.before.before.before.before.before.before.before.before.before.before.before.before.before.before.before.before.before.before.before.before.args.table.now (after c.before.before.before.before.before.before.before.before.before.before.before.before.before.before.before.before.before.before.before.before.args.table.now c.before.before.before.before.before.before.before.before.before.before.before.before.loop.place)) c.before.before.before.before.before.before.before.before.before.before.before.before.before.before.before.before.before.before.before.before.args.scope c.before.before.before.before.before.before.key.given.0.1.0 c.before.before.before.before.before.before.before.before.before.if1.cells c.before.before.before.before.before.before.before.before.before.if1.text c.if2.part c.if2.cells c.if2.text
 value-came t c =
     let loop = c.before.before.before.before.before.before.before.before.before.before.before.before.loop in
     let loop-test = c.before.before.before.before.before.before.before.before.before.before.before.loop-test in

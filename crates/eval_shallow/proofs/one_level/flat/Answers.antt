@@ -1,4 +1,5 @@
 -- `one_level::flat` meets its contract. Assumes nothing.
+use borrow.Enum.Refused.{opened}
 use mathlib.Core.Path.{sym, ◌∙◌}
 use native.Mathlib.Omega.{arith}
 use Rattle.rooms.specs.Rooms.{rooms}
@@ -57,4 +58,4 @@ returns-in-At c =
 
 pub returns-in_default : goal.returns-in_default
 returns-in_default c =
-    flat-else (expr_of c.args.table.now c.args.literal.now c.args.at) c.requires.1 c.shape_at.result c.shape_at.ensures c.in_default.in_default-own.keys2
+    flat-else (expr_of c.args.table.now c.args.literal.now c.args.at) c.requires.1 c.shape_at.result c.shape_at.ensures (opened c.in_default.in_default-own.keys2)

@@ -1,4 +1,5 @@
 -- `single_lists::single` meets its contract. Assumes nothing.
+use borrow.Enum.Refused.{opened}
 use mathlib.Core.Path.{◌∙◌}
 use mathlib.Core.Bool.{false}
 use native.Mathlib.Omega.{arith}
@@ -41,7 +42,7 @@ returns-in_default c =
     let one = single-here c.args.table.now c.args.literal.now c.args.at c.requires.0 c.requires.1 in
     λ s h.
     let element = element-gives c.args.table.now c.args.literal.now c.args.at one c.first_operand.ensures s c.args.first.value c.args.second.value c.args.third.value c.args.fourth.value h c.args.limit _ _ c.reach-element.ensures in
-    after-step c.args.table.now c.args.literal.now c.args.limit c.args.at s c.args.used lent c.if-limit-used.false c.stepped-begun.ensures (single-stops c.args.table.now c.args.literal.now c.args.limit c.args.at c.requires.0 one s c.stepped-begun.result lent c.begin.ensures c.in-At.is element c.in_default.in_default-own.keys2)
+    after-step c.args.table.now c.args.literal.now c.args.limit c.args.at s c.args.used lent c.if-limit-used.false c.stepped-begun.ensures (single-stops c.args.table.now c.args.literal.now c.args.limit c.args.at c.requires.0 one s c.stepped-begun.result lent c.begin.ensures c.in-At.is element (opened c.in_default.in_default-own.keys2))
 
 pub whole_list-requires : goal.whole_list-requires
 whole_list-requires c =

@@ -1,4 +1,5 @@
 -- `value::nesting_of` meets its contract. Assumes nothing.
+use borrow.Enum.Refused.{opened}
 use Rattle.rooms.proofs.Variants.{no-parts}
 use Rattle.rooms.proofs.value.nesting_of.Goals as goal
 
@@ -12,4 +13,4 @@ pub returns-in-OptionalOf : goal.returns-in-OptionalOf
 returns-in-OptionalOf c = simp c.in-OptionalOf.is
 
 pub returns-in_default : goal.returns-in_default
-returns-in_default c = (no-parts c.args.value c.in_default.in_default-own.keys4).0
+returns-in_default c = (no-parts c.args.value (opened c.in_default.in_default-own.keys4)).0

@@ -1,4 +1,5 @@
 -- `ordering::compare_bool` meets its contract. Assumes nothing.
+use borrow.Enum.Refused.{opened}
 use mathlib.Core.Path.{ap, ◌∙◌}
 use Rattle.meaning.specs.Value.{bool}
 use Rattle.meaning.specs.Comparison.{rank}
@@ -10,7 +11,7 @@ use Rattle.rooms_comparison.proofs.ordering.compare_bool.Goals as goal
 
 pub returns-in_default : goal.returns-in_default
 unfolding rank
-returns-in_default c = λ l b t. no-order-seen l b t (bool c.args.left) c.args.other (other-class 1 c.args.other c.in_default.in_default-own.keys2)
+returns-in_default c = λ l b t. no-order-seen l b t (bool c.args.left) c.args.other (other-class 1 c.args.other (opened c.in_default.in_default-own.keys2))
 
 pub returns : goal.returns
 returns c = λ l b t. simp c.in-Bool.is (ap Compared.Is c.bool_order.ensures ∙ bool-order c.args.left c.in-Bool.right)

@@ -1,4 +1,5 @@
 -- `ordering::compare_bytes` meets its contract. Assumes nothing.
+use borrow.Enum.Refused.{opened}
 use mathlib.Core.Path.{ap, ◌∙◌}
 use Rattle.meaning.specs.Value.{bytes}
 use Rattle.rooms.specs.Rooms.{part, text_of}
@@ -11,7 +12,7 @@ use Rattle.rooms_comparison.proofs.ordering.compare_bytes.Goals as goal
 
 pub returns-in_default : goal.returns-in_default
 unfolding rank
-returns-in_default c = no-order-seen c.args.literal.now c.args.binding_text.now c.args.text.now (bytes (part (text_of c.args.literal.now c.args.binding_text.now c.args.text.now c.args.space) c.args.first c.args.length)) c.args.other (other-class 4 c.args.other c.in_default.in_default-own.keys2)
+returns-in_default c = no-order-seen c.args.literal.now c.args.binding_text.now c.args.text.now (bytes (part (text_of c.args.literal.now c.args.binding_text.now c.args.text.now c.args.space) c.args.first c.args.length)) c.args.other (other-class 4 c.args.other (opened c.in_default.in_default-own.keys2))
 
 pub returns : goal.returns
 returns c = simp c.in-Bytes.is (ap Compared.Is (c.text_order.ensures ∙ ap text_order c.parts_compare.ensures) ∙ bytes-order _ _)

@@ -1,4 +1,5 @@
 -- `plain::same_null` meets its contract. Assumes nothing.
+use borrow.Enum.Refused.{opened}
 use Rattle.meaning.specs.Value.{null}
 use Rattle.meaning.specs.Comparison.{rank}
 use Rattle.rooms_comparison.proofs.ScalarLaws.{null-same}
@@ -10,4 +11,4 @@ returns-in-Null c = λ l b t. simp c.in-Null.is null-same
 
 pub returns-in_default : goal.returns-in_default
 unfolding rank
-returns-in_default c = λ l b t. unlike-seen l b t null c.args.other (other-class 0 c.args.other c.in_default.in_default-own.keys2)
+returns-in_default c = λ l b t. unlike-seen l b t null c.args.other (other-class 0 c.args.other (opened c.in_default.in_default-own.keys2))

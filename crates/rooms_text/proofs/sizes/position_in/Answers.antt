@@ -1,4 +1,5 @@
 -- `sizes::position_in` meets its contract. Assumes nothing.
+use borrow.Enum.Refused.{opened}
 use mathlib.Core.Path.{ap, sym, ◌∙◌}
 use native.Mathlib.Omega.{arith}
 use lib.IntN.{nat_abs}
@@ -24,4 +25,4 @@ pub returns-in-Uint : goal.returns-in-Uint
 returns-in-Uint c = simp (c.in-Uint.is, ← c.within-in-Uint.ensures)
 
 pub returns-in_default : goal.returns-in_default
-returns-in_default c = no_index c.args.index c.args.length c.in_default.in_default-own.keys3
+returns-in_default c = no_index c.args.index c.args.length (opened c.in_default.in_default-own.keys3)

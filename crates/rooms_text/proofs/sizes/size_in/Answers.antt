@@ -1,4 +1,5 @@
 -- `sizes::size_in` meets its contract. Assumes nothing.
+use borrow.Enum.Refused.{opened}
 use native.Mathlib.Omega.{arith}
 use Rattle.rooms.specs.Rooms.{text_of}
 use Rattle.rooms_text.proofs.OtherKinds.{no_size}
@@ -24,4 +25,4 @@ pub returns-in-Map : goal.returns-in-Map
 returns-in-Map c = simp c.in-Map.is
 
 pub returns-in_default : goal.returns-in_default
-returns-in_default c = no_size c.args.literal.now c.args.binding_text.now c.args.text.now c.args.value c.in_default.in_default-own.keys5
+returns-in_default c = no_size c.args.literal.now c.args.binding_text.now c.args.text.now c.args.value (opened c.in_default.in_default-own.keys5)
