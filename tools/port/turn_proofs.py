@@ -75,8 +75,8 @@ class Function:
 
 
 class Turned:
-    def __init__(self, function, text, module, said):
-        self.function, self.text, self.module, self.said = function, text, module, said
+    def __init__(self, function, text, module, said, stem="", cycle=False):
+        self.function, self.text, self.module, self.said, self.stem, self.cycle = function, text, module, said, stem, cycle
         self.used_places = set()
 
     def left(self, what):
@@ -188,14 +188,18 @@ class Turned:
                 uses = [l for l in block.split("\n") if l.startswith("use ")]
                 head = [l for l in block.split("\n") if l.startswith("--")]
                 continue
-            sig = re.search(r"(?m)^((?:pub |abbrev )*)" + re.escape(name) + r" :((?:.*)(?:\n[ \t]+.*)*)", block)
+            sig = re.search(r"(?m)^((?:pub |abbrev )*)" + re.escape(name) + r" :((?:.*)(?:\n(?![^\n]* =(?:\s|$)|unfolding )[ \t)].*)*)", block)
             kind = sig[2].strip()
+            if self.cycle:
+                kind = re.sub(r"^\(t : ℕ\) → ", "", kind)
             if re.search(r"(?:-|_)spec$", name) and "statement" in kind:
                 continue
             notes = [l for l in block.split("\n") if l.startswith("--")]
             body = block[sig.end() :].strip("\n")
             need = re.match(r"tie\.Need-(" + W + r")", kind)
             loop = re.match(r"tie\.(invariant|decreases)-(" + W + r")", kind)
+            if self.cycle and not need and not loop and re.search(r"\bMeasures\b|\bIn \d", kind):
+                continue
             if need:
                 key = plain(need[1])
                 row = f.needs.get(key) or f.needs.get(goal_key(need[1]))
@@ -203,6 +207,7 @@ class Turned:
                     self.left(f"no goal `{need[1]}`")
                     continue
                 new, place = row
+                new = self.stem + new
                 if re.fullmatch(r"\S+(?: \S+)* =\s+search rules", body.strip()):
                     continue
                 clause = re.search(r"(?m)^" + re.escape(name) + r"((?: " + W + r")*) =", body)
@@ -210,10 +215,12 @@ class Turned:
                     self.left(f"`{name}`: no clause of the usual form")
                     continue
                 args = clause[1].split()
+                if self.cycle:
+                    args = args[1:]
                 variables = {args[0]: place} if args else {}
                 code = self.converted(self.types(body), variables)
                 # a call's lifetimes are no argument of an answer today
-                code = re.sub(r"(?m)^" + re.escape(name) + r" (" + W + r") κs =", r"" + name + r" \1 =", code)
+                code = re.sub(r"(?m)^" + re.escape(name) + r"((?: " + W + r")+?) κs =", lambda m: name + m[1] + " =", code)
                 code = re.sub(r"(?m)^" + re.escape(name) + r"(?= |$)", new, code)
                 answers.append("\n".join(notes + [f"pub {new} : goal.{new}", code]))
             elif loop:
@@ -222,6 +229,7 @@ class Turned:
                     self.left(f"no loop `{loop[2]}`")
                     continue
                 new, names, changed = f.loops[key]
+                new = self.stem + new
                 clause = re.search(r"(?m)^" + re.escape(name) + r"((?: " + W + r")*) =", body)
                 args = clause[1].split()
                 now = [n for n, c in zip(names, changed) if c]
@@ -269,12 +277,90 @@ def kept_uses(uses, text, module):
     return out
 
 
+def cycle(name, crate, found, members, said):
+    """The proof of functions that call one another: one file of invariants, one of answers."""
+    folder = os.path.join(crate, "proofs", *found.split("."))
+    whole = f"Rattle.{name}.proofs.{found}"
+    paths = [os.path.join(folder, "Proof.antt")]
+    inner = os.path.join(folder, "Proof")
+    if os.path.isdir(inner):
+        paths += [os.path.join(inner, it) for it in sorted(os.listdir(inner))]
+    uses, answers, invariants, places, head = [], [], [], set(), []
+    for path in paths:
+        with open(path, encoding="utf-8") as it:
+            text = it.read()
+        aliases = re.findall(r"(?m)^use " + re.escape(whole) + r"\.Lts-(\S+) as (\S+)$", text)
+        blocks = re.split(r"\n(?=(?:-- [^\n]*\n)*(?:pub |abbrev )*" + W + r" :\s)", text)
+        uses += [l for l in blocks[0].split("\n") if l.startswith("use ")]
+        if path == paths[0]:
+            head = [l for l in blocks[0].split("\n") if l.startswith("--")]
+        for block in blocks[1:]:
+            if re.search(r": \{M : Type 1\} → statement M", block):
+                continue
+            cited = [(member, alias) for member, alias in aliases if re.search(r"(?<![\w.-])" + re.escape(alias) + r"\.", block)]
+            title = next((HEAD.match(l)[1] for l in block.split("\n") if HEAD.match(l)), "")
+            measure = re.search(r"(?m)^μ-(\S+) κs a = (.*(?:\n .*)*)", block)
+            if measure:
+                member = next(m for m in members if plain(m.split("-")[-1]) == plain(measure[1]))
+                own = members[member]["stem"][:-1] or member
+                rows = [row for of in members.values() for path, row in of["params"].items() if plain(path.split("::")[-1]) == plain(measure[1])]
+                if not rows:
+                    said.append(f"left: {name}: {found}: the measure of {measure[1]}")
+                    continue
+                code = re.sub(r"(?<![\w.])a((?:\.1)*)\.0", lambda m: "l." + rows[0][m[1].count(".")], measure[2])
+                invariants.append(f"abbrev pub decreases-{own} : goal.decreases-{own}\ndecreases-{own} l = {code}")
+                continue
+            if re.search(r"-(at|below|claims)$", title) and re.search(r"\bIn \d|Claims\b", block):
+                continue
+            if not cited:
+                answers.append(block.strip("\n"))
+                continue
+            member, alias = cited[0]
+            of = members[member]
+            block = re.sub(r"(?<![\w.-])" + re.escape(alias) + r"\.", "tie.", block)
+            turned = Turned(Function(of), block, f"{name}: {found} {member}", said, of["stem"], True)
+            _, _, more, inv = turned.run()
+            answers += more
+            invariants += inv
+            places |= turned.used_places
+    for path in paths:
+        os.remove(path)
+    if os.path.isdir(inner):
+        os.rmdir(inner)
+    named, plain_uses = {}, []
+    for line in dict.fromkeys(uses):
+        row = re.match(r"use ([^\s{]+)\.\{(.*)\}$", line)
+        if row:
+            for word in row[2].split(", "):
+                named.setdefault(row[1], {})[word] = None
+        else:
+            plain_uses.append(line)
+    uses = [f"use {path}.{{{', '.join(words)}}}" for path, words in named.items()] + plain_uses
+    uses = [l for l in dict.fromkeys(uses) if ".Proof." not in l and not re.search(r"\.Lts-\S+ as |\.(Reads|Kinds)( as|\.|$)", l)]
+    for body, file, module in ((invariants, "Invariants.antt", "Given"), (answers, "Answers.antt", "Goals")):
+        if body:
+            body = "\n\n".join(body)
+            lines = kept_uses(uses, body, whole) + [f"use {whole}.{module} as goal"]
+            if module == "Goals" and places:
+                lines.append(f"use {whole}.Goals.{{{', '.join(sorted(places))}}}")
+            with open(os.path.join(folder, file), "w", encoding="utf-8") as it:
+                it.write("\n".join(head + lines) + "\n\n" + body + "\n")
+
+
 def main(names, crates):
     said = []
     for crate in crates:
         name = os.path.basename(crate.rstrip("/"))
         with open(os.path.join(names, "crates", name, "names.json")) as it:
             lists = json.load(it)
+        cycles = {}
+        for module, of in lists.items():
+            found = re.match(r"Rattle-%s-proofs\.(.*\+[^.]*)\.Lts-?(.*)$" % re.escape(name), module)
+            if found:
+                cycles.setdefault(found[1], {})[found[2]] = of
+        for found, members in cycles.items():
+            if os.path.exists(os.path.join(crate, "proofs", *found.split("."), "Proof.antt")):
+                cycle(name, crate, found, members, said)
         for module, of in lists.items():
             found = re.match(r"Rattle-%s-proofs\.(.*)\.Lts$" % re.escape(name), module)
             if not found or "+" in module:

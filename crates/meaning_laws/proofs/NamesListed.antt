@@ -68,6 +68,7 @@ module _ (n : ℕ) where
     listed-pairs (pair k e es) h = joined (records_of k) _ (λ i. listed k i) (joined (records_of e) _ (λ i. listed e i) (λ i. listed-pairs es i)) h
     listed-pairs (marked_pair k p e es) h =
         joined (records_of k) ((p, none) ∷ records_of e ++ records_of_pairs es) (λ i. listed k i) (joined (records_of e) _ (λ i. listed e i) (λ i. listed-pairs es i)) h
+    listed-pairs Rattle.meaning.specs.Expr.no_pairs h = elim h [ ]
 
   mutual
     unfolding Names NamesInElements NamesInPairs
@@ -99,6 +100,7 @@ module _ (n : ℕ) where
     named-pairs (pair k e es) h = parted (records_of k) _ (λ i. named k i) (parted (records_of e) _ (λ i. named e i) (λ i. named-pairs es i)) h
     named-pairs (marked_pair k p e es) h =
         parted (records_of k) ((p, none) ∷ records_of e ++ records_of_pairs es) (λ i. named k i) (parted (records_of e) _ (λ i. named e i) (λ i. named-pairs es i)) h
+    named-pairs Rattle.meaning.specs.Expr.no_pairs h = elim h [ ]
 
 -- A rule contains exactly the names that are read off its records.
 pub names-listed : (e : Expr) (n : ℕ) → Names e n ↔ In (names_of e) n
