@@ -144,9 +144,9 @@ class Turned:
     def inlined(self, code, variables):
         """Bindings of pure paths are written out."""
         while True:
-            for found in re.finditer(r"let (" + W + r") = (" + W + r"(?:\." + W + r")*) in(?=\s)\s*", code):
+            for found in re.finditer(r"let (" + W + r") = (" + W + r"(?:\." + W + r")*)\s+in(?=[\s(])\s*", code):
                 head = found[2].split(".")[0]
-                if head in variables:
+                if head in variables and head != found[1]:
                     break
             else:
                 return code
@@ -155,8 +155,25 @@ class Turned:
             rest = re.sub(r"(?<![\w.'₀-₉-])" + re.escape(name) + r"(?![\w'₀-₉-])", lambda _: path, rest)
             code = code[: found.start()] + rest
 
-    def converted(self, code, variables):
+    def converted(self, code, variables, goal=None):
         code = self.inlined(code, variables)
+        # a lemma over a place takes that place's record, wherever the path of befores leads today
+        for lemma, place in self.helpers.items():
+
+            def record(found, place=place):
+                var = found[2]
+                if var not in variables:
+                    return found[0]
+                if variables[var] == place:
+                    return found[1] + var
+                if goal and self.cycle:
+                    return f"{found[1]}(goal.at.{goal} t {var}).{self.function.last_of(place)}"
+                if goal:
+                    return f"{found[1]}(goal.at.{goal} {var}).{self.function.last_of(place)}"
+                n = self.function.hops(variables[var], place)
+                return found[0] if n is None else found[1] + var + ".before" * n
+
+            code = re.sub(r"((?<![\w.'₀-₉-])" + re.escape(lemma) + r" )(" + W + r")(?:\.before)*(?![\w.'₀-₉-])", record, code)
 
         def one(found):
             var, fields = found[1], (found[2] or "").split(".")[1:]
@@ -182,6 +199,11 @@ class Turned:
 
     def run(self):
         f = self.function
+        self.helpers = {}
+        for name, block in self.blocks():
+            found = name and re.search(r"(?m)^(?:pub |abbrev )*" + re.escape(name) + r" : \(" + W + r" : tie\.(" + W + r")[^()]*\) →", block)
+            if found and plain(found[1]) in f.places:
+                self.helpers[name] = plain(found[1])
         answers, invariants, uses = [], [], []
         for name, block in self.blocks():
             if name is None:
@@ -218,7 +240,7 @@ class Turned:
                 if self.cycle:
                     args = args[1:]
                 variables = {args[0]: place} if args else {}
-                code = self.converted(self.types(body), variables)
+                code = self.converted(self.types(body), variables, new)
                 # a call's lifetimes are no argument of an answer today
                 code = re.sub(r"(?m)^" + re.escape(name) + r"((?: " + W + r")+?) κs =", lambda m: name + m[1] + " =", code)
                 code = re.sub(r"(?m)^" + re.escape(name) + r"(?= |$)", new, code)
@@ -247,7 +269,7 @@ class Turned:
                 invariants.append("\n".join(notes + [f"abbrev pub {loop[1]}-{new} : goal.{loop[1]}-{new}", code]))
             else:
                 variables = {}
-                for names, place in re.findall(r"\(((?:" + W + r" ?)+) : tie\.(" + W + r")[^()]*\)", block):
+                for names, place in re.findall(r"\(([^():]+) : tie\.(" + W + r")[^()]*\)", block):
                     for v in names.split():
                         if plain(place) in f.places:
                             variables[v] = plain(place)

@@ -1,5 +1,5 @@
 -- The walk over an accepted table meets the records of its expression, in their order, and then the end. Assumes nothing.
-use mathlib.Core.Path.{◌≡◌, refl, ◌∙◌, ap}
+use mathlib.Core.Path.{◌≡◌, refl, ◌∙◌, ap, subst}
 use mathlib.Core.Bool.{Bool, true, false, cond}
 use mathlib.Core.List.{List, [], ◌∷◌, ◌++◌, append-nil}
 use mathlib.Core.Option.{Option, none, some}
@@ -172,7 +172,7 @@ module _ (t x : List ℕ) where
       let m = part-marked t x q s b in
       let h = part-extent t x q s in
       let w = below (q + fields_at) m.operand (omega (arith, m.ends, le)) in
-      rw m.is (refl, rw b, omega (arith, h.0), (part-here t x q s).known, rw (m.first, ← m.ends) w))
+      rw m.is (refl, rw b, omega (arith, h.0), (part-here t x q s).known, rw m.first (subst (λ (k : ℕ). Walk t k (q + fields_at) (records_of (expr_of t x (q + fields_at)))) m.ends w)))
       (λ e. let b = part-bare t x q s (eqb-false (get_or t q 0) 14 e) in rw b.1 (below q b.0 le))
 
   operand-walk : (n : ℕ) → Walked n → (marked : Bool) (q : ℕ) → Operand t x marked q → after t q ≤ q + n →

@@ -10,13 +10,11 @@ pub loop-index-init : goal.loop-index-init
 loop-index-init c = (refl, omega arith, refl)
 
 pub loop-index-preserved : goal.loop-index-preserved
-loop-index-preserved c =
-    let l = c.before.before.before.before.before.before
-    in (
-      search rules,
-      search rules,
-      word_on l.before.before.before.args.word.now l.loop.index (l.loop.next, l.loop.out) _ c.loop-index-test.true c.put-next.ensures ∙ l.loop.inv.2,
-    )
+loop-index-preserved c = (
+  search rules,
+  search rules,
+  word_on c.args.word.now c.loop-index.index (c.loop-index.next, c.loop-index.out) _ c.loop-index-test.true c.put-next.ensures ∙ c.loop-index.invariant.2,
+)
 
 pub returns : goal.returns
 returns c = word_over c.args.word.now c.loop-index.index (c.loop-index.next, c.loop-index.out) c.loop-index-test.false ∙ c.loop-index.invariant.2

@@ -20,10 +20,8 @@ above c = rw (to_z-of_z w64 c.args.number c.ranges.number) at c.if-number-lt0.fa
 
 pub returns-then-number-lt0 : goal.returns-then-number-lt0
 returns-then-number-lt0 c =
-    let t = c.before.before.before.before.before.before.before.before
-    in signed-negative t.before.before.before.args.number _ _ _ _ (below t) (sized t.before) c.put-next.ensures c.put_number.ensures
+    signed-negative c.args.number _ _ _ _ (below (goal.at.returns-then-number-lt0 c).Then-number-lt0) (sized (goal.at.returns-then-number-lt0 c).After-size_of-size) c.put-next.ensures c.put_number.ensures
 
 pub returns : goal.returns
 returns c =
-    let e = c.before.before.before.before
-    in signed-positive e.before.before.before.args.number _ _ _ (above e) (sized e.before) c.put_number-2.ensures
+    signed-positive c.args.number _ _ _ (above (goal.at.returns c).Else-number-lt0) (sized (goal.at.returns c).After-size_of-size) c.put_number-2.ensures

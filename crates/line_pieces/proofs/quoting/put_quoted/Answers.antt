@@ -10,17 +10,14 @@ pub loop-index-init : goal.loop-index-init
 loop-index-init c = (refl, omega arith, refl)
 
 pub loop-index-preserved : goal.loop-index-preserved
-loop-index-preserved c =
-    let l = c.before.before.before.before.before.before
-    in (
-      search rules,
-      search rules,
-      escapes-on l.before.before.before.before.before.before.before.args.text.now l.loop.index (l.loop.next, l.loop.out) _ c.loop-index-test.true c.put_escaped-next.ensures ∙ l.loop.inv.2,
-    )
+loop-index-preserved c = (
+  search rules,
+  search rules,
+  escapes-on c.args.text.now c.loop-index.index (c.loop-index.next, c.loop-index.out) _ c.loop-index-test.true c.put_escaped-next.ensures ∙ c.loop-index.invariant.2,
+)
 
 pub returns : goal.returns
 returns c =
-    let l = c.before.before.before.before.before
-    in quoted-whole l.before.before.before.before.before.before.before.args.text.now _ _ _ _ l.before.before.before.put.ensures
-    (escapes-over l.before.before.before.before.before.before.before.args.text.now l.loop.index (l.loop.next, l.loop.out) c.loop-index-test.false ∙ l.loop.inv.2)
+    quoted-whole c.args.text.now _ _ _ _ c.put-next.ensures
+    (escapes-over c.args.text.now c.loop-index.index (c.loop-index.next, c.loop-index.out) c.loop-index-test.false ∙ c.loop-index.invariant.2)
     c.put.ensures

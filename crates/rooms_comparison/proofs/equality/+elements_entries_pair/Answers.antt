@@ -16,7 +16,7 @@ pub elements-loop-left-init : goal.elements-loop-left-init
 elements-loop-left-init t c = (omega (arith, c.ranges.first.fits, c.ranges.length.fits), omega (arith, c.ranges.from.fits, c.ranges.length.fits), refl)
 
 pub elements-pair-requires : goal.elements-pair-requires
-elements-pair-requires t c = (omega (arith, c.requires.0), tt)
+elements-pair-requires t c = (omega arith, tt)
 
 pub elements-returns-in-Unlike : goal.elements-returns-in-Unlike
 unfolding cell_at
@@ -37,7 +37,7 @@ pub entries-loop-left-init : goal.entries-loop-left-init
 entries-loop-left-init t c = (omega (arith, c.ranges.first.fits, c.ranges.length.fits), refl)
 
 pub entries-pair-requires : goal.entries-pair-requires
-entries-pair-requires t c = (omega (arith, c.requires.0), tt)
+entries-pair-requires t c = (omega arith, tt)
 
 pub entries-returns-in-Unlike : goal.entries-returns-in-Unlike
 unfolding cell_at
@@ -62,12 +62,6 @@ entries-loop-left-preserved t c = (omega arith, entries-on (λ (v w : Value) (j 
 pub entries-returns : goal.entries-returns
 entries-returns t c = entries_none (λ (v w : Value) (j : ℕ). equal_in c.args.depth c.args.limit (rooms c.args.literal.now c.args.binding_cells.now c.args.binding_text.now c.args.cells.now c.args.text.now) v w j) c.args.limit (rooms c.args.literal.now c.args.binding_cells.now c.args.binding_text.now c.args.cells.now c.args.text.now) c.args.space c.args.there c.args.from c.args.length c.loop-left.at c.loop-left.left c.loop-left.pairs c.loop-left-test.false ∙ c.loop-left.invariant.1
 
-abbrev pub entries_at : ℕ → In 5 entries-kinds.ps
-entries_at t = and 5 entries-kinds.ps (is 5 entries-kinds.ps μ-entries t) entries.Pre
-
-abbrev pub entries_below : ℕ → In 5 entries-kinds.ps
-entries_below t = and 5 entries-kinds.ps (falls 5 entries-kinds.ps ◌<◌ μ-entries t) entries.Pre
-
 -- what each member knows of the functions that it calls
 
 pub pair-returns-then-depth-eq0 : goal.pair-returns-then-depth-eq0
@@ -80,16 +74,16 @@ pub pair-returns-then-length-count : goal.pair-returns-then-length-count
 pair-returns-then-length-count t c = lists-uneven c.args.depth c.args.limit (rooms c.args.literal.now c.args.binding_cells.now c.args.binding_text.now c.args.cells.now c.args.text.now) c.args.left c.args.right c.args.steps c.if-depth-eq0.false c.if-limit-steps.false c.in-Elements.space c.in-Elements.first c.in-Elements.length (sym c.parts_of.ensures ∙ c.in-Elements.is) c.in-Elements-parts_of.there c.in-Elements-parts_of.from c.in-Elements-parts_of.count (sym c.parts_of-in-Elements.ensures ∙ c.in-Elements-parts_of.is) c.if-length-count.true
 
 pub pair-elements-requires : goal.pair-elements-requires
-pair-elements-requires t c = (omega (arith, c.requires.0), tt)
+pair-elements-requires t c = (omega arith, tt)
 
 pub pair-returns-then-length-count-2 : goal.pair-returns-then-length-count-2
 pair-returns-then-length-count-2 t c = maps-uneven c.args.depth c.args.limit (rooms c.args.literal.now c.args.binding_cells.now c.args.binding_text.now c.args.cells.now c.args.text.now) c.args.left c.args.right c.args.steps c.if-depth-eq0.false c.if-limit-steps.false c.in-Entries.space c.in-Entries.first c.in-Entries.length (sym c.parts_of.ensures ∙ c.in-Entries.is) c.in-Entries-parts_of-2.there c.in-Entries-parts_of-2.from c.in-Entries-parts_of-2.count (sym c.parts_of-in-Entries.ensures ∙ c.in-Entries-parts_of-2.is) c.if-length-count-2.true
 
 pub pair-entries-requires : goal.pair-entries-requires
-pair-entries-requires t c = (omega (arith, c.requires.0), tt)
+pair-entries-requires t c = (omega arith, tt)
 
 pub pair-pair-requires : goal.pair-pair-requires
-pair-pair-requires t c = (omega (arith, c.requires.0), tt)
+pair-pair-requires t c = (omega arith, tt)
 
 pub pair-returns-else-length-count : goal.pair-returns-else-length-count
 pair-returns-else-length-count t c = lists-even c.args.depth c.args.limit (rooms c.args.literal.now c.args.binding_cells.now c.args.binding_text.now c.args.cells.now c.args.text.now) c.args.left c.args.right c.args.steps c.if-depth-eq0.false c.if-limit-steps.false c.in-Elements.space c.in-Elements.first c.in-Elements.length (sym c.parts_of.ensures ∙ c.in-Elements.is) c.in-Elements-parts_of.there c.in-Elements-parts_of.from c.in-Elements-parts_of.count c.elements.result (sym c.parts_of-in-Elements.ensures ∙ c.in-Elements-parts_of.is) c.if-length-count.false c.elements.ensures

@@ -11,7 +11,7 @@ pub operands_at-loop-left-init : goal.operands_at-loop-left-init
 operands_at-loop-left-init t c = refl
 
 pub operands_at-record_at-requires : goal.operands_at-record_at-requires
-operands_at-record_at-requires t c = (omega arith, c.requires.1)
+operands_at-record_at-requires t c = (omega arith, c.requires)
 
 pub operands_at-returns-in-Refused : goal.operands_at-returns-in-Refused
 operands_at-returns-in-Refused t c =
@@ -37,7 +37,7 @@ operands_at-returns-else-at-end t c =
     c.if-at-end.false ∙ c.loop-left.invariant
 
 pub record_at-head_at-requires : goal.record_at-head_at-requires
-record_at-head_at-requires t c = c.requires.1
+record_at-head_at-requires t c = c.requires
 
 pub record_at-fault-number-requires : goal.record_at-fault-number-requires
 record_at-fault-number-requires t c =
