@@ -1,4 +1,6 @@
 -- `first_bad` meets its contract. Assumes nothing.
+use mathlib.Core.Path.{ap}
+use mathlib.Core.Bool.{not}
 use mathlib.Core.Path.{refl, sym, ◌∙◌}
 use native.Mathlib.Omega.{arith}
 use borrow.Author.Tests.{not-true, not-false}
@@ -12,7 +14,7 @@ pub overflow_add-at : goal.overflow_add-at
 overflow_add-at c = omega (arith, c.ranges.used.fits)
 
 pub returns-then-not-value_fits : goal.returns-then-not-value_fits
-returns-then-not-value_fits c = bad-here c.args.cells.now c.args.text.now c.args.used c.args.bytes c.loop-left.at c.loop-left.left c.read_cell-v.result c.loop-left-test.true c.read_cell-v.ensures (sym c.value_fits.ensures ∙ not-true c.value_fits.result c.if-not-value_fits.true) ∙ c.loop-left.invariant.1
+returns-then-not-value_fits c = bad-here c.args.cells.now c.args.text.now c.args.used c.args.bytes c.loop-left.at c.loop-left.left c.read_cell-v.result c.loop-left-test.true c.read_cell-v.ensures (sym c.value_fits.ensures ∙ c.if-not-value_fits.true) ∙ c.loop-left.invariant.1
 
 pub overflow_add-at-in-loop-left : goal.overflow_add-at-in-loop-left
 overflow_add-at-in-loop-left c = omega (arith, c.ranges.used.fits)
@@ -21,7 +23,7 @@ pub loop-left-smaller : goal.loop-left-smaller
 loop-left-smaller c = omega arith
 
 pub loop-left-preserved : goal.loop-left-preserved
-loop-left-preserved c = (omega arith, bad-on c.args.cells.now c.args.text.now c.args.used c.args.bytes c.loop-left.at c.loop-left.left c.read_cell-v.result c.loop-left-test.true c.read_cell-v.ensures (sym c.value_fits.ensures ∙ not-false c.value_fits.result c.if-not-value_fits.false) ∙ c.loop-left.invariant.1)
+loop-left-preserved c = (omega arith, bad-on c.args.cells.now c.args.text.now c.args.used c.args.bytes c.loop-left.at c.loop-left.left c.read_cell-v.result c.loop-left-test.true c.read_cell-v.ensures (sym c.value_fits.ensures ∙ c.if-not-value_fits.false) ∙ c.loop-left.invariant.1)
 
 pub returns : goal.returns
 returns c = bad-none c.args.cells.now c.args.text.now c.args.used c.args.bytes c.loop-left.at c.loop-left.left c.loop-left-test.false ∙ c.loop-left.invariant.1

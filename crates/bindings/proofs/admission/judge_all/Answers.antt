@@ -11,13 +11,13 @@ pub returns-then-name-ge-NAMES : goal.returns-then-name-ge-NAMES
 returns-then-name-ge-NAMES c = all-unnamed c.args.cells.now c.args.text.now c.args.bindings c.args.name c.args.table.now c.args.literal.now (sym c.sound-soundness.ensures ∙ c.in_default.is) c.if-name-ge-NAMES.true
 
 pub returns-then-not-is_absent : goal.returns-then-not-is_absent
-returns-then-not-is_absent c = all-bound c.args.cells.now c.args.text.now c.args.bindings c.args.name c.args.table.now c.args.literal.now (sym c.sound-soundness.ensures ∙ c.in_default.is) c.if-name-ge-NAMES.false c.value_of.result c.value_of.ensures (sym c.is_absent.ensures ∙ not-true c.is_absent.result c.if-not-is_absent.true)
+returns-then-not-is_absent c = all-bound c.args.cells.now c.args.text.now c.args.bindings c.args.name c.args.table.now c.args.literal.now (sym c.sound-soundness.ensures ∙ c.in_default.is) c.if-name-ge-NAMES.false c.value_of.result c.value_of.ensures (sym c.is_absent.ensures ∙ c.if-not-is_absent.true)
 
 pub judge_table-requires : goal.judge_table-requires
 judge_table-requires c = let q = checked-read c.args.table.now c.args.literal.now (sym c.check.ensures ∙ c.in-Accepted.is) in (q.root, q.long)
 
 pub returns-in-Refused : goal.returns-in-Refused
-returns-in-Refused c = all-unread c.args.cells.now c.args.text.now c.args.bindings c.args.name c.args.table.now c.args.literal.now (sym c.sound-soundness.ensures ∙ c.in_default.is) c.if-name-ge-NAMES.false c.value_of.result c.value_of.ensures (sym c.is_absent.ensures ∙ not-false c.is_absent.result c.if-not-is_absent.false) c.in-Refused.number c.in-Refused.place (sym c.check.ensures ∙ c.in-Refused.is)
+returns-in-Refused c = all-unread c.args.cells.now c.args.text.now c.args.bindings c.args.name c.args.table.now c.args.literal.now (sym c.sound-soundness.ensures ∙ c.in_default.is) c.if-name-ge-NAMES.false c.value_of.result c.value_of.ensures (sym c.is_absent.ensures ∙ c.if-not-is_absent.false) c.in-Refused.number c.in-Refused.place (sym c.check.ensures ∙ c.in-Refused.is)
 
 pub returns-in-Accepted : goal.returns-in-Accepted
-returns-in-Accepted c = all_read c.args.cells.now c.args.text.now c.args.bindings c.args.name c.args.table.now c.args.literal.now (sym c.sound-soundness.ensures ∙ c.in_default.is) c.if-name-ge-NAMES.false c.value_of.result c.value_of.ensures (sym c.is_absent.ensures ∙ not-false c.is_absent.result c.if-not-is_absent.false) (sym c.check.ensures ∙ c.in-Accepted.is) c.cell_room.result c.text_room.result c.cell_room.ensures c.text_room.ensures c.judge_table.ensures
+returns-in-Accepted c = all_read c.args.cells.now c.args.text.now c.args.bindings c.args.name c.args.table.now c.args.literal.now (sym c.sound-soundness.ensures ∙ c.in_default.is) c.if-name-ge-NAMES.false c.value_of.result c.value_of.ensures (sym c.is_absent.ensures ∙ c.if-not-is_absent.false) (sym c.check.ensures ∙ c.in-Accepted.is) c.cell_room.result c.text_room.result c.cell_room.ensures c.text_room.ensures c.judge_table.ensures

@@ -19,10 +19,10 @@ pub returns-in-At-key : goal.returns-in-At-key
 returns-in-At-key c = table-key c.args.table.now c.args.literal.now (λ i. omega (arith, c.shared_slice_known-1.given i)) c.requires.0 c.args.room_cells c.args.room_bytes c.args.cells c.args.bytes c.judge-judged.result c.judge-judged.ensures.0 c.in_default.is c.if-judged.false c.in-At-key.place c.in-At-key.is
 
 pub returns-then-not-has_room : goal.returns-then-not-has_room
-returns-then-not-has_room c = table-cells c.args.table.now c.args.literal.now (λ i. omega (arith, c.shared_slice_known-1.given i)) c.requires.0 c.args.room_cells c.args.room_bytes c.args.cells c.args.bytes c.judge-judged.result c.judge-judged.ensures.0 c.in_default.is c.if-judged.false c.in_default-key.is (sym c.has_room.ensures ∙ not-true c.has_room.result c.if-not-has_room.true)
+returns-then-not-has_room c = table-cells c.args.table.now c.args.literal.now (λ i. omega (arith, c.shared_slice_known-1.given i)) c.requires.0 c.args.room_cells c.args.room_bytes c.args.cells c.args.bytes c.judge-judged.result c.judge-judged.ensures.0 c.in_default.is c.if-judged.false c.in_default-key.is (sym c.has_room.ensures ∙ c.if-not-has_room.true)
 
 pub returns-then-not-has_room-2 : goal.returns-then-not-has_room-2
-returns-then-not-has_room-2 c = table-bytes c.args.table.now c.args.literal.now (λ i. omega (arith, c.shared_slice_known-1.given i)) c.requires.0 c.args.room_cells c.args.room_bytes c.args.cells c.args.bytes c.judge-judged.result c.judge-judged.ensures.0 c.in_default.is c.if-judged.false c.in_default-key.is (sym c.has_room.ensures ∙ not-false c.has_room.result c.if-not-has_room.false) (sym c.has_room-2.ensures ∙ not-true c.has_room-2.result c.if-not-has_room-2.true)
+returns-then-not-has_room-2 c = table-bytes c.args.table.now c.args.literal.now (λ i. omega (arith, c.shared_slice_known-1.given i)) c.requires.0 c.args.room_cells c.args.room_bytes c.args.cells c.args.bytes c.judge-judged.result c.judge-judged.ensures.0 c.in_default.is c.if-judged.false c.in_default-key.is (sym c.has_room.ensures ∙ c.if-not-has_room.false) (sym c.has_room-2.ensures ∙ c.if-not-has_room-2.true)
 
 pub returns : goal.returns
-returns c = table_done c.args.table.now c.args.literal.now (λ i. omega (arith, c.shared_slice_known-1.given i)) c.requires.0 c.args.room_cells c.args.room_bytes c.args.cells c.args.bytes c.judge-judged.result c.judge-judged.ensures.0 c.in_default.is c.if-judged.false c.in_default-key.is (sym c.has_room.ensures ∙ not-false c.has_room.result c.if-not-has_room.false) (sym c.has_room-2.ensures ∙ not-false c.has_room-2.result c.if-not-has_room-2.false)
+returns c = table_done c.args.table.now c.args.literal.now (λ i. omega (arith, c.shared_slice_known-1.given i)) c.requires.0 c.args.room_cells c.args.room_bytes c.args.cells c.args.bytes c.judge-judged.result c.judge-judged.ensures.0 c.in_default.is c.if-judged.false c.in_default-key.is (sym c.has_room.ensures ∙ c.if-not-has_room.false) (sym c.has_room-2.ensures ∙ c.if-not-has_room-2.false)

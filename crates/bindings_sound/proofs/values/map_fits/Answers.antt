@@ -1,4 +1,6 @@
 -- `values::map_fits` meets its contract. Assumes nothing.
+use mathlib.Core.Path.{ap}
+use mathlib.Core.Bool.{not}
 use borrow.Author.Tests.{not-true, not-false}
 use native.Mathlib.Omega.{arith}
 use Rattle.bindings_sound.specs.Fits.{map_fits}
@@ -9,8 +11,8 @@ row_fits-requires c = omega (arith, c.ranges.length.fits)
 
 pub returns-then-not-row_fits : goal.returns-then-not-row_fits
 unfolding map_fits
-returns-then-not-row_fits c = rw (← c.row_fits.ensures, not-true c.row_fits.result c.if-not-row_fits.true)
+returns-then-not-row_fits c = rw (← c.row_fits.ensures, c.if-not-row_fits.true)
 
 pub returns : goal.returns
 unfolding map_fits
-returns c = rw (← c.row_fits.ensures, not-false c.row_fits.result c.if-not-row_fits.false) c.keys_fit.ensures
+returns c = rw (← c.row_fits.ensures, c.if-not-row_fits.false) c.keys_fit.ensures

@@ -19,13 +19,13 @@ pub is_name-requires : goal.is_name-requires
 is_name-requires c = (guard-sound c.args.table.now c.args.literal.now c.args.step c.requires.0 c.requires.1 c.args.accumulator c.first_operand-guard.result c.first_operand-guard.ensures c.end_at-then.result c.end_at-then.ensures c.end_at.result c.end_at.ensures).1.1
 
 pub returns-then-not-is_name : goal.returns-then-not-is_name
-returns-then-not-is_name c = (guard-missing c.args.table.now c.args.literal.now c.args.step c.requires.0 c.requires.1 c.args.accumulator c.first_operand-guard.result c.first_operand-guard.ensures c.end_at-then.result c.end_at-then.ensures c.end_at.result c.end_at.ensures (sym (not-true c.is_name.result c.if-not-is_name.true) ∙ c.is_name.ensures), tt)
+returns-then-not-is_name c = (guard-missing c.args.table.now c.args.literal.now c.args.step c.requires.0 c.requires.1 c.args.accumulator c.first_operand-guard.result c.first_operand-guard.ensures c.end_at-then.result c.end_at-then.ensures c.end_at.result c.end_at.ensures (sym (c.if-not-is_name.true) ∙ c.is_name.ensures), tt)
 
 pub items_of-requires : goal.items_of-requires
 items_of-requires c = (guard-sound c.args.table.now c.args.literal.now c.args.step c.requires.0 c.requires.1 c.args.accumulator c.first_operand-guard.result c.first_operand-guard.ensures c.end_at-then.result c.end_at-then.ensures c.end_at.result c.end_at.ensures).1.0
 
 pub returns-in-At : goal.returns-in-At
-returns-in-At c = guard-found c.args.table.now c.args.literal.now c.args.step c.requires.0 c.requires.1 c.args.accumulator c.first_operand-guard.result c.first_operand-guard.ensures c.end_at-then.result c.end_at-then.ensures c.end_at.result c.end_at.ensures (sym (not-false c.is_name.result c.if-not-is_name.false) ∙ c.is_name.ensures) c.items_of.result c.in-At.list c.in-At.is c.items_of.ensures
+returns-in-At c = guard-found c.args.table.now c.args.literal.now c.args.step c.requires.0 c.requires.1 c.args.accumulator c.first_operand-guard.result c.first_operand-guard.ensures c.end_at-then.result c.end_at-then.ensures c.end_at.result c.end_at.ensures (sym (c.if-not-is_name.false) ∙ c.is_name.ensures) c.items_of.result c.in-At.list c.in-At.is c.items_of.ensures
 
 pub returns-in-No : goal.returns-in-No
-returns-in-No c = (guard-unlisted c.args.table.now c.args.literal.now c.args.step c.requires.0 c.requires.1 c.args.accumulator c.first_operand-guard.result c.first_operand-guard.ensures c.end_at-then.result c.end_at-then.ensures c.end_at.result c.end_at.ensures (sym (not-false c.is_name.result c.if-not-is_name.false) ∙ c.is_name.ensures) c.items_of.result c.in-No.is c.items_of.ensures.0, tt)
+returns-in-No c = (guard-unlisted c.args.table.now c.args.literal.now c.args.step c.requires.0 c.requires.1 c.args.accumulator c.first_operand-guard.result c.first_operand-guard.ensures c.end_at-then.result c.end_at-then.ensures c.end_at.result c.end_at.ensures (sym (c.if-not-is_name.false) ∙ c.is_name.ensures) c.items_of.result c.in-No.is c.items_of.ensures.0, tt)

@@ -26,7 +26,7 @@ pub is_name-requires : goal.is_name-requires
 is_name-requires c = let o = binary-at c.args.table.now c.args.literal.now c.args.at c.requires (sym c.kind_at.ensures ∙ c.if-kind_at-ne-BINARY.false) in rw (c.first_operand-first.ensures ∙ o.first) o.one
 
 pub returns-then-not-is_name : goal.returns-then-not-is_name
-returns-then-not-is_name c = let o = binary-at c.args.table.now c.args.literal.now c.args.at c.requires (sym c.kind_at.ensures ∙ c.if-kind_at-ne-BINARY.false) in (λ limit. sum-to-another c.args.table.now c.args.literal.now c.args.at c.requires c.args.accumulator limit (sym c.kind_at.ensures ∙ c.if-kind_at-ne-BINARY.false) (sym c.number_at.ensures ∙ c.if-number_at-ne-ADD.false) (sym (not-true c.is_name.result c.if-not-is_name.true) ∙ (rw (c.first_operand-first.ensures ∙ o.first) at c.is_name.ensures)), tt)
+returns-then-not-is_name c = let o = binary-at c.args.table.now c.args.literal.now c.args.at c.requires (sym c.kind_at.ensures ∙ c.if-kind_at-ne-BINARY.false) in (λ limit. sum-to-another c.args.table.now c.args.literal.now c.args.at c.requires c.args.accumulator limit (sym c.kind_at.ensures ∙ c.if-kind_at-ne-BINARY.false) (sym c.number_at.ensures ∙ c.if-number_at-ne-ADD.false) (sym (c.if-not-is_name.true) ∙ (rw (c.first_operand-first.ensures ∙ o.first) at c.is_name.ensures)), tt)
 
 pub end_at-second-requires : goal.end_at-second-requires
 end_at-second-requires c = let o = binary-at c.args.table.now c.args.literal.now c.args.at c.requires (sym c.kind_at.ensures ∙ c.if-kind_at-ne-BINARY.false) in rw (c.first_operand-first.ensures ∙ o.first) (sound-stands c.args.table.now c.args.literal.now (c.args.at + 4) o.one).start
@@ -35,7 +35,7 @@ pub kind_at-requires-2 : goal.kind_at-requires-2
 kind_at-requires-2 c = let o = binary-at c.args.table.now c.args.literal.now c.args.at c.requires (sym c.kind_at.ensures ∙ c.if-kind_at-ne-BINARY.false) in rw (c.end_at-second.ensures ∙ ap (λ (q : ℕ). after c.args.table.now q) (c.first_operand-first.ensures ∙ o.first)) (sound-stands c.args.table.now c.args.literal.now (after c.args.table.now (c.args.at + 4)) o.two).here
 
 pub returns-then-kind_at-eq-LIST : goal.returns-then-kind_at-eq-LIST
-returns-then-kind_at-eq-LIST c = items-found c.args.table.now c.args.literal.now c.args.at c.requires (sym c.kind_at.ensures ∙ c.if-kind_at-ne-BINARY.false) c.args.accumulator (sym c.number_at.ensures ∙ c.if-number_at-ne-ADD.false) c.first_operand-first.result c.first_operand-first.ensures c.end_at-second.result c.end_at-second.ensures (sym (not-false c.is_name.result c.if-not-is_name.false) ∙ c.is_name.ensures) (sym c.kind_at-2.ensures ∙ c.if-kind_at-eq-LIST.true)
+returns-then-kind_at-eq-LIST c = items-found c.args.table.now c.args.literal.now c.args.at c.requires (sym c.kind_at.ensures ∙ c.if-kind_at-ne-BINARY.false) c.args.accumulator (sym c.number_at.ensures ∙ c.if-number_at-ne-ADD.false) c.first_operand-first.result c.first_operand-first.ensures c.end_at-second.result c.end_at-second.ensures (sym (c.if-not-is_name.false) ∙ c.is_name.ensures) (sym c.kind_at-2.ensures ∙ c.if-kind_at-eq-LIST.true)
 
 pub returns-else-kind_at-eq-LIST : goal.returns-else-kind_at-eq-LIST
-returns-else-kind_at-eq-LIST c = (λ limit. items-missing c.args.table.now c.args.literal.now c.args.at c.requires (sym c.kind_at.ensures ∙ c.if-kind_at-ne-BINARY.false) c.args.accumulator (sym c.number_at.ensures ∙ c.if-number_at-ne-ADD.false) c.first_operand-first.result c.first_operand-first.ensures c.end_at-second.result c.end_at-second.ensures (sym (not-false c.is_name.result c.if-not-is_name.false) ∙ c.is_name.ensures) (λ k. c.if-kind_at-eq-LIST.false (c.kind_at-2.ensures ∙ k)) limit, tt)
+returns-else-kind_at-eq-LIST c = (λ limit. items-missing c.args.table.now c.args.literal.now c.args.at c.requires (sym c.kind_at.ensures ∙ c.if-kind_at-ne-BINARY.false) c.args.accumulator (sym c.number_at.ensures ∙ c.if-number_at-ne-ADD.false) c.first_operand-first.result c.first_operand-first.ensures c.end_at-second.result c.end_at-second.ensures (sym (c.if-not-is_name.false) ∙ c.is_name.ensures) (λ k. c.if-kind_at-eq-LIST.false (c.kind_at-2.ensures ∙ k)) limit, tt)
