@@ -173,7 +173,7 @@ class Turned:
                 n = self.function.hops(variables[var], place)
                 return found[0] if n is None else found[1] + var + ".before" * n
 
-            code = re.sub(r"((?<![\w.'₀-₉-])" + re.escape(lemma) + r" )(" + W + r")(?:\.before)*(?![\w.'₀-₉-])", record, code)
+            code = re.sub(r"((?<![\w.'₀-₉-])" + re.escape(lemma) + r" (?:t )?)(" + W + r")(?:\.before)*(?![\w.'₀-₉-])", record, code)
 
         def one(found):
             var, fields = found[1], (found[2] or "").split(".")[1:]
@@ -199,9 +199,9 @@ class Turned:
 
     def run(self):
         f = self.function
-        self.helpers = {}
+        self.helpers = dict(getattr(self, "shared", {}))
         for name, block in self.blocks():
-            found = name and re.search(r"(?m)^(?:pub |abbrev )*" + re.escape(name) + r" : \(" + W + r" : tie\.(" + W + r")[^()]*\) →", block)
+            found = name and re.search(r"(?m)^(?:pub |abbrev )*" + re.escape(name) + r" : (?:\(t : ℕ\) )?\(" + W + r" : tie\.(" + W + r")[^()]*\) →", block)
             if found and plain(found[1]) in f.places:
                 self.helpers[name] = plain(found[1])
         answers, invariants, uses = [], [], []
@@ -264,7 +264,7 @@ class Turned:
                     to[arg] = f"l.{n}"
                 to.pop("_", None)
                 code = body[: clause.start()] + f"{loop[1]}-{new} l =" + re.sub(
-                    r"(?<![\w.'₀-₉-])(" + "|".join(sorted(map(re.escape, to), key=len, reverse=True)) + r")(?![\w'₀-₉-])", lambda m: to[m[1]], body[clause.end() :]
+                    r"(?<![\w.'₀-₉-])(" + "|".join(sorted(map(re.escape, to), key=len, reverse=True)) + r")(?![\w'₀-₉-])(?! =)", lambda m: to[m[1]], body[clause.end() :]
                 )
                 invariants.append("\n".join(notes + [f"abbrev pub {loop[1]}-{new} : goal.{loop[1]}-{new}", code]))
             else:
@@ -308,6 +308,13 @@ def cycle(name, crate, found, members, said):
     if os.path.isdir(inner):
         paths += [os.path.join(inner, it) for it in sorted(os.listdir(inner))]
     uses, answers, invariants, places, head = [], [], [], set(), []
+    shared = {}
+    for path in paths:
+        with open(path, encoding="utf-8") as it:
+            text = it.read()
+        for member, alias in re.findall(r"(?m)^use " + re.escape(whole) + r"\.Lts-(\S+) as (\S+)$", text):
+            for lemma, place in re.findall(r"(?m)^(?:pub |abbrev )*(" + W + r") : \(t : ℕ\) \(" + W + r" : " + re.escape(alias) + r"\.(" + W + r")", text):
+                shared.setdefault(member, {})[lemma] = plain(place)
     for path in paths:
         with open(path, encoding="utf-8") as it:
             text = it.read()
@@ -340,7 +347,10 @@ def cycle(name, crate, found, members, said):
             member, alias = cited[0]
             of = members[member]
             block = re.sub(r"(?<![\w.-])" + re.escape(alias) + r"\.", "tie.", block)
+            # what a place's type says of claims is today's own affair
+            block = re.sub(r"(tie\.(?!Need-)" + W + r") \([\w-]+-claims t\) \([\w-]+[-_]at t\) [\w-]+\.Post(?: [\w-]+-Inv-loop [\w-]+-μ-loop)?", r"\1", block)
             turned = Turned(Function(of), block, f"{name}: {found} {member}", said, of["stem"], True)
+            turned.shared = shared.get(member, {})
             _, _, more, inv = turned.run()
             answers += more
             invariants += inv
