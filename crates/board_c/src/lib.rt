@@ -42,7 +42,15 @@ pub extern "C" fn ombravelik_bring_in(
 ) -> u8
     ensures { ◌≡◌ {A = (ℕ × List ℕ) × BindingRoom} ((result, answer.new), binding_room state.new binding_cells.new binding_text.new) (brings (binding_room state.old binding_cells.old binding_text.old) name table.now literal.now answer.old) }
 {
-    board::ombravelik_bring_in(state, binding_cells, binding_text, name, table, literal, answer)
+    board::ombravelik_bring_in(
+        state,
+        binding_cells,
+        binding_text,
+        name,
+        table,
+        literal,
+        answer,
+    )
 }
 
 // Evaluates a rule over a binding room.
