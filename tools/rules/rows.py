@@ -1,7 +1,7 @@
 """Cases as theorems about the definition, proved by computing: an equation for each, in a scratch repository.
 
-    python3 cases.py > ../../target/cases.jsonl
-    python3 rows.py ../../target/cases.jsonl [--family NAME]... [--most N] [--per-file N]
+    python3 cases.py > cases.jsonl
+    python3 rows.py cases.jsonl [--family NAME]... [--most N] [--per-file N]
 
 Copies the crates numbers, text and meaning to a temporary folder, writes the crate `rows` beside them and has `rt check` prove it.
 Says how many rows there were and which did not hold. The notation is that of crates/meaning/specs/Rows.antt and proofs/Sample.antt.
