@@ -48,7 +48,7 @@ def crates() -> "dict[str, str]":
             comment += line[1:]
         else:
             if ":" in line:
-                found[line.split(":")[0]] = comment
+                found[line.split(":")[0].split()[0]] = comment
             comment = ""
     return found
 
