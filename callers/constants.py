@@ -31,7 +31,7 @@ def found(pattern: str, text: str, where: str) -> "list":
 
 
 def capitals(name: str) -> str:
-    """BytesAfterRoot or bytesAfterRoot as BYTES_AFTER_ROOT."""
+    """BytesAfterRoot or bytes_after_root as BYTES_AFTER_ROOT."""
     return re.sub(r"(?<!^)(?=[A-Z])", "_", name).upper()
 
 
@@ -93,15 +93,15 @@ def laid_out(prefix: str, places: Numbers) -> Numbers:
 
 
 def answers() -> "list[Numbers]":
-    specs = {name.removeprefix("which"): number for name, number in named("crates/board_words/specs/Answers.antt").items()}
+    specs = {name.removeprefix("which_"): number for name, number in named("crates/board_words/specs/Answers.antt").items()}
     code = declared("crates/board_words/src/answers.rt")
     words = code.pop("ANSWER_WORDS")
     meant = {
-        "which": "WHICH", "number": "NUMBER", "place": "PLACE", "u .steps": "STEPS", "u .cells": "CELLS", "u .bytes": "BYTES",
-        "headOf v": "HEAD", "payloadOf v": "PAYLOAD",
+        "which": "WHICH", "number": "NUMBER", "place": "PLACE", "u.steps": "STEPS", "u.cells": "CELLS", "u.bytes": "BYTES",
+        "head_of v": "HEAD", "payload_of v": "PAYLOAD",
     }
     layout = laid_out("ANSWER", positions(listed("crates/board_words/specs/Answers.antt", "report"), meant, "report"))
-    no_room = {"NO_ROOM": named("crates/board_words/specs/Overlay.antt")["noRoom"]}
+    no_room = {"NO_ROOM": named("crates/board_words/specs/Overlay.antt")["no_room"]}
     code |= declared("crates/board_words/src/overlay.rt") | layout | {"ANSWER_WORDS": words}
     return [prefixed("", specs) | no_room | layout, code]
 
@@ -110,23 +110,23 @@ def refusals() -> "list[Numbers]":
     code = declared("crates/table_check/src/refusals.rt")
     for other in ("NO_FAULT", "LONGEST_TABLE", "RECORD_LEVELS"):
         code.pop(other)
-    specs = equations("crates/meaning/specs/Errors.antt", "refusalNumber")
+    specs = equations("crates/meaning/specs/Errors.antt", "refusal_number")
     return [prefixed("REFUSAL_", specs), {"REFUSAL_" + name: number for name, number in code.items()}]
 
 
 def errors() -> "list[Numbers]":
     where = "crates/meaning/specs/Errors.antt"
-    of_meaning = {case: int(number) for case, number in found(r"^errorNumber \(?([\w ]+?)\)? = (\d+)$", source(where), where)}
+    of_meaning = {case: int(number) for case, number in found(r"^error_number \(?([\w ]+?)\)? = (\d+)$", source(where), where)}
     where = "crates/answer/specs/Numbers.antt"
-    meant = dict(found(r"^errorMeant Error\.(\w+) = Errors\.([\w ]+)$", source(where), where))
-    arithmetic = equations("crates/numbers/specs/Error.antt", "numberOf")
+    meant = dict(found(r"^error_meant Error\.(\w+) = Errors\.([\w ]+)$", source(where), where))
+    arithmetic = equations("crates/numbers/specs/Error.antt", "number_of")
     specs = {case: of_meaning[meaning] for case, meaning in meant.items()} | arithmetic
     code = arms("crates/answer/src/reasons.rt", "Error") | arms("crates/numbers/src/error.rt", "ArithmeticError")
     return [prefixed("ERROR_", specs), prefixed("ERROR_", code)]
 
 
 def limits_exhausted() -> "list[Numbers]":
-    specs = equations("crates/answer/specs/Numbers.antt", "limitNumber")
+    specs = equations("crates/answer/specs/Numbers.antt", "limit_number")
     return [prefixed("LIMIT_", specs), prefixed("LIMIT_", arms("crates/answer/src/reasons.rt", "Limit"))]
 
 
@@ -137,26 +137,27 @@ def kinds() -> "list[Numbers]":
         numbers["Nothing"] = numbers.pop("Absent")
         return prefixed("", numbers)
 
-    said, code = named("crates/rooms/specs/Kinds.antt"), declared("crates/rooms/src/kinds.rt")
-    where = "crates/answer_values/specs/Kinds.antt"
-    specs = {case: said[kind] for case, kind in found(r"^kindOf \(?Value\.(\w+)[^=\n]* = Kind\.(\w+)$", source(where), where)}
-    where = "crates/answer_values/src/kinds.rt"
-    found(r"^use rooms::kinds;$", source(where), where)
-    given = {case: code[kind] for case, kind in found(r"^ +Value::(\w+)(?:\([_, ]*\))? => kinds::(\w+) as u8,$", source(where), where)}
+    code = declared("crates/rooms_cells/src/packing.rt")
     code["NOTHING"] = code.pop("ABSENT")
-    return [of(specs, "kindOf"), of(given, "kind_of"), code]
+    specs = of(equations("crates/answer_values/specs/Kinds.antt", "kind_of"), "kind_of")
+    where = "crates/answer_values/src/kinds.rt"
+    # a name of the table's kinds, brought in under that name, or of the reader's own
+    brought = found(r"^use table_layout::kinds::\{([\w, ]+)\};$", source(where), where)[0].split(", ")
+    table = declared("crates/table_layout/src/kinds.rt")
+    names = {**{name: table[name] for name in brought}, **declared(where)}
+    return [specs, of(arms(where, "Value", names), "kind_of"), code]
 
 
 def spaces() -> "list[Numbers]":
-    specs = equations("crates/rooms/specs/Cells.antt", "textNumber")
+    specs = equations("crates/rooms/specs/Cells.antt", "text_number")
     return [prefixed("SPACE_", numbers) for numbers in (specs, arms("crates/rooms_cells/src/packing.rt", "TextSpace"))]
 
 
 def most() -> "list[Numbers]":
     names = {
-        "longestTable": "MOST_TABLE_BYTES", "deepestRecord": "MOST_RECORD_NESTING", "deepestValue": "MOST_VALUE_NESTING", "names": "NAMES",
-        "mostSteps": "MOST_STEPS", "mostCells": "MOST_CELLS", "mostBytes": "MOST_TEXT_BYTES",
-        "shortestTable": "", "byteNumbers": "",  # no caller's concern
+        "longest_table": "MOST_TABLE_BYTES", "deepest_record": "MOST_RECORD_NESTING", "deepest_value": "MOST_VALUE_NESTING", "names": "NAMES",
+        "most_steps": "MOST_STEPS", "most_cells": "MOST_CELLS", "most_bytes": "MOST_TEXT_BYTES",
+        "shortest_table": "", "byte_numbers": "",  # no caller's concern
     }
     specs = renamed(named("crates/meaning/specs/Limits.antt"), names, "Limits.antt")
     table = declared("crates/table_check/src/refusals.rt")
@@ -173,24 +174,24 @@ def most() -> "list[Numbers]":
 
 def states() -> "list[Numbers]":
     where = "crates/board_state/specs/State.antt"
-    (words, mark, names), = found(r"^isState w = eqb \(length w\) (\w+) && eqb \(getD w (\w+) 0\) (\w+)$", source(where), where)
-    (cells, used), = found(r"record \{ scope = scopeIn w; cells = getD w (\w+) 0; bytes = getD w (\w+) 0 \}", source(where), where)
-    nothing, = found(r"eqb \(getD w \(i \* 2\) 0\) Kind\.(\w+)", source(where), where)
-    said = named(where) | named("crates/meaning/specs/Limits.antt") | named("crates/rooms/specs/Kinds.antt")
+    (words, mark, names), = found(r"^is_state w = eqb \(length w\) (\w+) && eqb \(get_or w (\w+) 0\) (\w+)$", source(where), where)
+    (cells, used), = found(r"record \{ scope = scope_in w; cells = get_or w (\w+) 0; bytes = get_or w (\w+) 0 \}", source(where), where)
+    nothing, = found(r"eqb \(get_or w \(i \* 2\) 0\) (\w+)", source(where), where)
+    said = named(where) | named("crates/meaning/specs/Limits.antt")
     meant = {words: "STATE_WORDS", cells: "STATE_CELLS", used: "STATE_BYTES", mark: "STATE_MARK", names: "NAMES", nothing: "NOTHING"}
-    called = {"STATE_WORDS": "STATE_WORDS", "CELLS_AT": "STATE_CELLS", "BYTES_AT": "STATE_BYTES", "SLOTS_AT": "STATE_MARK", "SLOTS": "NAMES"}
-    where = "crates/board_state/src/lib.rt"
-    found(r"^use rooms::kinds::ABSENT;$", source(where), where)
-    code = renamed(declared(where), called, "board_state") | {"NOTHING": declared("crates/rooms/src/kinds.rt")["ABSENT"]}
-    return [{of: said[word] for word, of in meant.items()}, code]
+    called = {
+        "STATE_WORDS": "STATE_WORDS", "CELLS_AT": "STATE_CELLS", "BYTES_AT": "STATE_BYTES", "SLOTS_AT": "STATE_MARK", "SLOTS": "NAMES",
+        "ABSENT": "NOTHING",
+    }
+    return [{of: said[word] for word, of in meant.items()}, renamed(declared("crates/board_state/src/lib.rt"), called, "board_state")]
 
 
 def shapes() -> "list[Numbers]":
     where = "crates/board_words/specs/Shapes.antt"
-    (first, last), = found(r"^shapeOf v = (.*) ∷ \(spanWords \(spanIn \(plainOf v\)\) \+\+ (.*) ∷ \[\]\)$", source(where), where)
-    whole = first.split(" ∷ ") + listed(where, r"spanWords \(Span\.At") + [last]
+    (first, last), = found(r"^shape_of v = (.*) ∷ \(span_words \(span_in \(plain_of v\)\) \+\+ (.*) ∷ \[\]\)$", source(where), where)
+    whole = first.split(" ∷ ") + listed(where, r"span_words \(Span\.At") + [last]
     meant = {
-        "kindOf v": "KIND", "numberWord v": "NUMBER", "textNumber s": "SPACE", "a": "FIRST", "n": "LENGTH", "countIn (partsOf v)": "COUNT",
+        "kind_of v": "KIND", "number_word v": "NUMBER", "text_number s": "SPACE", "a": "FIRST", "n": "LENGTH", "count_in (parts_of v)": "COUNT",
     }
     specs = laid_out("SHAPE", positions(whole, meant, where))
     where = "crates/board_words/src/shapes.rt"
@@ -208,7 +209,7 @@ def shapes() -> "list[Numbers]":
 
 def parts() -> "list[Numbers]":
     where = "crates/board_words/specs/Shapes.antt"
-    return [laid_out("PART", positions(listed(where, "partOf"), {"headOf v": "HEAD", "payloadOf v": "PAYLOAD"}, where))]
+    return [laid_out("PART", positions(listed(where, "part_of"), {"head_of v": "HEAD", "payload_of v": "PAYLOAD"}, where))]
 
 
 GROUPS = (answers, refusals, errors, limits_exhausted, kinds, spaces, most, states, shapes, parts)
@@ -310,7 +311,7 @@ def crate_functions() -> Functions:
 
 def library_functions() -> Functions:
     """The exported functions with their slices as a pointer and a length; lengths have no name there."""
-    text = re.sub(r"\s+", " ", source("crates/board/src/lib.rt"))
+    text = re.sub(r"\s+", " ", source("crates/board_c/src/lib.rt"))
     functions = {}
     for name, given, returned in re.findall(r'pub extern "C" fn (\w+)\( ?([^()]*?),? ?\)(?: -> (\w+))?', text):
         arguments = []

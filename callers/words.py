@@ -22,7 +22,7 @@ COMMENT = re.compile(r"/\*.*?\*/", re.S)
 
 CELLS = "crates/rooms/specs/Cells.antt"
 SHAPES = "crates/board_words/specs/Shapes.antt"
-LIBRARY = "crates/board/src/lib.rt"
+LIBRARY = "crates/board_c/src/lib.rt"
 
 
 def spelled(number: int) -> str:
@@ -41,9 +41,9 @@ def one(pattern: str, path: str) -> int:
 
 
 def of_cells() -> "list[str]":
-    words, bits = len(listed(SHAPES, "partOf")), one(r"cells: &(?:mut )?\[u(\d+)\]", LIBRARY)
-    a_cell = one(r"^hasCell w i = ltb i \(length w / (\d+)\)$", CELLS)
-    (head, again, payload), = found(r"cellOf \(getD w \(i \* (\d+)\) 0\) \(getD w \(i \* (\d+) \+ (\d+)\) 0\)", source(CELLS), CELLS)
+    words, bits = len(listed(SHAPES, "part_of")), one(r"cells: &(?:mut )?\[u(\d+)\]", LIBRARY)
+    a_cell = one(r"^has_cell w i = ltb i \(length w / (\d+)\)$", CELLS)
+    (head, again, payload), = found(r"cell_of \(get_or w \(i \* (\d+)\) 0\) \(get_or w \(i \* (\d+) \+ (\d+)\) 0\)", source(CELLS), CELLS)
     return [
         f"A value is {spelled(words)} words of {bits} bits, a head and a payload",
         f"a cell is those {spelled(words)} words in a slice, so that a room for n cells has {a_cell}n words",
@@ -53,8 +53,8 @@ def of_cells() -> "list[str]":
 
 def of_answers() -> "list[str]":
     answers, sound = "crates/board_words/specs/Answers.antt", "crates/bindings_sound/specs/Sound.antt"
-    nothing = {int(number) for number in re.findall(r"= (\d+)[; ]", found(r"^nothingUsed = (record .*)$", source(answers), answers)[0])}
-    number, place = found(r"^done = report whichDone (\d+) (\d+) nothingUsed Value\.Absent$", source(answers), answers)[0]
+    nothing = {int(number) for number in re.findall(r"= (\d+)[; ]", found(r"^nothing_used = (record .*)$", source(answers), answers)[0])}
+    number, place = found(r"^done = report which_done (\d+) (\d+) nothing_used Value\.Absent$", source(answers), answers)[0]
     if nothing != {int(number)} or number != place:
         sys.exit(f"{answers}: what does not apply has several numbers")
     cell = one(r"Sound \(Unsound (\d+)\)\)$", sound)
@@ -62,9 +62,9 @@ def of_answers() -> "list[str]":
 
 
 def of_shapes() -> "list[str]":
-    bits, counts = equations(CELLS, "bitOf"), equations("crates/answer_values/specs/SpansAndCounts.antt", "countIn")
-    number = equations(SHAPES, "numberOr")["NoNumber"]
-    no_text = one(r"^spanWords Span\.NoText = (\d+) ∷ \1 ∷ \1 ∷ \[\]$", SHAPES)
+    bits, counts = equations(CELLS, "bit_of"), equations("crates/answer_values/specs/SpansAndCounts.antt", "count_in")
+    number = equations(SHAPES, "number_or")["NoNumber"]
+    no_text = one(r"^span_words Span\.NoText = (\d+) ∷ \1 ∷ \1 ∷ \[\]$", SHAPES)
     return [
         f"A Bool as {bits['false']} or {bits['true']}, an Int in two's complement, a Uint, a Double by its bits; of anything else {number}.",
         f"the space, the first byte there, how many bytes; of anything else {no_text}.",
@@ -74,7 +74,7 @@ def of_shapes() -> "list[str]":
 
 def of_text() -> "list[str]":
     """A span's length has as many bytes as the definition of tables gives a word."""
-    most = named("crates/meaning/specs/Limits.antt")["byteNumbers"] ** one(r"^wordBytes = (\d+)$", "crates/meaning/specs/Table.antt") - 1
+    most = named("crates/meaning/specs/Limits.antt")["byte_numbers"] ** one(r"^word_bytes = (\d+)$", "crates/meaning/specs/Table.antt") - 1
     return [f"a String or Bytes of it has at most {most:,} bytes"]
 
 

@@ -70,9 +70,9 @@ def broken_code(number: int, room: Path, repository: Path) -> str:
     """What runs `replay` out of a copy of the repository's code, which no prover lets pass."""
     copy = room / "repository"
     (copy / "tools").mkdir(parents=True)
-    shutil.copytree(repository / "crates", copy / "crates")
+    shutil.copytree(repository / "crates", copy / "crates", ignore=shutil.ignore_patterns("out"))
     shutil.copy(repository / "crates.txt", copy)
-    for part in ("run", "tools/unproved", "tools/listening"):
+    for part in ("run", "tools/unproved"):
         shutil.copy(HERE.parent / part, copy / part)
     if number >= 0:
         edited(copy, "crates/*/src/**/*.rt", BREAKS[number].code)

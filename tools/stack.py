@@ -1,7 +1,7 @@
 #!/usr/bin/env python3
 """How much stack an evaluation takes: the least on which the program `replay` answers rules that nest as deep as rules can.
 
-    tools/stack.py target/bin/replay
+    tools/stack.py crates/replay/out/replay
 
 Each shape is tried at the deepest nesting that it can have; a flat rule's need, which is the program's own, is taken off.
 """

@@ -1,9 +1,9 @@
-"""Cases as theorems about the definition, proved by computing: an equation for each, in a scratch repository under target/.
+"""Cases as theorems about the definition, proved by computing: an equation for each, in a scratch repository.
 
-    python3 cases.py > ../../target/cases.jsonl
-    python3 rows.py ../../target/cases.jsonl [--family NAME]... [--most N] [--per-file N]
+    python3 cases.py > cases.jsonl
+    python3 rows.py cases.jsonl [--family NAME]... [--most N] [--per-file N]
 
-Copies the crates numbers, text and meaning to target/rows, writes the crate `rows` beside them and has `rt` check it.
+Copies the crates numbers, text and meaning to a temporary folder, writes the crate `rows` beside them and has `rt check` prove it.
 Says how many rows there were and which did not hold. The notation is that of crates/meaning/specs/Rows.antt and proofs/Sample.antt.
 """
 
@@ -16,21 +16,20 @@ import re
 import shutil
 import subprocess
 import sys
+import tempfile
 from pathlib import Path
 from typing import Iterable
 
 REPOSITORY = Path(__file__).resolve().parents[2]
-SCRATCH = REPOSITORY / "target" / "rows"
 MOST_STEPS = 3_000  # longer runs take the checker too long
 MOST_CHARACTERS = 20_000  # of a case's line: beyond that the checker meets its own step limit
 
 KIT = """-- Bindings brought in one after the other, and what each answers.
-use Prim.Native.Nat.{ℕ}
-use mathlib.Core.List.{List, [], _∷_}
-use Rattle·meaning.specs.Limits.{Counts, mostCells, mostBytes}
-use Rattle·meaning.specs.Errors.{refusalNumber}
-use Rattle·meaning.specs.Heads.{Got, got, refused}
-use Rattle·meaning.specs.Bindings.{BindingRoom, emptyRoom, bring}
+use Rattle.std.specs.Prelude.{ℕ, List, [], ◌∷◌}
+use Rattle.meaning.specs.Limits.{most_cells, most_bytes}
+use Rattle.meaning.specs.Errors.{refusal_number}
+use Rattle.meaning.specs.Heads.{Got, got, refused}
+use Rattle.meaning.specs.Bindings.{BindingRoom, empty_room, bring}
 
 pub data Step : Type 0 where
   empties : Step
@@ -42,36 +41,33 @@ pub data Reply : Type 0 where
 
 abbrev pub after : BindingRoom → Got BindingRoom → Reply × BindingRoom
 after room (got more) = (brought, more)
-after room (refused r p) = (declined (refusalNumber r) p, room)
+after room (refused r p) = (declined (refusal_number r) p, room)
 
 abbrev pub taken : ℕ → ℕ → BindingRoom → Step → Reply × BindingRoom
-taken cells bytes room empties = (emptied, emptyRoom)
+taken cells bytes room empties = (emptied, empty_room)
 taken cells bytes room (bringing n table text) = after room (bring cells bytes room n table text)
 
 unfoldable pub play : ℕ → ℕ → List Step → BindingRoom → List Reply × BindingRoom
 play cells bytes [] room = ([], room)
 play cells bytes (s ∷ ss) room =
     let now = taken cells bytes room s in
-    let later = play cells bytes ss (now .1) in
-    ((now .0) ∷ (later .0), later .1)
+    let later = play cells bytes ss now.1 in
+    (now.0 ∷ later.0, later.1)
 
 abbrev pub room : List Step → BindingRoom
-room steps = play mostCells mostBytes steps emptyRoom .1
+room steps = (play most_cells most_bytes steps empty_room).1
 """
 
 HEAD = """-- Rows.
-use mathlib.Core.Path.{_≡_, refl}
-use mathlib.Core.List.{[], _∷_}
-use mathlib.Core.Bool.{true, false}
-use lib.IntN.{pos, negsuc}
-use Rattle·meaning.specs.Errors.{Steps, Cells, Text, Nesting}
-use Rattle·meaning.specs.Value.{null, bool, int, uint, double, string, bytes, intKey, uintKey, boolKey, stringKey, scalar, map, optionalNone, optionalOf, empty, entry}
-use Rattle·meaning.specs.Bindings.{emptyRoom}
-use Rattle·meaning.specs.Answer.{answerOf}
-use Rattle·meaning.specs.Rows.{gives, fails, exhausts, refuses, seen, expected}
-use Rattle·meaning.proofs.Sample.{elements, counts}
-use Rattle·meaning.proofs.Compute.{compute}
-use Rattle·rows·specs.specs.Kit.{empties, bringing, emptied, brought, declined, play, room}
+use Rattle.std.specs.Prelude.{◌≡◌, refl, [], ◌∷◌, true, false, pos, negsuc}
+use Rattle.meaning.specs.Errors.{Steps, Cells, Text, Nesting}
+use Rattle.meaning.specs.Value.{null, bool, int, uint, double, string, bytes, int_key, uint_key, bool_key, string_key, scalar, map, optional_none, optional_of, empty, entry}
+use Rattle.meaning.specs.Bindings.{empty_room}
+use Rattle.meaning.specs.Answer.{answer_of}
+use Rattle.meaning.specs.Rows.{gives, fails, exhausts, refuses, seen, expected}
+use Rattle.meaning.proofs.Sample.{elements, counts}
+use Rattle.meaning.proofs.Compute.{compute}
+use Rattle.rows.proofs.Kit.{empties, bringing, emptied, brought, declined, play, room}
 
 """
 
@@ -90,7 +86,7 @@ def integer(number: int) -> str:
 
 
 def scalar_of(kind: str, held: object) -> str:
-    """A scalar's constructor, which is a key's too but for its name."""
+    """A scalar's constructor, which is a key's too but for its name's end."""
     if kind == "Bool":
         return f"bool{{}} {str(held).lower()}"
     if kind == "Int":
@@ -111,10 +107,10 @@ def value_of(data: list) -> str:
     if kind == "Map":
         entries = "empty"
         for key, part in reversed(rest[0]):
-            entries = f"(entry ({scalar_of(*key).format('Key')}) {value_of(part)} {entries})"
+            entries = f"(entry ({scalar_of(*key).format('_key')}) {value_of(part)} {entries})"
         return f"(map {entries})"
     if kind == "Optional":
-        return f"(optionalOf {value_of(rest[0])})" if rest else "optionalNone"
+        return f"(optional_of {value_of(rest[0])})" if rest else "optional_none"
     return f"(scalar ({scalar_of(kind, rest[0]).format('')}))"
 
 
@@ -137,7 +133,7 @@ def shown(case: dict) -> str:
 def evaluation(case: dict) -> str:
     """The answer with its counts, and the rooms, of one evaluation."""
     steps = listed(f"bringing {n} {bytes_of(table)} {bytes_of(text)}" for n, table, text in case["bindings"])
-    answer = f"answerOf {bytes_of(case['table'])} {bytes_of(case['text'])} (room {steps}) {counts_of(case['limits'])}"
+    answer = f"answer_of {bytes_of(case['table'])} {bytes_of(case['text'])} (room {steps}) {counts_of(case['limits'])}"
     return f"seen {shown(case)} ({answer}) ≡ expected {shown(case)}"
 
 
@@ -150,8 +146,8 @@ def script(case: dict) -> str:
         bound = [] if reply[0] == "emptied" else [step[1], *bound] if reply[0] == "brought" else bound
     pairs = listed(f"({n}, {value_of(case['holds'][str(n)])})" for n in bound)
     used = case["after"]["used"]
-    held = f"record {{ bound = {pairs}; usedCells = {used[0]}; usedBytes = {used[1]} }}"
-    return f"play {case['lent'][0]} {case['lent'][1]} {steps} emptyRoom ≡ ({replies}, {held})"
+    held = f"record {{ bound = {pairs}; used_cells = {used[0]}; used_bytes = {used[1]} }}"
+    return f"play {case['lent'][0]} {case['lent'][1]} {steps} empty_room ≡ ({replies}, {held})"
 
 
 def fits(line: str, case: dict) -> bool:
@@ -163,17 +159,16 @@ def fits(line: str, case: dict) -> bool:
     return steps <= MOST_STEPS
 
 
-def write(cases: "list[dict]", per_file: int) -> None:
-    shutil.rmtree(SCRATCH, ignore_errors=True)
+def write(cases: "list[dict]", per_file: int, scratch: Path) -> None:
     for crate in ("numbers", "text", "meaning"):
-        shutil.copytree(REPOSITORY / "crates" / crate, SCRATCH / "crates" / crate, ignore=shutil.ignore_patterns("must-fail"))
-    (SCRATCH / "crates.txt").write_text("numbers:\ntext:\nmeaning: numbers text\nrows: numbers text meaning\n")
-    specs = SCRATCH / "crates" / "rows" / "specs"
-    specs.mkdir(parents=True)
-    (specs.parent / "src").mkdir()
-    (specs.parent / "src" / "lib.rt").write_text("// Rows alone.\n")
+        shutil.copytree(REPOSITORY / "crates" / crate, scratch / "crates" / crate, ignore=shutil.ignore_patterns("must-fail", "out"))
+    (scratch / "crates.txt").write_text("numbers:\ntext:\nmeaning: numbers text\nrows: numbers text meaning\n")
+    proofs = scratch / "crates" / "rows" / "proofs"
+    proofs.mkdir(parents=True)
+    (proofs.parent / "src").mkdir()
+    (proofs.parent / "src" / "lib.rt").write_text("// Rows alone.\n")
     modules = ["Kit"]
-    (specs / "Kit.antt").write_text(KIT)
+    (proofs / "Kit.antt").write_text(KIT)
     for first in range(0, len(cases), per_file):
         modules.append(f"Rows{first // per_file}")
         rows = [HEAD]
@@ -181,8 +176,8 @@ def write(cases: "list[dict]", per_file: int) -> None:
             name = re.sub(r"\W", "", case["id"])
             says = evaluation(case) if case["op"] == "evaluate" else script(case)
             rows.append(f"{name} : {says}\nunfolding compute play\n{name} = refl\n\n")
-        (specs / f"{modules[-1]}.antt").write_text("".join(rows))
-    (specs / "Lib.antt").write_text("".join(f"pub mod {module}\n" for module in modules))
+        (proofs / f"{modules[-1]}.antt").write_text("".join(rows))
+    (proofs / "Lib.antt").write_text("".join(f"pub mod {module}\n" for module in modules))
 
 
 def main() -> None:
@@ -203,8 +198,9 @@ def main() -> None:
             cases = random.Random(7).sample(cases, chosen.most)
         rows += cases
         print(f"{family:10} {len(cases)}")
-    write(rows, chosen.per_file)
-    checked = subprocess.run(["rt", "check", "rows"], cwd=SCRATCH, capture_output=True, text=True)
+    with tempfile.TemporaryDirectory() as name:
+        write(rows, chosen.per_file, Path(name))
+        checked = subprocess.run(["rt", "check"], cwd=Path(name) / "crates" / "rows", capture_output=True, text=True)
     failing = sorted(set(re.findall(r"error: `(\w+)`", checked.stdout + checked.stderr)))
     print(f"{len(rows)} rows, {len(failing)} did not hold {' '.join(failing[:20])}")
     if checked.returncode != 0 and not failing:

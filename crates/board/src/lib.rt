@@ -1,5 +1,5 @@
-// The evaluator for callers in C and Rust: numbers and slices only. Whatever is lent, there is an answer. include/ombravelik.h says how the
-// functions are called.
+// The evaluator for callers in C and Rust: numbers and slices only. Whatever is lent, there is an answer. The crate `board_c` exports these
+// functions, and include/ombravelik.h says how they are called.
 ghost use Rattle.std.specs.Prelude.{◌≡◌, List, ℕ};
 ghost use Rattle.rooms.specs.Rooms.{rooms};
 ghost use Rattle.rooms.specs.Cells.{cell_of};
@@ -18,24 +18,21 @@ use board_words::answers::ANSWER_WORDS;
 use board_words::overlay::NO_ROOM;
 
 // Whether a table is accepted, with its literal text.
-#[unsafe(no_mangle)]
-pub extern "C" fn ombravelik_check(table: &[u8], literal: &[u8], answer: &mut [u64]) -> u8
+pub fn ombravelik_check(table: &[u8], literal: &[u8], answer: &mut [u64]) -> u8
     ensures { ◌≡◌ {A = ℕ × List ℕ} (result, answer.new) (checks table.now literal.now answer.old) }
 {
     board_calls::intake::check(table, literal, answer)
 }
 
 // A state of no bindings, whatever it was.
-#[unsafe(no_mangle)]
-pub extern "C" fn ombravelik_empty(state: &mut [u64]) -> u8
+pub fn ombravelik_empty(state: &mut [u64]) -> u8
     ensures { ◌≡◌ {A = ℕ × List ℕ} (result, state.new) (empties state.old) }
 {
     board_calls::intake::empty(state)
 }
 
 // Brings the value that a table spells into a binding room, under a name that has none.
-#[unsafe(no_mangle)]
-pub extern "C" fn ombravelik_bring_in(
+pub fn ombravelik_bring_in(
     state: &mut [u64],
     binding_cells: &mut [u64],
     binding_text: &mut [u8],
@@ -84,8 +81,7 @@ fn evaluate_over(
 }
 
 // Evaluates a rule over a binding room.
-#[unsafe(no_mangle)]
-pub extern "C" fn ombravelik_evaluate(
+pub fn ombravelik_evaluate(
     table: &[u8],
     literal: &[u8],
     state: &[u64],
@@ -115,16 +111,14 @@ pub extern "C" fn ombravelik_evaluate(
 }
 
 // What a value is by itself.
-#[unsafe(no_mangle)]
-pub extern "C" fn ombravelik_read(head: u64, payload: u64, shape: &mut [u64]) -> u8
+pub fn ombravelik_read(head: u64, payload: u64, shape: &mut [u64]) -> u8
     ensures { ◌≡◌ {A = ℕ × List ℕ} (result, shape.new) (reads (cell_of head payload) shape.old) }
 {
     board_calls::readout::read(head, payload, shape)
 }
 
 // Element `index` of a List.
-#[unsafe(no_mangle)]
-pub extern "C" fn ombravelik_element(
+pub fn ombravelik_element(
     binding_cells: &[u64],
     cells: &[u64],
     head: u64,
@@ -138,8 +132,7 @@ pub extern "C" fn ombravelik_element(
 }
 
 // The key of entry `index` of a Map.
-#[unsafe(no_mangle)]
-pub extern "C" fn ombravelik_key(
+pub fn ombravelik_key(
     binding_cells: &[u64],
     cells: &[u64],
     head: u64,
@@ -153,8 +146,7 @@ pub extern "C" fn ombravelik_key(
 }
 
 // The value of entry `index` of a Map.
-#[unsafe(no_mangle)]
-pub extern "C" fn ombravelik_value(
+pub fn ombravelik_value(
     binding_cells: &[u64],
     cells: &[u64],
     head: u64,
@@ -168,8 +160,7 @@ pub extern "C" fn ombravelik_value(
 }
 
 // What a present Optional holds.
-#[unsafe(no_mangle)]
-pub extern "C" fn ombravelik_present(
+pub fn ombravelik_present(
     binding_cells: &[u64],
     cells: &[u64],
     head: u64,
