@@ -86,6 +86,6 @@ fn answer_input(rt: &impl Print, input: &[u8]) -> io::Result<()> {
 
 fn main(rt: HostRuntime) -> io::Result<()> {
     let mut input = input_room();
-    let count = read_full(&rt, &mut input)?;
+    let count = read_full(&mut rt.stdin(), &mut input)?;
     answer_input(&rt, &input[..count])
 }

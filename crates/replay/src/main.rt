@@ -187,7 +187,8 @@ fn take_chunk(
 
 // The whole input. A proved loop has to end, but nothing says that the input ends, so the loop counts down from a number that no run uses up.
 fn take_all(
-    rt: &(impl Input + Print),
+    input: &mut impl Read,
+    rt: &impl Print,
     chunk: &mut [u8],
     line: &mut [u8],
     literal: &mut [u8],
@@ -198,7 +199,6 @@ fn take_all(
     text: &mut [u8],
     out: &mut [u8],
 ) -> io::Result<State> {
-    let mut input = rt.reader();
     let mut state = at_first();
     let mut turns = MOST;
     while 0 < turns {
@@ -235,6 +235,7 @@ fn main(rt: HostRuntime) -> io::Result<()> {
     let mut text = text_room();
     let mut out = answer_room();
     let state = take_all(
+        &mut rt.stdin(),
         &rt,
         &mut chunk,
         &mut line,

@@ -130,7 +130,7 @@ fn answer_all(
 
 fn main(rt: HostRuntime) -> io::Result<()> {
     let mut input = room();
-    let count = read_full(&rt, &mut input)?;
+    let count = read_full(&mut rt.stdin(), &mut input)?;
     if count == ROOM {
         return say::words(&rt, b"The list is longer than 524287 bytes.\n");
     }

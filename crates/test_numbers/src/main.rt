@@ -61,7 +61,7 @@ fn answer_all(rt: &impl Print, list: &[u8]) -> io::Result<u64> {
 
 fn main(rt: HostRuntime) -> io::Result<()> {
     let mut input = room();
-    let count = read_full(&rt, &mut input)?;
+    let count = read_full(&mut rt.stdin(), &mut input)?;
     if count == ROOM {
         return rt.write_all(b"The list is longer than 524287 bytes.\n");
     }
