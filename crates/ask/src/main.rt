@@ -2,9 +2,10 @@
 // The input: the length of the literal text (two bytes, the lower first), the text, and the table to the end.
 ghost use Rattle.std.specs.Prelude.{◌≡◌, ◌<◌, length};
 
-use libc::{STDIN_FILENO, STDOUT_FILENO};
 use line_answers::{LONGEST_LINE, put_answer};
+use program_input::read_full;
 use program_memory::before_run::bytes_of;
+use std::io;
 
 // The length, the longest text, and one byte more than the longest table, by which a longer one is seen.
 const INPUT: usize = 2 + 65535 + 16385;
@@ -39,11 +40,11 @@ fn line_room() -> [u8; LONGEST_LINE]
     [0; LONGEST_LINE]
 }
 
-fn say(words: &[u8]) {
-    io::write_all(STDOUT_FILENO, words);
+fn say(rt: &impl Print, words: &[u8]) -> io::Result<()> {
+    rt.write_all(words)
 }
 
-fn answer(literal: &[u8], table: &[u8]) {
+fn answer(rt: &impl Print, literal: &[u8], table: &[u8]) -> io::Result<()> {
     let mut cells = cell_room();
     let mut text = text_room();
     let mut line = line_room();
@@ -60,8 +61,8 @@ fn answer(literal: &[u8], table: &[u8]) {
     );
     let length = put_answer(literal, &[], &[], &cells, &text, answer, &mut line);
     let end = bytes_of(&line, length);
-    say(&line[..end]);
-    say(b"\n");
+    say(rt, &line[..end])?;
+    say(rt, b"\n")
 }
 
 fn wide(byte: u8) -> usize
@@ -70,23 +71,21 @@ fn wide(byte: u8) -> usize
     byte as usize
 }
 
-fn answer_input(input: &[u8]) {
+fn answer_input(rt: &impl Print, input: &[u8]) -> io::Result<()> {
     let first = 2;
     if input.len() < first {
-        say(b"The input ends before the length of its text.\n");
-        return;
+        return say(rt, b"The input ends before the length of its text.\n");
     }
     let length = wide(input[0]) + 256 * wide(input[1]);
     if input.len() - first < length {
-        say(b"The input ends before its text does.\n");
-        return;
+        return say(rt, b"The input ends before its text does.\n");
     }
     let start = first + length;
-    answer(&input[first..start], &input[start..]);
+    answer(rt, &input[first..start], &input[start..])
 }
 
-fn main() {
+fn main(rt: HostRuntime) -> io::Result<()> {
     let mut input = input_room();
-    let count = io::read_full(STDIN_FILENO, &mut input);
-    answer_input(&input[..count]);
+    let count = read_full(&mut rt.stdin(), &mut input)?;
+    answer_input(&rt, &input[..count])
 }

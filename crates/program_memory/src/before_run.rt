@@ -1,6 +1,6 @@
 // Lent memory: how much of it a count names, and what it is filled with before a run.
 ghost use Rattle.std.specs.Prelude.{◌≡◌, ◌*◌, min, length, true};
-ghost use Rattle.io.specs.Counts.{IsPrefixLen};
+ghost use Rattle.std.specs.Counts.{IsPrefixLen};
 ghost use Rattle.program_memory.specs.BeforeRun.{lent_word, lent_byte, all_are};
 
 pub const WORD: u64 = 0xA5A5_A5A5_A5A5_A5A5;

@@ -1,6 +1,6 @@
 // Bytes in hexadecimal digits, two a byte and in either case, put into lent memory; and words of eight bytes.
 ghost use Rattle.std.specs.Prelude.{◌≡◌, ◌+◌, ◌≤◌, ◌<◌, length};
-ghost use Rattle.io.specs.Counts.{IsPrefixLen};
+ghost use Rattle.std.specs.Counts.{IsPrefixLen};
 ghost use Rattle.line_pieces.specs.Page.{Page};
 ghost use Rattle.line_pieces.specs.Page.{puts as Page·puts};
 ghost use Rattle.program_words.specs.Hexadecimal.{digit_of, bytes_of, times_of, piece_of, spelled_by, repeated, big_endian};

@@ -9,9 +9,11 @@ use replay_lines::asked::{Asked, Lent, asked_from};
 use replay_lines::binding::bind;
 use replay_lines::command::{Command, command_of};
 use replay_lines::line::word_from;
+use std::io;
 
 // The answer's line, with a remark if lent memory does not hold what it must.
 fn evaluate(
+    rt: &impl Print,
     literal: &[u8],
     table: &[u8],
     binding_cells: &[u64],
@@ -21,7 +23,7 @@ fn evaluate(
     out: &mut [u8],
     steps: usize,
     bindings: Bindings,
-) {
+) -> io::Result<()> {
     fill(cells, text);
     let answer = evaluator::evaluate(
         table,
@@ -43,15 +45,16 @@ fn evaluate(
         out,
     );
     let end = bytes_of(out, length);
-    say(&out[..end]);
+    say(rt, &out[..end])?;
     if !is_kept(cells, text, answer) {
-        say(b" memory changed");
+        say(rt, b" memory changed")?;
     }
-    say(b"\n");
+    say(rt, b"\n")
 }
 
 // What is spelled and lent, cut to what there is.
 fn evaluate_asked(
+    rt: &impl Print,
     literal: &[u8],
     table: &[u8],
     binding_cells: &[u64],
@@ -61,7 +64,7 @@ fn evaluate_asked(
     out: &mut [u8],
     bench: Bench,
     lent: Lent,
-) {
+) -> io::Result<()> {
     let literal_end = bytes_of(literal, lent.literal);
     let table_end = bytes_of(table, lent.table);
     let binding_words = words_of(binding_cells, bench.cells);
@@ -70,6 +73,7 @@ fn evaluate_asked(
     let bytes = bytes_of(text, lent.bytes);
     let bindings = bench.bindings;
     evaluate(
+        rt,
         &literal[..literal_end],
         &table[..table_end],
         &binding_cells[..binding_words],
@@ -79,10 +83,11 @@ fn evaluate_asked(
         out,
         lent.steps,
         bindings,
-    );
+    )
 }
 
 fn eval(
+    rt: &impl Print,
     line: &[u8],
     from: usize,
     literal: &mut [u8],
@@ -93,11 +98,12 @@ fn eval(
     text: &mut [u8],
     out: &mut [u8],
     bench: Bench,
-) -> Bench {
+) -> io::Result<Bench> {
     let Asked::For(lent) = asked_from(line, from, literal, table) else {
-        return bad(bench);
+        return bad(rt, bench);
     };
     evaluate_asked(
+        rt,
         literal,
         table,
         binding_cells,
@@ -107,12 +113,13 @@ fn eval(
         out,
         bench,
         lent,
-    );
-    bench
+    )?;
+    Ok(bench)
 }
 
 // Does what the line says. Its number is the count of lines so far.
 pub fn answer_line(
+    rt: &impl Print,
     line: &[u8],
     literal: &mut [u8],
     table: &mut [u8],
@@ -122,15 +129,19 @@ pub fn answer_line(
     text: &mut [u8],
     out: &mut [u8],
     bench: Bench,
-) -> Bench {
+) -> io::Result<Bench> {
     let word = word_from(line, 0);
     let start = word.start;
     let at = word.end;
     match command_of(&line[start..at]) {
-        Command::Room => tell(replay_lines::room(line, at, bench)),
-        Command::Empty => tell(replay_lines::empty(line, at, bench)),
-        Command::Bind => tell(bind(line, at, literal, table, binding_cells, binding_text, bench)),
+        Command::Room => tell(rt, replay_lines::room(line, at, bench)),
+        Command::Empty => tell(rt, replay_lines::empty(line, at, bench)),
+        Command::Bind => tell(
+            rt,
+            bind(line, at, literal, table, binding_cells, binding_text, bench),
+        ),
         Command::Eval => eval(
+            rt,
             line,
             at,
             literal,
@@ -142,6 +153,6 @@ pub fn answer_line(
             out,
             bench,
         ),
-        Command::Other => bad(bench),
+        Command::Other => bad(rt, bench),
     }
 }

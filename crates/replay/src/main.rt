@@ -3,11 +3,12 @@ ghost use Rattle.std.specs.Prelude.{◌≡◌, length};
 
 use crate::commands::answer_line;
 use crate::said::bad;
-use libc::STDIN_FILENO;
 use line_answers::LONGEST_LINE;
 use line_pieces::put_word;
 use program_words::find;
 use replay_lines::Bench;
+use std::io;
+use std::io::Read;
 
 mod commands;
 mod said;
@@ -104,6 +105,7 @@ fn counted(bench: Bench) -> Bench {
 
 // The line is there up to its end.
 fn take_line(
+    rt: &impl Print,
     line: &[u8],
     literal: &mut [u8],
     table: &mut [u8],
@@ -113,14 +115,15 @@ fn take_line(
     text: &mut [u8],
     out: &mut [u8],
     state: State,
-) -> State {
+) -> io::Result<State> {
     let length = state.length;
     let before = counted(state.bench);
     if line.len() <= length {
-        let bench = bad(before);
-        return State { length: 0, bench };
+        let bench = bad(rt, before)?;
+        return Ok(State { length: 0, bench });
     }
     let bench = answer_line(
+        rt,
         &line[..length],
         literal,
         table,
@@ -130,8 +133,8 @@ fn take_line(
         text,
         out,
         before,
-    );
-    State { length: 0, bench }
+    )?;
+    Ok(State { length: 0, bench })
 }
 
 // A part of a line behind what is there of it, as far as it fits.
@@ -145,6 +148,7 @@ fn with_part(line: &mut [u8], part: &[u8], state: State) -> State {
 
 // A part of the input: every line that ends in it is answered.
 fn take_chunk(
+    rt: &impl Print,
     chunk: &[u8],
     line: &mut [u8],
     literal: &mut [u8],
@@ -155,16 +159,17 @@ fn take_chunk(
     text: &mut [u8],
     out: &mut [u8],
     before: State,
-) -> State {
+) -> io::Result<State> {
     let mut state = before;
     let mut from = 0;
     while from < chunk.len() {
         let end = find(chunk, from, b'\n');
         state = with_part(line, &chunk[from..end], state);
         if end == chunk.len() {
-            return state;
+            return Ok(state);
         }
         state = take_line(
+            rt,
             line,
             literal,
             table,
@@ -174,14 +179,16 @@ fn take_chunk(
             text,
             out,
             state,
-        );
+        )?;
         from = end + 1;
     }
-    state
+    Ok(state)
 }
 
 // The whole input. A proved loop has to end, but nothing says that the input ends, so the loop counts down from a number that no run uses up.
 fn take_all(
+    input: &mut impl Read,
+    rt: &impl Print,
     chunk: &mut [u8],
     line: &mut [u8],
     literal: &mut [u8],
@@ -191,16 +198,16 @@ fn take_all(
     cells: &mut [u64],
     text: &mut [u8],
     out: &mut [u8],
-) -> State {
+) -> io::Result<State> {
     let mut state = at_first();
     let mut turns = MOST;
     while 0 < turns {
-        let got = libc::read(STDIN_FILENO, chunk);
-        let count = io::count(got, chunk);
+        let count = input.read(chunk)?;
         if count == 0 {
-            return state;
+            return Ok(state);
         }
         state = take_chunk(
+            rt,
             &chunk[..count],
             line,
             literal,
@@ -211,13 +218,13 @@ fn take_all(
             text,
             out,
             state,
-        );
+        )?;
         turns -= 1;
     }
-    state
+    Ok(state)
 }
 
-fn main() {
+fn main(rt: HostRuntime) -> io::Result<()> {
     let mut chunk = chunk_room();
     let mut line = line_room();
     let mut literal = spelled_room();
@@ -228,6 +235,8 @@ fn main() {
     let mut text = text_room();
     let mut out = answer_room();
     let state = take_all(
+        &mut rt.stdin(),
+        &rt,
         &mut chunk,
         &mut line,
         &mut literal,
@@ -237,10 +246,11 @@ fn main() {
         &mut cells,
         &mut text,
         &mut out,
-    );
+    )?;
     // a last line without an end
     if 0 < state.length {
         take_line(
+            &rt,
             &line,
             &mut literal,
             &mut table,
@@ -250,6 +260,7 @@ fn main() {
             &mut text,
             &mut out,
             state,
-        );
+        )?;
     }
+    Ok(())
 }

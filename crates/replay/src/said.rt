@@ -1,45 +1,45 @@
 // What is written of a line: words, numbers, what became of a binding, and that the line is none.
 use bindings::admission::Answer;
-use libc::STDOUT_FILENO;
 use replay_lines::{Bench, Done, Said};
+use std::io;
 
-pub fn say(words: &[u8]) {
-    io::write_all(STDOUT_FILENO, words);
+pub fn say(rt: &impl Print, words: &[u8]) -> io::Result<()> {
+    rt.write_all(words)
 }
 
-fn say_number(number: usize) {
-    io::print_decimal(STDOUT_FILENO, number as u64);
+fn say_number(rt: &impl Print, number: usize) -> io::Result<()> {
+    print!(rt; "{number}")
 }
 
 // The line at hand is none that the program knows.
-pub fn bad(bench: Bench) -> Bench {
-    say(b"bad line ");
-    say_number(bench.lines);
-    say(b"\n");
-    bench
+pub fn bad(rt: &impl Print, bench: Bench) -> io::Result<Bench> {
+    say(rt, b"bad line ")?;
+    say_number(rt, bench.lines)?;
+    say(rt, b"\n")?;
+    Ok(bench)
 }
 
-fn say_brought(answer: Answer) {
+fn say_brought(rt: &impl Print, answer: Answer) -> io::Result<()> {
     match answer {
-        Answer::Done => say(b"ok\n"),
+        Answer::Done => say(rt, b"ok\n"),
         Answer::Refused(number, place) => {
-            say_number(number as usize);
-            say(b" ");
-            say_number(place);
-            say(b"\n");
+            say_number(rt, number as usize)?;
+            say(rt, b" ")?;
+            say_number(rt, place)?;
+            say(rt, b"\n")
         }
     }
 }
 
-pub fn tell(done: Done) -> Bench {
+pub fn tell(rt: &impl Print, done: Done) -> io::Result<Bench> {
     let bench = done.bench;
     let said = done.said;
     match said {
-        Said::Nothing => bench,
+        Said::Nothing => Ok(bench),
         Said::Brought(answer) => {
-            say_brought(answer);
-            bench
+            say_brought(rt, answer)?;
+            Ok(bench)
         }
-        Said::Bad => bad(bench),
+        Said::Bad => bad(rt, bench),
     }
 }

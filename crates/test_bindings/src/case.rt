@@ -8,6 +8,7 @@ use program_memory::before_run::{bytes_of, fill};
 use program_words::hexadecimal::{put_bytes, put_pieces, word_at};
 use rooms::scope::Scope;
 use rooms_cells::read_cell;
+use std::io;
 
 // How much is lent, and the bindings in it.
 #[derive(Clone, Copy)]
@@ -90,35 +91,37 @@ fn with_counts(bindings: Bindings, cells: usize, bytes: usize) -> Bindings {
 }
 
 fn bring(
+    rt: &impl Print,
     cells: &mut [u64],
     text: &mut [u8],
     bindings: Bindings,
     name: usize,
     table: &[u8],
     literal: &[u8],
-) -> Bindings {
+) -> io::Result<Bindings> {
     let brought = bindings::bring_in(cells, text, bindings, name, table, literal);
     let answer = brought.answer;
-    say::answer(answer);
+    say::answer(rt, answer)?;
     let after = brought.bindings;
-    say::state(cells, text, after);
-    after
+    say::state(rt, cells, text, after)?;
+    Ok(after)
 }
 
-fn empty(cells: &[u64], text: &[u8]) -> Bindings {
+fn empty(rt: &impl Print, cells: &[u64], text: &[u8]) -> io::Result<Bindings> {
     let after = bindings::empty();
-    say::words(b" emptied");
-    say::state(cells, text, after);
-    after
+    say::words(rt, b" emptied")?;
+    say::state(rt, cells, text, after)?;
+    Ok(after)
 }
 
-fn judge(cells: &[u64], text: &[u8], bindings: Bindings) {
-    say::soundness(bindings_sound::sound(cells, text, bindings));
-    say::state(cells, text, bindings);
+fn judge(rt: &impl Print, cells: &[u64], text: &[u8], bindings: Bindings) -> io::Result<()> {
+    say::soundness(rt, bindings_sound::sound(cells, text, bindings))?;
+    say::state(rt, cells, text, bindings)
 }
 
 // One of the three calls, on what is lent.
 fn call(
+    rt: &impl Print,
     deed: u8,
     name: usize,
     table: &[u8],
@@ -126,19 +129,20 @@ fn call(
     cells: &mut [u64],
     text: &mut [u8],
     bindings: Bindings,
-) -> Bindings {
+) -> io::Result<Bindings> {
     match deed {
-        b'b' => bring(cells, text, bindings, name, table, literal),
-        b'e' => empty(cells, text),
+        b'b' => bring(rt, cells, text, bindings, name, table, literal),
+        b'e' => empty(rt, cells, text),
         _ => {
-            judge(cells, text, bindings);
-            bindings
+            judge(rt, cells, text, bindings)?;
+            Ok(bindings)
         }
     }
 }
 
 // A call with the table and the text that the words spell.
 fn answered(
+    rt: &impl Print,
     deed: u8,
     name: usize,
     table: &[u8],
@@ -148,12 +152,13 @@ fn answered(
     left: &mut [u8],
     right: &mut [u8],
     case: Case,
-) -> Case {
+) -> io::Result<Case> {
     let words = some_words(cells, case.words);
     let bytes = bytes_of(text, case.bytes);
     let size = put_pieces(table, left);
     let length = put_pieces(literal, right);
     let after = call(
+        rt,
         deed,
         name,
         &left[..size],
@@ -161,12 +166,13 @@ fn answered(
         &mut cells[..words],
         &mut text[..bytes],
         case.bindings,
-    );
-    with(case, after)
+    )?;
+    Ok(with(case, after))
 }
 
 // One deed, with up to three words behind it.
 pub fn act(
+    rt: &impl Print,
     deed: u8,
     first: &[u8],
     second: &[u8],
@@ -176,20 +182,22 @@ pub fn act(
     left: &mut [u8],
     right: &mut [u8],
     case: Case,
-) -> Case {
+) -> io::Result<Case> {
     let count = number(first);
     match deed {
-        b'l' => lend(cells, text, count, number(second), case.bindings),
+        b'l' => Ok(lend(cells, text, count, number(second), case.bindings)),
         b'w' => {
             put(cells, count, second, left);
-            case
+            Ok(case)
         }
         b't' => {
             put_text(text, count, second, left);
-            case
+            Ok(case)
         }
-        b's' => with(case, with_slot(case.bindings, count, second, third)),
-        b'u' => with(case, with_counts(case.bindings, count, number(second))),
-        _ => answered(deed, count, second, third, cells, text, left, right, case),
+        b's' => Ok(with(case, with_slot(case.bindings, count, second, third))),
+        b'u' => Ok(with(case, with_counts(case.bindings, count, number(second)))),
+        _ => answered(
+            rt, deed, count, second, third, cells, text, left, right, case,
+        ),
     }
 }

@@ -1,5 +1,5 @@
 // Words that a case lends: how many of them, and what is put there.
-ghost use Rattle.io.specs.Counts.{IsPrefixLen};
+ghost use Rattle.std.specs.Counts.{IsPrefixLen};
 
 use program_words::hexadecimal::word_at;
 

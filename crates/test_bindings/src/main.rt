@@ -3,8 +3,9 @@
 ghost use Rattle.std.specs.Prelude.{◌≡◌, ◌≤◌, length};
 
 use crate::case::Case;
-use libc::STDIN_FILENO;
+use program_input::read_full;
 use program_words::find;
+use std::io;
 
 mod case;
 mod digest;
@@ -59,19 +60,21 @@ fn deed_end(part: &[u8], from: usize) -> usize
 }
 
 fn deed(
+    rt: &impl Print,
     part: &[u8],
     cells: &mut [u64],
     text: &mut [u8],
     left: &mut [u8],
     right: &mut [u8],
     case: Case,
-) -> Case {
+) -> io::Result<Case> {
     let first = line::after(part, find(part, 0, b' '));
     let first_end = find(part, first, b' ');
     let second = line::after(part, first_end);
     let second_end = find(part, second, b' ');
     let third = line::after(part, second_end);
     case::act(
+        rt,
         line::first(part),
         &part[first..first_end],
         &part[second..second_end],
@@ -85,55 +88,64 @@ fn deed(
 }
 
 // A line: deeds, with a space between two.
-fn answer_line(part: &[u8], cells: &mut [u64], text: &mut [u8], left: &mut [u8], right: &mut [u8]) {
+fn answer_line(
+    rt: &impl Print,
+    part: &[u8],
+    cells: &mut [u64],
+    text: &mut [u8],
+    left: &mut [u8],
+    right: &mut [u8],
+) -> io::Result<()> {
     let mut case = case::fresh();
     let mut from = 0;
     while from < part.len() {
         let end = deed_end(part, from);
-        case = deed(&part[from..end], cells, text, left, right, case);
+        case = deed(rt, &part[from..end], cells, text, left, right, case)?;
         from = end + 1;
     }
+    Ok(())
 }
 
 // Answers every line, and says how many there were.
 fn answer_all(
+    rt: &impl Print,
     list: &[u8],
     cells: &mut [u64],
     text: &mut [u8],
     left: &mut [u8],
     right: &mut [u8],
-) -> usize {
+) -> io::Result<usize> {
     let mut cases = 0;
     let mut from = 0;
     while from < list.len() {
         let end = find(list, from, b'\n');
         cases += 1;
-        say::number(b"", cases);
-        answer_line(&list[from..end], cells, text, left, right);
-        say::words(b"\n");
+        say::number(rt, b"", cases)?;
+        answer_line(rt, &list[from..end], cells, text, left, right)?;
+        say::words(rt, b"\n")?;
         from = end + 1;
     }
-    cases
+    Ok(cases)
 }
 
-fn main() {
+fn main(rt: HostRuntime) -> io::Result<()> {
     let mut input = room();
-    let count = io::read_full(STDIN_FILENO, &mut input);
+    let count = read_full(&mut rt.stdin(), &mut input)?;
     if count == ROOM {
-        say::words(b"The list is longer than 524287 bytes.\n");
-        return;
+        return say::words(&rt, b"The list is longer than 524287 bytes.\n");
     }
     let mut cells = words();
     let mut text = bytes();
     let mut left = spelling();
     let mut right = spelling();
     let cases = answer_all(
+        &rt,
         &input[..count],
         &mut cells,
         &mut text,
         &mut left,
         &mut right,
-    );
-    say::number(b"", cases);
-    say::words(b" cases\n");
+    )?;
+    say::number(&rt, b"", cases)?;
+    say::words(&rt, b" cases\n")
 }

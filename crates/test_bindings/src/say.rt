@@ -2,33 +2,33 @@
 use crate::digest;
 use bindings::admission::Answer;
 use bindings_sound::{Bindings, Soundness};
-use libc::STDOUT_FILENO;
 use rooms::scope::{NAMES, Scope};
 use rooms::value::Value;
 use rooms_cells::write_cell;
+use std::io;
 
-pub fn words(words: &[u8]) {
-    io::write_all(STDOUT_FILENO, words);
+pub fn words(rt: &impl Print, words: &[u8]) -> io::Result<()> {
+    rt.write_all(words)
 }
 
-pub fn number(before: &[u8], number: usize) {
-    io::write_all(STDOUT_FILENO, before);
-    io::print_decimal(STDOUT_FILENO, number as u64);
+pub fn number(rt: &impl Print, before: &[u8], number: usize) -> io::Result<()> {
+    rt.write_all(before)?;
+    print!(rt; "{number}")
 }
 
-pub fn soundness(answer: Soundness) {
+pub fn soundness(rt: &impl Print, answer: Soundness) -> io::Result<()> {
     match answer {
-        Soundness::Sound => words(b" sound"),
-        Soundness::Unsound(place) => number(b" unsound at ", place),
+        Soundness::Sound => words(rt, b" sound"),
+        Soundness::Unsound(place) => number(rt, b" unsound at ", place),
     }
 }
 
-pub fn answer(answer: Answer) {
+pub fn answer(rt: &impl Print, answer: Answer) -> io::Result<()> {
     match answer {
-        Answer::Done => words(b" done"),
+        Answer::Done => words(rt, b" done"),
         Answer::Refused(why, place) => {
-            number(b" refused ", why as usize);
-            number(b" at ", place);
+            number(rt, b" refused ", why as usize)?;
+            number(rt, b" at ", place)
         }
     }
 }
@@ -50,12 +50,12 @@ fn slots_digest(scope: Scope) -> u64 {
     sum
 }
 
-pub fn state(cells: &[u64], text: &[u8], bindings: Bindings) {
-    number(b" cells ", bindings.cells);
-    number(b" bytes ", bindings.bytes);
-    number(b" digests ", digest::of_words(cells) as usize);
-    number(b" ", digest::of_bytes(text) as usize);
+pub fn state(rt: &impl Print, cells: &[u64], text: &[u8], bindings: Bindings) -> io::Result<()> {
+    number(rt, b" cells ", bindings.cells)?;
+    number(rt, b" bytes ", bindings.bytes)?;
+    number(rt, b" digests ", digest::of_words(cells) as usize)?;
+    number(rt, b" ", digest::of_bytes(text) as usize)?;
     let scope = bindings.scope;
-    number(b" ", slots_digest(scope) as usize);
-    words(b";");
+    number(rt, b" ", slots_digest(scope) as usize)?;
+    words(rt, b";")
 }

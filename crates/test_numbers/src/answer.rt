@@ -1,7 +1,7 @@
 // What a case can answer, and how that is written.
-use libc::STDOUT_FILENO;
 use numbers::error::ArithmeticError;
 use numbers::order::Order;
+use std::io;
 
 #[derive(Clone, Copy)]
 pub enum Answer {
@@ -13,49 +13,45 @@ pub enum Answer {
     Unreadable,
 }
 
-fn say(words: &[u8]) {
-    io::write_all(STDOUT_FILENO, words);
+fn say(rt: &impl Print, words: &[u8]) -> io::Result<()> {
+    rt.write_all(words)
 }
 
 // The error's name and number.
-fn write_error(error: ArithmeticError) {
+fn write_error(rt: &impl Print, error: ArithmeticError) -> io::Result<()> {
     match error {
-        ArithmeticError::Overflow => say(b"Overflow "),
-        ArithmeticError::DivisionByZero => say(b"DivisionByZero "),
-        ArithmeticError::RemainderByZero => say(b"RemainderByZero "),
+        ArithmeticError::Overflow => say(rt, b"Overflow ")?,
+        ArithmeticError::DivisionByZero => say(rt, b"DivisionByZero ")?,
+        ArithmeticError::RemainderByZero => say(rt, b"RemainderByZero ")?,
     }
     let number = numbers::error::number(error);
-    io::print_decimal(STDOUT_FILENO, number as u64);
+    print!(rt; "{number}")
 }
 
-fn write_order(order: Order) {
+fn write_order(rt: &impl Print, order: Order) -> io::Result<()> {
     match order {
-        Order::Less => say(b"Less"),
-        Order::Equal => say(b"Equal"),
-        Order::Greater => say(b"Greater"),
-        Order::Unordered => say(b"Unordered"),
+        Order::Less => say(rt, b"Less"),
+        Order::Equal => say(rt, b"Equal"),
+        Order::Greater => say(rt, b"Greater"),
+        Order::Unordered => say(rt, b"Unordered"),
     }
 }
 
-fn write_truth(truth: bool) {
+fn write_truth(rt: &impl Print, truth: bool) -> io::Result<()> {
     if truth {
-        say(b"true");
+        say(rt, b"true")
     } else {
-        say(b"false");
+        say(rt, b"false")
     }
 }
 
-pub fn write(answer: Answer) {
+pub fn write(rt: &impl Print, answer: Answer) -> io::Result<()> {
     match answer {
-        Answer::Bits(bits) => {
-            io::print_hex(STDOUT_FILENO, bits, 16);
-        }
-        Answer::Error(error) => write_error(error),
-        Answer::Order(order) => write_order(order),
-        Answer::Truth(truth) => write_truth(truth),
-        Answer::Count(count) => {
-            io::print_decimal(STDOUT_FILENO, count as u64);
-        }
-        Answer::Unreadable => say(b"unreadable"),
+        Answer::Bits(bits) => print!(rt; "{bits:016x}"),
+        Answer::Error(error) => write_error(rt, error),
+        Answer::Order(order) => write_order(rt, order),
+        Answer::Truth(truth) => write_truth(rt, truth),
+        Answer::Count(count) => print!(rt; "{count}"),
+        Answer::Unreadable => say(rt, b"unreadable"),
     }
 }

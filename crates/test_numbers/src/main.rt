@@ -4,8 +4,9 @@ ghost use Rattle.std.specs.Prelude.{◌≡◌, length};
 
 use crate::answer::Answer;
 use check::same;
-use libc::{STDIN_FILENO, STDOUT_FILENO};
+use program_input::read_full;
 use program_words::find;
+use std::io;
 
 mod answer;
 mod arithmetic;
@@ -38,34 +39,32 @@ fn answer_to(line: &[u8]) -> Answer {
     }
 }
 
-fn answer_line(line: &[u8]) {
-    io::write_all(STDOUT_FILENO, line);
-    io::write_all(STDOUT_FILENO, b" = ");
-    answer::write(answer_to(line));
-    io::write_all(STDOUT_FILENO, b"\n");
+fn answer_line(rt: &impl Print, line: &[u8]) -> io::Result<()> {
+    rt.write_all(line)?;
+    rt.write_all(b" = ")?;
+    answer::write(rt, answer_to(line))?;
+    rt.write_all(b"\n")
 }
 
 // Answers every line, and says how many there were.
-fn answer_all(list: &[u8]) -> u64 {
+fn answer_all(rt: &impl Print, list: &[u8]) -> io::Result<u64> {
     let mut cases = 0;
     let mut from = 0;
     while from < list.len() {
         let end = find(list, from, b'\n');
-        answer_line(&list[from..end]);
+        answer_line(rt, &list[from..end])?;
         from = end + 1;
         cases += 1;
     }
-    cases
+    Ok(cases)
 }
 
-fn main() {
+fn main(rt: HostRuntime) -> io::Result<()> {
     let mut input = room();
-    let count = io::read_full(STDIN_FILENO, &mut input);
+    let count = read_full(&mut rt.stdin(), &mut input)?;
     if count == ROOM {
-        io::write_all(STDOUT_FILENO, b"The list is longer than 524287 bytes.\n");
-        return;
+        return rt.write_all(b"The list is longer than 524287 bytes.\n");
     }
-    let cases = answer_all(&input[..count]);
-    io::print_decimal(STDOUT_FILENO, cases);
-    io::write_all(STDOUT_FILENO, b" cases\n");
+    let cases = answer_all(&rt, &input[..count])?;
+    print!(rt; "{cases} cases\n")
 }
