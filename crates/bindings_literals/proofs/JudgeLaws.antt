@@ -18,7 +18,6 @@ use Rattle.table_layout.specs.Layout.{word_at}
 use Rattle.table_check.specs.Records.{expr_of, part_of, SoundPart, elements_of, pairs_of}
 use Rattle.table_check.proofs.Parts.{part-marked, part-bare}
 use Rattle.rooms.specs.declared.value.Value.{Value}
-use Rattle.rooms.specs.declared.value.Value.TheVariants as Value
 use Rattle.bindings_literals.specs.declared.judgement.Fault.{Fault}
 use Rattle.bindings_literals.specs.declared.judgement.Fault.TheVariants.{At, Nowhere}
 use Rattle.bindings_literals.specs.declared.judgement.Judged.{Judged}

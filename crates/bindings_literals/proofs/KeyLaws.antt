@@ -11,7 +11,6 @@ use Rattle.table_check.specs.Fits.{is_some}
 use Rattle.table_layout.specs.Layout.{after}
 use Rattle.table_check.specs.Records.{expr_of, Sound}
 use Rattle.rooms.specs.declared.value.Value.{Value}
-use Rattle.rooms.specs.declared.value.Value.TheVariants as Value
 use Rattle.rooms.specs.Value.{plain_of, is_key}
 use Rattle.rooms_comparison.specs.Seen.{seen_of, seen_scalar, same_seen}
 use Rattle.bindings_literals.specs.declared.judgement.Fault.{Fault}

@@ -12,7 +12,6 @@ use borrow.Author.Tests.{ne_eqb}
 use mir.Syntax.{w64}
 use mir.Val.{to_z}
 use Rattle.numbers.specs.declared.double.Double.{Double}
-use Rattle.numbers.specs.declared.double.Double.TheVariants as Double
 use Rattle.numbers.specs.Double.{bits_of, double_of}
 use Rattle.numbers.proofs.DoubleLaws.{bits_back}
 use Rattle.meaning.specs.Errors.{NotALiteral}
@@ -33,7 +32,6 @@ use Rattle.table_check.proofs.FieldLaws.{span-inside}
 use Rattle.table_check.proofs.Opened.{opened}
 use Rattle.table_check.proofs.Parts.{sound-kind}
 use Rattle.rooms.specs.declared.value.Value.{Value}
-use Rattle.rooms.specs.declared.value.Value.TheVariants as Value
 use Rattle.rooms.specs.declared.value.TextSpace.TheVariants as Text
 use Rattle.rooms.specs.Value.{plain_of, double_value, is_key}
 use Rattle.rooms_comparison.specs.Seen.{seen_of, seen_scalar}

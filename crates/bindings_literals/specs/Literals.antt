@@ -10,7 +10,6 @@ use Rattle.meaning.specs.Spelling.{Literal, scalar_at, list_at, map_at, Literals
 use Rattle.table_layout.specs.Layout.{fields_at, word_at, long_at, after}
 use Rattle.table_check.specs.Records.{expr_of, part_of, Sound, SoundPart}
 use Rattle.rooms.specs.declared.value.Value.{Value}
-use Rattle.rooms.specs.declared.value.Value.TheVariants as Value
 use Rattle.rooms.specs.declared.value.TextSpace.TheVariants as Text
 use Rattle.rooms.specs.Value.{double_value}
 

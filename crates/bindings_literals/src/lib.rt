@@ -2,6 +2,8 @@
 // unlike each other, and how many cells and bytes it takes.
 // Here: the walk over the table, record by record. `judgement` joins what the parts come to, `keys` tests the keys of a Map, and `literals` reads
 // literals.
+#![tactic(auto)]
+
 pub mod judgement;
 pub mod keys;
 pub mod literals;

@@ -8,7 +8,6 @@ use lib.Dec.{leb, eqb, ltb}
 use borrow.Author.Tests.{le-leb, leb-true, le-ltb, eqb-true, eqb-false, ltb-false}
 use Rattle.text.specs.Utf8.{well_formed}
 use Rattle.rooms.specs.declared.value.Value.{Value}
-use Rattle.rooms.specs.declared.value.Value.TheVariants as Value
 use Rattle.rooms.specs.declared.value.TextSpace.{TextSpace}
 use Rattle.rooms.specs.declared.value.TextSpace.TheVariants as Text
 use Rattle.rooms.specs.declared.value.CellSpace.{CellSpace}

@@ -11,7 +11,6 @@ use Rattle.numbers.specs.Double.{bits_of}
 use Rattle.meaning.specs.Value as Meaning
 use Rattle.meaning.specs.Value.{null, bool, int, uint, double, string, bytes, scalar, list, map, nil, cons, empty, entry, Key, int_key, uint_key, bool_key, string_key, key_scalar, nesting_in, nesting_over, count, count_entries}
 use Rattle.rooms.specs.declared.value.Value.{Value}
-use Rattle.rooms.specs.declared.value.Value.TheVariants as Value
 use Rattle.rooms.specs.declared.value.TextSpace.{TextSpace}
 use Rattle.rooms.specs.declared.value.TextSpace.TheVariants as Text
 use Rattle.rooms.specs.declared.value.CellSpace.{CellSpace}

@@ -14,7 +14,6 @@ use Rattle.meaning.specs.Comprehension as Loops
 use Rattle.meaning.specs.Comprehension.{empty_scope, store}
 use Rattle.meaning.specs.Bindings.{bound_in, scope_of}
 use Rattle.rooms.specs.declared.value.Value.{Value}
-use Rattle.rooms.specs.declared.value.Value.TheVariants as Value
 use Rattle.rooms.specs.Cells.{Fits}
 use Rattle.rooms.specs.Rooms.{rooms}
 use Rattle.rooms.specs.Reading.{read_to, reading}

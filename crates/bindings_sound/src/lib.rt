@@ -1,6 +1,8 @@
 // A binding room as a caller lends it, with any contents: whether it is one that bindings make, and if not, the first bad cell.
 // Here: the verdict on the whole room. `values` judges what a cell or a slot holds, `references` what that refers to, and `map_keys` the keys of a
 // Map.
+#![tactic(auto)]
+
 pub mod map_keys;
 pub mod references;
 pub mod values;

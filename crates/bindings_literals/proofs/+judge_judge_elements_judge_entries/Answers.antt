@@ -4,7 +4,6 @@ use Rattle.bindings_literals.proofs.Rows.{part-place, sound-place}
 use Rattle.bindings_literals.proofs.JudgeSteps.{list-row, list-less, list-whole, map_row, map-less, map_whole, list-body, map-body, leaf-whole}
 use Rattle.bindings_literals.proofs.JudgingSteps.{elements-start, elements-here, elements-less, elements-fit, elements-again, elements-done, entries-start, entries-key, entries-value, entries-before, entries-less, entries_fit, entries-fit-value, entries-again, entries-done}
 use Rattle.bindings_literals.proofs.PartLaws.{bare-part}
-use borrow.Fn.PlainCycle.{is, and}
 use Rattle.bindings_literals.proofs.+judge_judge_elements_judge_entries.Goals as goal
 
 pub judge-kind_at-kind-requires : goal.judge-kind_at-kind-requires
@@ -17,7 +16,7 @@ pub judge-count_at-requires : goal.judge-count_at-requires
 judge-count_at-requires t c = list-body c.args.table.now c.args.literal.now c.args.at c.requires.0 c.kind_at-kind.result c.kind_at-kind.ensures c.if-kind-eq-LIST.true
 
 pub judge-judge_elements-requires : goal.judge-judge_elements-requires
-judge-judge_elements-requires t c = (omega (arith, list-less c.args.table.now c.args.literal.now c.args.at c.requires.0 c.requires.1 c.kind_at-kind.result c.kind_at-kind.ensures c.first_operand-first.result c.count_at.result c.first_operand-first.ensures c.count_at.ensures.0 c.if-kind-eq-LIST.true, c.requires.0), list-row c.args.table.now c.args.literal.now c.args.at c.requires.0 c.requires.1 c.kind_at-kind.result c.kind_at-kind.ensures c.first_operand-first.result c.count_at.result c.first_operand-first.ensures c.count_at.ensures.0 c.if-kind-eq-LIST.true)
+judge-judge_elements-requires t c = (omega (arith, list-less c.args.table.now c.args.literal.now c.args.at c.requires.0 c.requires.1 c.kind_at-kind.result c.kind_at-kind.ensures c.first_operand-first.result c.count_at.result c.first_operand-first.ensures c.count_at.ensures.0 c.if-kind-eq-LIST.true), list-row c.args.table.now c.args.literal.now c.args.at c.requires.0 c.requires.1 c.kind_at-kind.result c.kind_at-kind.ensures c.first_operand-first.result c.count_at.result c.first_operand-first.ensures c.count_at.ensures.0 c.if-kind-eq-LIST.true)
 
 pub judge-deepened-requires : goal.judge-deepened-requires
 judge-deepened-requires t c = let r = list-row c.args.table.now c.args.literal.now c.args.at c.requires.0 c.requires.1 c.kind_at-kind.result c.kind_at-kind.ensures c.first_operand-first.result c.count_at.result c.first_operand-first.ensures c.count_at.ensures.0 c.if-kind-eq-LIST.true in omega (arith, c.judge_elements.ensures.1.nesting, r.1, r.2)
@@ -32,7 +31,7 @@ pub judge-count_at-requires-then-kind-eq-MAP : goal.judge-count_at-requires-then
 judge-count_at-requires-then-kind-eq-MAP t c = map-body c.args.table.now c.args.literal.now c.args.at c.requires.0 c.kind_at-kind.result c.kind_at-kind.ensures c.if-kind-eq-MAP.true
 
 pub judge-judge_entries-requires : goal.judge-judge_entries-requires
-judge-judge_entries-requires t c = (omega (arith, map-less c.args.table.now c.args.literal.now c.args.at c.requires.0 c.requires.1 c.kind_at-kind.result c.kind_at-kind.ensures c.first_operand-first-then-kind-eq-MAP.result c.count_at-then-kind-eq-MAP.result c.first_operand-first-then-kind-eq-MAP.ensures c.count_at-then-kind-eq-MAP.ensures.0 c.if-kind-eq-MAP.true, c.requires.0), map_row c.args.table.now c.args.literal.now c.args.at c.requires.0 c.requires.1 c.kind_at-kind.result c.kind_at-kind.ensures c.first_operand-first-then-kind-eq-MAP.result c.count_at-then-kind-eq-MAP.result c.first_operand-first-then-kind-eq-MAP.ensures c.count_at-then-kind-eq-MAP.ensures.0 c.if-kind-eq-MAP.true)
+judge-judge_entries-requires t c = (omega (arith, map-less c.args.table.now c.args.literal.now c.args.at c.requires.0 c.requires.1 c.kind_at-kind.result c.kind_at-kind.ensures c.first_operand-first-then-kind-eq-MAP.result c.count_at-then-kind-eq-MAP.result c.first_operand-first-then-kind-eq-MAP.ensures c.count_at-then-kind-eq-MAP.ensures.0 c.if-kind-eq-MAP.true), map_row c.args.table.now c.args.literal.now c.args.at c.requires.0 c.requires.1 c.kind_at-kind.result c.kind_at-kind.ensures c.first_operand-first-then-kind-eq-MAP.result c.count_at-then-kind-eq-MAP.result c.first_operand-first-then-kind-eq-MAP.ensures c.count_at-then-kind-eq-MAP.ensures.0 c.if-kind-eq-MAP.true)
 
 pub judge-deepened-requires-then-kind-eq-MAP : goal.judge-deepened-requires-then-kind-eq-MAP
 judge-deepened-requires-then-kind-eq-MAP t c = let r = map_row c.args.table.now c.args.literal.now c.args.at c.requires.0 c.requires.1 c.kind_at-kind.result c.kind_at-kind.ensures c.first_operand-first-then-kind-eq-MAP.result c.count_at-then-kind-eq-MAP.result c.first_operand-first-then-kind-eq-MAP.ensures c.count_at-then-kind-eq-MAP.ensures.0 c.if-kind-eq-MAP.true in omega (arith, c.judge_entries.ensures.1.nesting, r.1, r.2)
@@ -50,7 +49,7 @@ pub judge_elements-loop-left-init : goal.judge_elements-loop-left-init
 judge_elements-loop-left-init t c = elements-start c.args.table.now c.args.literal.now c.args.first c.args.count c.nothing_judged-sum.result c.nothing_judged-sum.ensures c.requires.0
 
 pub judge_elements-judge-requires : goal.judge_elements-judge-requires
-judge_elements-judge-requires t c = (omega (arith, elements-less c.args.table.now c.args.literal.now c.args.first c.args.count c.loop-left.sum c.loop-left.at c.loop-left.left c.loop-left.invariant c.loop-left-test.true, c.requires.0), (elements-here c.args.table.now c.args.literal.now c.args.first c.args.count c.loop-left.sum c.loop-left.at c.loop-left.left c.loop-left.invariant c.loop-left-test.true, c.requires.2))
+judge_elements-judge-requires t c = (omega (arith, elements-less c.args.table.now c.args.literal.now c.args.first c.args.count c.loop-left.sum c.loop-left.at c.loop-left.left c.loop-left.invariant c.loop-left-test.true), (elements-here c.args.table.now c.args.literal.now c.args.first c.args.count c.loop-left.sum c.loop-left.at c.loop-left.left c.loop-left.invariant c.loop-left-test.true, c.requires.2))
 
 pub judge_elements-joined-sum-requires : goal.judge_elements-joined-sum-requires
 judge_elements-joined-sum-requires t c = elements-fit c.args.table.now c.args.literal.now c.args.first c.args.count c.loop-left.sum c.loop-left.at c.loop-left.left c.loop-left.invariant c.loop-left-test.true c.requires.1 c.requires.2 c.judge.result c.judge.ensures.1
@@ -80,13 +79,13 @@ pub judge_entries-key_fault-fault-requires : goal.judge_entries-key_fault-fault-
 judge_entries-key_fault-fault-requires t c = (entries-before c.args.table.now c.args.literal.now c.args.first c.args.count c.loop-left.sum c.loop-left.at c.loop-left.left c.loop-left.invariant c.loop-left-test.true, entries-key c.args.table.now c.args.literal.now c.args.first c.args.count c.loop-left.sum c.loop-left.at c.loop-left.left c.loop-left.invariant c.loop-left-test.true)
 
 pub judge_entries-judge-requires : goal.judge_entries-judge-requires
-judge_entries-judge-requires t c = (omega (arith, (entries-less c.args.table.now c.args.literal.now c.args.first c.args.count c.loop-left.sum c.loop-left.at c.loop-left.left c.loop-left.invariant c.loop-left-test.true).0, c.requires.0), ((bare-part c.args.table.now c.args.literal.now c.loop-left.at (entries-key c.args.table.now c.args.literal.now c.args.first c.args.count c.loop-left.sum c.loop-left.at c.loop-left.left c.loop-left.invariant c.loop-left-test.true)).0, c.requires.2))
+judge_entries-judge-requires t c = (omega (arith, (entries-less c.args.table.now c.args.literal.now c.args.first c.args.count c.loop-left.sum c.loop-left.at c.loop-left.left c.loop-left.invariant c.loop-left-test.true).0), ((bare-part c.args.table.now c.args.literal.now c.loop-left.at (entries-key c.args.table.now c.args.literal.now c.args.first c.args.count c.loop-left.sum c.loop-left.at c.loop-left.left c.loop-left.invariant c.loop-left-test.true)).0, c.requires.2))
 
 pub judge_entries-joined-sum-requires : goal.judge_entries-joined-sum-requires
 judge_entries-joined-sum-requires t c = entries_fit c.args.table.now c.args.literal.now c.args.first c.args.count c.loop-left.sum c.loop-left.at c.loop-left.left c.loop-left.invariant c.loop-left-test.true c.requires.1 c.requires.2 c.key_fault-fault.result c.with_key.result c.with_key.ensures c.judge.result c.judge.ensures.1
 
 pub judge_entries-judge-requires-in-loop-left : goal.judge_entries-judge-requires-in-loop-left
-judge_entries-judge-requires-in-loop-left t c = rw c.end_at-value.ensures (omega (arith, (entries-less c.args.table.now c.args.literal.now c.args.first c.args.count c.loop-left.sum c.loop-left.at c.loop-left.left c.loop-left.invariant c.loop-left-test.true).1, c.requires.0), (entries-value c.args.table.now c.args.literal.now c.args.first c.args.count c.loop-left.sum c.loop-left.at c.loop-left.left c.loop-left.invariant c.loop-left-test.true, c.requires.2))
+judge_entries-judge-requires-in-loop-left t c = rw c.end_at-value.ensures (omega (arith, (entries-less c.args.table.now c.args.literal.now c.args.first c.args.count c.loop-left.sum c.loop-left.at c.loop-left.left c.loop-left.invariant c.loop-left-test.true).1), (entries-value c.args.table.now c.args.literal.now c.args.first c.args.count c.loop-left.sum c.loop-left.at c.loop-left.left c.loop-left.invariant c.loop-left-test.true, c.requires.2))
 
 pub judge_entries-joined-sum-requires-in-loop-left : goal.judge_entries-joined-sum-requires-in-loop-left
 judge_entries-joined-sum-requires-in-loop-left t c = entries-fit-value c.args.table.now c.args.literal.now c.args.first c.args.count c.loop-left.sum c.loop-left.at c.loop-left.left c.loop-left.invariant c.loop-left-test.true c.requires.1 c.requires.2 c.key_fault-fault.result c.with_key.result c.with_key.ensures c.judge.result c.judge.ensures.1 c.joined-sum.result c.joined-sum.ensures c.judge-in-loop-left.result (rw c.end_at-value.ensures at c.judge-in-loop-left.ensures.1)

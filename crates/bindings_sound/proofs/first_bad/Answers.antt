@@ -1,9 +1,6 @@
 -- `first_bad` meets its contract. Assumes nothing.
-use mathlib.Core.Path.{ap}
-use mathlib.Core.Bool.{not}
 use mathlib.Core.Path.{refl, sym, ◌∙◌}
 use native.Mathlib.Omega.{arith}
-use borrow.Author.Tests.{not-true, not-false}
 use Rattle.bindings_sound.proofs.SoundSteps.{bad-none, bad-here, bad-on}
 use Rattle.bindings_sound.proofs.first_bad.Goals as goal
 

@@ -1,7 +1,6 @@
 -- `keys::key_fault` meets its contract. Assumes nothing.
 use mathlib.Core.Path.{sym, ◌∙◌}
 use native.Mathlib.Omega.{arith}
-use borrow.Author.Tests.{not-true, not-false}
 use Rattle.bindings_literals.proofs.Rows.{sound-place}
 use Rattle.bindings_literals.proofs.KeyLaws.{no_key, key-again, key-new}
 use Rattle.bindings_literals.proofs.keys.key_fault.Goals as goal

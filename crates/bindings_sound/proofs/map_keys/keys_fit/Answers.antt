@@ -1,9 +1,6 @@
 -- `map_keys::keys_fit` meets its contract. Assumes nothing.
-use mathlib.Core.Path.{ap}
-use mathlib.Core.Bool.{not}
 use mathlib.Core.Path.{refl, sym, ◌∙◌}
 use native.Mathlib.Omega.{arith}
-use borrow.Author.Tests.{not-true, not-false}
 use Rattle.bindings_sound.proofs.KeySteps.{keys_none, keys-wrong, keys-repeated, keys_on}
 use Rattle.bindings_sound.proofs.map_keys.keys_fit.Goals as goal
 

@@ -1,7 +1,4 @@
 -- `references::string_fits` meets its contract. Assumes nothing.
-use mathlib.Core.Path.{ap}
-use mathlib.Core.Bool.{not}
-use borrow.Author.Tests.{not-true, not-false}
 use Rattle.bindings_sound.specs.Fits.{string_fits}
 use Rattle.bindings_sound.proofs.references.string_fits.Goals as goal
 

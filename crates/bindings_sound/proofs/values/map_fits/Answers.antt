@@ -1,7 +1,4 @@
 -- `values::map_fits` meets its contract. Assumes nothing.
-use mathlib.Core.Path.{ap}
-use mathlib.Core.Bool.{not}
-use borrow.Author.Tests.{not-true, not-false}
 use native.Mathlib.Omega.{arith}
 use Rattle.bindings_sound.specs.Fits.{map_fits}
 use Rattle.bindings_sound.proofs.values.map_fits.Goals as goal
