@@ -16,4 +16,4 @@ pub shape_of-text : goal.shape_of-text
 shape_of-text c = c.lay-laid.auto.1.1.1.0
 
 pub returns : goal.returns
-returns c = rw c.with-scope.ensures (brought-done c.args.cells.now c.args.text.now c.args.bindings c.args.name c.args.table.now c.args.literal.now (sym c.in_default.is ∙ c.judge_all-answer.ensures) c.lay-laid.result.value c.lay-laid.new.1.1.0 c.lay-laid.new.1.1.1.0 c.lay-laid.result.cells c.lay-laid.result.bytes c.lay-laid.ensures)
+returns c = rw c.with-scope.ensures (brought-done c.args.cells.now c.args.text.now c.args.bindings c.args.name c.args.table.now c.args.literal.now (sym c.in_default.is ∙ c.judge_all-answer.ensures) c.lay-laid.result.value c.lay-laid.new.cells c.lay-laid.new.text c.lay-laid.result.cells c.lay-laid.result.bytes c.lay-laid.ensures)

@@ -8,6 +8,6 @@ use Rattle.board.proofs.evaluate_over.Goals as goal
 pub returns : goal.returns
 returns c =
     subst
-    (λ (b : Bindings). Evaluates c.args.table.now b c.args.steps (rooms c.args.literal.now c.args.binding_cells.now c.args.binding_text.now c.args.cells.now c.args.text.now) c.evaluate.result (rooms c.args.literal.now c.args.binding_cells.now c.args.binding_text.now c.evaluate.new.1.1.1.1.1.0 c.evaluate.new.1.1.1.1.1.1.0))
+    (λ (b : Bindings). Evaluates c.args.table.now b c.args.steps (rooms c.args.literal.now c.args.binding_cells.now c.args.binding_text.now c.args.cells.now c.args.text.now) c.evaluate.result (rooms c.args.literal.now c.args.binding_cells.now c.args.binding_text.now c.evaluate.new.cells c.evaluate.new.text))
     c.bindings_in-bindings.ensures
     c.evaluate.ensures

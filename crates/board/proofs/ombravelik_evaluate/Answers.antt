@@ -9,5 +9,5 @@ returns-then-answer-lt-ANSWER_WORDS c = evaluates-none c.args.table.now c.args.s
 pub returns : goal.returns
 returns c =
     evaluates-so c.args.table.now c.args.state.now c.args.steps (rooms c.args.literal.now c.args.binding_cells.now c.args.binding_text.now c.args.cells.now c.args.text.now) c.args.answer.now c.evaluate_over-said.result
-    (rooms c.args.literal.now c.args.binding_cells.now c.args.binding_text.now c.evaluate_over-said.new.1.1.1.1.1.0 c.evaluate_over-said.new.1.1.1.1.1.1.0)
-    c.put_answer.result c.put_answer.new.0 c.if-answer-lt-ANSWER_WORDS.false c.evaluate_over-said.ensures c.put_answer.ensures
+    (rooms c.args.literal.now c.args.binding_cells.now c.args.binding_text.now c.evaluate_over-said.new.cells c.evaluate_over-said.new.text)
+    c.put_answer.result c.put_answer.new.lent c.if-answer-lt-ANSWER_WORDS.false c.evaluate_over-said.ensures c.put_answer.ensures

@@ -18,8 +18,8 @@ whole c = mapped-length c.before.before.before.before.before.before.before.args.
 lent : (c : lts.After-slice_known2 (put-scope-reads.Asked, put-scope-reads.Learnt) reads.Pre reads.Post) → length c.before.before.before.before.before.before.before.args.words.now ≡ 259
 lent c = c.before.before.before.before.before.if1.false
 
-long : (c : lts.After-slice_known2 (put-scope-reads.Asked, put-scope-reads.Learnt) reads.Pre reads.Post) → length c.before.before.put_scope.new.0 ≡ 259
-long c = slots-long c.before.before.before.before.before.before.before.args.bindings.scope.slots c.before.before.before.before.before.before.before.args.words.now c.before.before.put_scope.new.0 (whole c) (lent c) c.before.before.put_scope.ensures
+long : (c : lts.After-slice_known2 (put-scope-reads.Asked, put-scope-reads.Learnt) reads.Pre reads.Post) → length c.before.before.put_scope.new.words ≡ 259
+long c = slots-long c.before.before.before.before.before.before.before.args.bindings.scope.slots c.before.before.before.before.before.before.before.args.words.now c.before.before.put_scope.new.words (whole c) (lent c) c.before.before.put_scope.ensures
 
 pub bounds-words-257 : goal.bounds-words-257
 bounds-words-257 c = simp length-set (omega (arith, long c))
@@ -28,4 +28,4 @@ pub bounds-words-258 : goal.bounds-words-258
 bounds-words-258 c = simp length-set (omega (arith, long c))
 
 pub returns : goal.returns
-returns c = state-written c.args.words.now c.put_scope.new.0 c.args.bindings (whole c) (lent c) c.put_scope.ensures
+returns c = state-written c.args.words.now c.put_scope.new.words c.args.bindings (whole c) (lent c) c.put_scope.ensures

@@ -13,8 +13,8 @@ loop-at-init c = (refl, over_none c.args.scope.slots c.args.words.now, omega ari
 pub loop-at-preserved : goal.loop-at-preserved
 loop-at-preserved c = (again.0, again.1, omega arith)
   where
-    again : (length c.write_cell.new.0 ≡ length c.args.words.now) × (c.write_cell.new.0 ≡ slots_over c.args.scope.slots c.args.words.now (c.loop-at.at + 1))
-    again = over-on c.args.scope.slots c.args.words.now c.loop-at.words c.write_cell.new.0 c.loop-at.at _ (mapped-length c.args.scope.slots _ 128 c.well_formed.1.0.1.1.0.1.0.1) c.requires c.loop-at-test.true c.loop-at.invariant.0 c.loop-at.invariant.1 c.write_cell.ensures
+    again : (length c.write_cell.new.words ≡ length c.args.words.now) × (c.write_cell.new.words ≡ slots_over c.args.scope.slots c.args.words.now (c.loop-at.at + 1))
+    again = over-on c.args.scope.slots c.args.words.now c.loop-at.words c.write_cell.new.words c.loop-at.at _ (mapped-length c.args.scope.slots _ 128 c.well_formed.1.0.1.1.0.1.0.1) c.requires c.loop-at-test.true c.loop-at.invariant.0 c.loop-at.invariant.1 c.write_cell.ensures
 
 pub shape_of-words : goal.shape_of-words
 shape_of-words c = c.loop-at.invariant.0

@@ -48,6 +48,6 @@ run-requires c =
 pub returns : goal.returns
 returns c =
     let lent = rooms c.args.literal.now c.args.binding_cells.now c.args.binding_text.now c.args.cells.now c.args.text.now in
-    let left = rooms c.args.literal.now c.args.binding_cells.now c.args.binding_text.now c.run.new.1.1.1.1.0 c.run.new.1.1.1.1.1.0 in
+    let left = rooms c.args.literal.now c.args.binding_cells.now c.args.binding_text.now c.run.new.cells c.run.new.text in
     evaluates c.args.table.now c.args.bindings c.args.steps lent (all-lent c.before.before.before.before.before.before.before.before.before.before.before.before) c.run.result left
     (runs c.args.table.now c.args.bindings c.args.steps lent (sym c.check-checked.ensures ∙ c.in_default.is) (sym c.sound-soundness.ensures ∙ c.in_default-soundness.is) c.run.result left c.run.ensures)

@@ -41,7 +41,7 @@ pub lay-shape_of-text-then-kind-eq-LIST : goal.lay-shape_of-text-then-kind-eq-LI
 lay-shape_of-text-then-kind-eq-LIST t c = c.lay_row-row.auto.1.1.1.0
 
 pub lay-returns-then-kind-eq-LIST : goal.lay-returns-then-kind-eq-LIST
-lay-returns-then-kind-eq-LIST t c = list-laid c.args.table.now c.args.literal.now c.args.at c.requires.0 c.requires.1 c.args.used c.args.bytes c.requires.2 c.requires.3 c.requires.4 c.kind_at-kind.result c.kind_at-kind.ensures c.first_operand-first.result c.count_at-count.result c.first_operand-first.ensures c.count_at-count.ensures.0 c.if-kind-eq-LIST.true c.args.cells.now c.args.text.now c.lay_row-row.new.1.1.0 c.lay_row-row.new.1.1.1.0 c.lay_row-row.result.nesting c.lay_row-row.result.cells c.lay_row-row.result.bytes c.lay_row-row.ensures.0 c.lay_row-row.ensures.1
+lay-returns-then-kind-eq-LIST t c = list-laid c.args.table.now c.args.literal.now c.args.at c.requires.0 c.requires.1 c.args.used c.args.bytes c.requires.2 c.requires.3 c.requires.4 c.kind_at-kind.result c.kind_at-kind.ensures c.first_operand-first.result c.count_at-count.result c.first_operand-first.ensures c.count_at-count.ensures.0 c.if-kind-eq-LIST.true c.args.cells.now c.args.text.now c.lay_row-row.new.cells c.lay_row-row.new.text c.lay_row-row.result.nesting c.lay_row-row.result.cells c.lay_row-row.result.bytes c.lay_row-row.ensures.0 c.lay_row-row.ensures.1
 
 pub lay-first_operand-first-requires-then-kind-eq-MAP : goal.lay-first_operand-first-requires-then-kind-eq-MAP
 lay-first_operand-first-requires-then-kind-eq-MAP t c = let p = part-place c.args.table.now c.args.literal.now c.args.at c.requires.0 in (omega (arith, p.three), p.known)
@@ -71,7 +71,7 @@ pub lay-shape_of-text-then-kind-eq-MAP : goal.lay-shape_of-text-then-kind-eq-MAP
 lay-shape_of-text-then-kind-eq-MAP t c = c.lay_row-row-then-kind-eq-MAP.auto.1.1.1.0
 
 pub lay-returns-then-kind-eq-MAP : goal.lay-returns-then-kind-eq-MAP
-lay-returns-then-kind-eq-MAP t c = map-laid c.args.table.now c.args.literal.now c.args.at c.requires.0 c.requires.1 c.args.used c.args.bytes c.requires.2 c.requires.3 c.requires.4 c.kind_at-kind.result c.kind_at-kind.ensures c.first_operand-first-then-kind-eq-MAP.result c.count_at-count-then-kind-eq-MAP.result c.first_operand-first-then-kind-eq-MAP.ensures c.count_at-count-then-kind-eq-MAP.ensures.0 c.if-kind-eq-MAP.true c.args.cells.now c.args.text.now c.lay_row-row-then-kind-eq-MAP.new.1.1.0 c.lay_row-row-then-kind-eq-MAP.new.1.1.1.0 c.lay_row-row-then-kind-eq-MAP.result.nesting c.lay_row-row-then-kind-eq-MAP.result.cells c.lay_row-row-then-kind-eq-MAP.result.bytes c.lay_row-row-then-kind-eq-MAP.ensures.0 c.lay_row-row-then-kind-eq-MAP.ensures.1
+lay-returns-then-kind-eq-MAP t c = map-laid c.args.table.now c.args.literal.now c.args.at c.requires.0 c.requires.1 c.args.used c.args.bytes c.requires.2 c.requires.3 c.requires.4 c.kind_at-kind.result c.kind_at-kind.ensures c.first_operand-first-then-kind-eq-MAP.result c.count_at-count-then-kind-eq-MAP.result c.first_operand-first-then-kind-eq-MAP.ensures c.count_at-count-then-kind-eq-MAP.ensures.0 c.if-kind-eq-MAP.true c.args.cells.now c.args.text.now c.lay_row-row-then-kind-eq-MAP.new.cells c.lay_row-row-then-kind-eq-MAP.new.text c.lay_row-row-then-kind-eq-MAP.result.nesting c.lay_row-row-then-kind-eq-MAP.result.cells c.lay_row-row-then-kind-eq-MAP.result.bytes c.lay_row-row-then-kind-eq-MAP.ensures.0 c.lay_row-row-then-kind-eq-MAP.ensures.1
 
 pub lay-literal_at-requires : goal.lay-literal_at-requires
 lay-literal_at-requires t c = let p = part-place c.args.table.now c.args.literal.now c.args.at c.requires.0 in (p.known, p.head)
@@ -104,7 +104,7 @@ pub lay_row-loop-left-smaller : goal.lay_row-loop-left-smaller
 lay_row-loop-left-smaller t c = omega arith
 
 pub lay_row-loop-left-preserved : goal.lay_row-loop-left-preserved
-lay_row-loop-left-preserved t c = row-again c.args.table.now c.args.literal.now c.args.first c.args.count c.args.used c.args.bytes c.args.cells.now c.args.text.now c.loop-left.cells c.loop-left.text c.loop-left.row.nesting c.loop-left.row.cells c.loop-left.row.bytes c.loop-left.at c.loop-left.left c.loop-left.to c.loop-left.invariant c.loop-left-test.true c.lay-part.new.1.1.0 c.lay-part.new.1.1.1.0 c.lay-part.result.value c.lay-part.result.cells c.lay-part.result.bytes c.lay-part.ensures c.lay-part.auto.1.1.0 c.lay-part.auto.1.1.1.0 c.write_cell.new.0 c.deeper.result c.nesting_of.result c.end_at-at.result c.write_cell.ensures c.nesting_of.ensures c.deeper.ensures c.end_at-at.ensures
+lay_row-loop-left-preserved t c = row-again c.args.table.now c.args.literal.now c.args.first c.args.count c.args.used c.args.bytes c.args.cells.now c.args.text.now c.loop-left.cells c.loop-left.text c.loop-left.row.nesting c.loop-left.row.cells c.loop-left.row.bytes c.loop-left.at c.loop-left.left c.loop-left.to c.loop-left.invariant c.loop-left-test.true c.lay-part.new.cells c.lay-part.new.text c.lay-part.result.value c.lay-part.result.cells c.lay-part.result.bytes c.lay-part.ensures c.lay-part.auto.1.1.0 c.lay-part.auto.1.1.1.0 c.write_cell.new.words c.deeper.result c.nesting_of.result c.end_at-at.result c.write_cell.ensures c.nesting_of.ensures c.deeper.ensures c.end_at-at.ensures
 
 pub lay_row-shape_of-cells : goal.lay_row-shape_of-cells
 lay_row-shape_of-cells t c = c.loop-left.invariant.kept

@@ -7,4 +7,4 @@ pub returns-then-lent-words : goal.returns-then-lent-words
 returns-then-lent-words c = too_few c.args.number c.args.words.now c.args.lent.now c.if-lent-words.true
 
 pub returns : goal.returns
-returns c = enough c.args.number c.args.words.now c.args.lent.now c.lay.new.0 (omega arith) c.lay.ensures
+returns c = enough c.args.number c.args.words.now c.args.lent.now c.lay.new.lent (omega arith) c.lay.ensures

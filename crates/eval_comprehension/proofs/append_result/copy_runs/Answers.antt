@@ -27,7 +27,7 @@ overflow_add-run c = record { fits = omega (arith, c.loop-left.invariant.1) }
 pub loop-left-preserved : goal.loop-left-preserved
 loop-left-preserved c =
     let same = c.copy_cells.ensures ∙ ap (λ z. copied c.args.binding_cells.now Cells.Evaluation c.loop-left.cells z c.loop-left.place c.run_at-length.result) c.run_at.ensures ∙ ap (λ z. copied c.args.binding_cells.now Cells.Evaluation c.loop-left.cells (Lists.get_or c.args.firsts.now c.loop-left.run 0) c.loop-left.place z) c.run_at-length.ensures in
-    (ap Lists.length c.copy_cells.ensures ∙ copied-length c.args.binding_cells.now Cells.Evaluation c.loop-left.cells c.run_at.result c.loop-left.place c.run_at-length.result ∙ c.loop-left.invariant.0, omega (arith, c.loop-left.invariant.1, c.loop-left-test.true), omega (arith, c.loop-left.invariant.2, c.loop-left-test.true, c.run_at-length.type_inv), ap (λ z. runs_copied c.args.binding_cells.now c.args.firsts.now c.args.counts.now (c.loop-left.left - 1) (c.loop-left.run + 1) (c.loop-left.place + z) c.copy_cells.new.1.0) c.run_at-length.ensures ∙ runs_on c.args.binding_cells.now c.args.firsts.now c.args.counts.now c.loop-left.cells c.copy_cells.new.1.0 c.loop-left.left c.loop-left.run c.loop-left.place c.loop-left-test.true same ∙ c.loop-left.invariant.3)
+    (ap Lists.length c.copy_cells.ensures ∙ copied-length c.args.binding_cells.now Cells.Evaluation c.loop-left.cells c.run_at.result c.loop-left.place c.run_at-length.result ∙ c.loop-left.invariant.0, omega (arith, c.loop-left.invariant.1, c.loop-left-test.true), omega (arith, c.loop-left.invariant.2, c.loop-left-test.true, c.run_at-length.type_inv), ap (λ z. runs_copied c.args.binding_cells.now c.args.firsts.now c.args.counts.now (c.loop-left.left - 1) (c.loop-left.run + 1) (c.loop-left.place + z) c.copy_cells.new.cells) c.run_at-length.ensures ∙ runs_on c.args.binding_cells.now c.args.firsts.now c.args.counts.now c.loop-left.cells c.copy_cells.new.cells c.loop-left.left c.loop-left.run c.loop-left.place c.loop-left-test.true same ∙ c.loop-left.invariant.3)
 
 pub shape_of-cells : goal.shape_of-cells
 shape_of-cells c = c.loop-left.invariant.0

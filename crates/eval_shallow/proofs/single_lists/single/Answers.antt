@@ -47,7 +47,7 @@ returns-in_default c =
 pub whole_list-requires : goal.whole_list-requires
 whole_list-requires c =
     let none : Ready = record { count = 0; deep = 0 } in
-    let count = added-count (part_in (rooms c.args.literal.now c.args.binding_cells.now c.args.binding_text.now c.reach-element.new.1.1.1.1.0 c.reach-element.new.1.1.1.1.1.0) false c.in-Value.v) c.in-At.start none c.reach-element.new.1.1.1.1.0 (c.add_element-ready.ensures c.args.literal.now c.args.binding_text.now c.reach-element.new.1.1.1.1.1.0) in
+    let count = added-count (part_in (rooms c.args.literal.now c.args.binding_cells.now c.args.binding_text.now c.reach-element.new.cells c.reach-element.new.text) false c.in-Value.v) c.in-At.start none c.reach-element.new.cells (c.add_element-ready.ensures c.args.literal.now c.args.binding_text.now c.reach-element.new.text) in
     omega (arith, count)
 
 pub shape_of-cells-in-Full : goal.shape_of-cells-in-Full
@@ -71,4 +71,4 @@ returns-in-Value c =
     let one = single-here c.args.table.now c.args.literal.now c.args.at c.requires.0 c.requires.1 in
     λ s h.
     let element = element-gives c.args.table.now c.args.literal.now c.args.at one c.first_operand.ensures s c.args.first.value c.args.second.value c.args.third.value c.args.fourth.value h c.args.limit _ _ c.reach-element.ensures in
-    after-step c.args.table.now c.args.literal.now c.args.limit c.args.at s c.args.used lent c.if-limit-used.false c.stepped-begun.ensures (single-whole c.args.table.now c.args.literal.now c.args.limit c.args.at c.requires.0 one s c.stepped-begun.result lent c.begin.ensures c.in-At.is element c.in-Value.is (c.add_element-ready.ensures c.args.literal.now c.args.binding_text.now c.reach-element.new.1.1.1.1.1.0) c.whole_list.ensures)
+    after-step c.args.table.now c.args.literal.now c.args.limit c.args.at s c.args.used lent c.if-limit-used.false c.stepped-begun.ensures (single-whole c.args.table.now c.args.literal.now c.args.limit c.args.at c.requires.0 one s c.stepped-begun.result lent c.begin.ensures c.in-At.is element c.in-Value.is (c.add_element-ready.ensures c.args.literal.now c.args.binding_text.now c.reach-element.new.text) c.whole_list.ensures)

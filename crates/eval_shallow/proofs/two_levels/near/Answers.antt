@@ -34,7 +34,7 @@ after_first-requires c = (c.requires.0, sym c.shape_at.ensures ∙ c.in-Operands
 pub small-right-requires : goal.small-right-requires
 small-right-requires c =
     let shape = sym c.shape_at.ensures ∙ c.in-Operands.is in
-    let between = rooms c.args.literal.now c.args.binding_cells.now c.args.binding_text.now c.small-left.new.1.1.1.1.0 c.small-left.new.1.1.1.1.1.0 in
+    let between = rooms c.args.literal.now c.args.binding_cells.now c.args.binding_text.now c.small-left.new.cells c.small-left.new.text in
     next_small c.args.table.now c.args.literal.now c.args.limit c.args.at c.requires.0 shape c.requires.1 c.small-left.result between c.after_first.ensures c.in-At.is
 
 pub returns-in-Stop : goal.returns-in-Stop
@@ -56,7 +56,7 @@ pub returns-in-At : goal.returns-in-At
 returns-in-At c =
     let lent = rooms c.args.literal.now c.args.binding_cells.now c.args.binding_text.now c.args.cells.now c.args.text.now in
     let shape = sym c.shape_at.ensures ∙ c.in-Operands.is in
-    let between = rooms c.args.literal.now c.args.binding_cells.now c.args.binding_text.now c.small-left.new.1.1.1.1.0 c.small-left.new.1.1.1.1.1.0 in
+    let between = rooms c.args.literal.now c.args.binding_cells.now c.args.binding_text.now c.small-left.new.cells c.small-left.new.text in
     let operands = fixed-at c.args.table.now c.args.literal.now c.args.at c.requires.0 c.in-Operands.fixed shape in
     λ s h.
     let first = first-near c.args.table.now c.args.literal.now c.args.limit c.args.at c.requires.0 shape s c.args.first.value c.args.second.value c.args.third.value c.args.fourth.value h c.begun_first-one.ensures c.stepped-begun.result lent c.small-left.ensures in
