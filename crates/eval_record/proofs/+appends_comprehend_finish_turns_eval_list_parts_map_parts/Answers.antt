@@ -37,9 +37,59 @@ use Rattle.eval_shapes.specs.declared.Shape.TheVariants as Shape
 use Rattle.eval_record.proofs.+appends_comprehend_finish_turns_eval_list_parts_map_parts.Goals as goal
 use Rattle.eval_record.proofs.+appends_comprehend_finish_turns_eval_list_parts_map_parts.Goals.{Joined-guarded, Joined-is_leaf, Joined-is_leaf-2, Joined-reach_at, Joined-reach_at-2, Joined-reads, Joined-reads-2}
 
+pub guard-came : (t : ℕ) (c : Joined-guarded) → Guarded c.args.table.now c.args.literal.now c.args.binding_cells.now c.args.binding_text.now c.args.limit c.args.at c.args.guarded c.args.guard (stored c.loop-left.inner c.args.places.item c.cell_at.result) c.in-Holds.more c.loop-left.cells c.loop-left.text c.if-guarded.passes c.if-guarded.cells c.if-guarded.text
+guard-came t c =
+    let long = (length-set c.loop-left.inner.slots c.args.places.item (record { value = c.cell_at.result })) ∙ c.loop-left.invariant.long in
+    ⊎_elim (λ w. came-guarded c.args.table.now c.args.literal.now c.args.binding_cells.now c.args.binding_text.now c.args.limit c.args.at c.args.guarded c.args.guard (stored c.loop-left.inner c.args.places.item c.cell_at.result) c.in-Holds.more c.loop-left.cells c.loop-left.text w.0.taken (⊎_elim (λ w. came-slots c.args.table.now c.args.literal.now c.args.binding_cells.now c.args.binding_text.now c.args.limit c.args.guard (stored c.loop-left.inner c.args.places.item c.cell_at.result) c.in-Holds.more c.loop-left.cells c.loop-left.text long c.reach_at-guard_slots.ensures w.1.given.1 w.9.ensures w.9.kept.1.1.1.1.0 w.9.kept.1.1.1.1.1.0 w.14 w.15 w.16) (λ w. came-record c.args.table.now c.args.literal.now c.args.binding_cells.now c.args.binding_text.now c.args.limit c.args.guard (stored c.loop-left.inner c.args.places.item c.cell_at.result) c.in-Holds.more c.loop-left.cells c.loop-left.text w.4.ensures w.4.kept.1.1.1.1.0 w.4.kept.1.1.1.1.1.0 w.9 w.10 w.11) w.1.came) w.2.ensures w.3 w.4 w.5) (λ w. came-unguarded c.args.table.now c.args.literal.now c.args.binding_cells.now c.args.binding_text.now c.args.limit c.args.at c.args.guarded c.args.guard (stored c.loop-left.inner c.args.places.item c.cell_at.result) c.in-Holds.more c.loop-left.cells c.loop-left.text w.0.left w.1 w.2 w.3) c.if-guarded.branch
+
+pub items-came : (t : ℕ) (c : Joined-reads-2) → Came c.args.table.now c.args.literal.now c.args.binding_cells.now c.args.binding_text.now c.args.limit c.args.list (stored c.loop-left.inner c.args.places.item c.cell_at.result) c.in-Holds-passes.after c.if-guarded.cells c.if-guarded.text c.match-reads-2.items c.match-reads-2.cells c.match-reads-2.text
+items-came t c =
+    let long = (length-set c.loop-left.inner.slots c.args.places.item (record { value = c.cell_at.result })) ∙ c.loop-left.invariant.long in
+    ⊎_elim (λ w. came-slots c.args.table.now c.args.literal.now c.args.binding_cells.now c.args.binding_text.now c.args.limit c.args.list (stored c.loop-left.inner c.args.places.item c.cell_at.result) c.in-Holds-passes.after c.if-guarded.cells c.if-guarded.text long c.single_at-list_slots.ensures w.1.given.1 w.9.ensures w.9.kept.1.1.1.1.0 w.9.kept.1.1.1.1.1.0 w.14 w.15 w.16) (λ w. came-record c.args.table.now c.args.literal.now c.args.binding_cells.now c.args.binding_text.now c.args.limit c.args.list (stored c.loop-left.inner c.args.places.item c.cell_at.result) c.in-Holds-passes.after c.if-guarded.cells c.if-guarded.text w.4.ensures w.4.kept.1.1.1.1.0 w.4.kept.1.1.1.1.1.0 w.9 w.10 w.11) c.match-reads-2.branch
+
+pub left-came : (t : ℕ) (c : Joined-reach_at) → Came c.args.table.now c.args.literal.now c.args.binding_cells.now c.args.binding_text.now c.args.limit (first_at c.args.table.now c.args.at c.in-Operands.fixed) c.args.scope c.stepped-begun.result c.args.cells.now c.args.text.now c.match-reach_at.left c.match-reach_at.cells c.match-reach_at.text
+left-came t c =
+    let long = (c.well_formed.1.1.1.1.1.1.1.1.0.1.1.0.1.0.1) in
+    rw c.begun_first-one.ensures at (⊎_elim (λ w. came-slots c.args.table.now c.args.literal.now c.args.binding_cells.now c.args.binding_text.now c.args.limit c.begun_first-one.result c.args.scope c.stepped-begun.result c.args.cells.now c.args.text.now long c.reach_at.ensures w.1.given.1 w.9.ensures w.9.kept.1.1.1.1.0 w.9.kept.1.1.1.1.1.0 w.14 w.15 w.16) (λ w. came-record c.args.table.now c.args.literal.now c.args.binding_cells.now c.args.binding_text.now c.args.limit c.begun_first-one.result c.args.scope c.stepped-begun.result c.args.cells.now c.args.text.now w.4.ensures w.4.kept.1.1.1.1.0 w.4.kept.1.1.1.1.1.0 w.9 w.10 w.11) c.match-reach_at.branch)
+
+pub right-came : (t : ℕ) (c : Joined-reach_at-2) → Came c.args.table.now c.args.literal.now c.args.binding_cells.now c.args.binding_text.now c.args.limit c.in-At-after_first.two c.args.scope c.in-At-after_first.more c.after_first.new.1.1.1.1.0 c.match-reach_at.text c.match-reach_at-2.right c.match-reach_at-2.cells c.match-reach_at-2.text
+right-came t c =
+    let long = (c.well_formed.1.1.1.1.1.1.1.1.0.1.1.0.1.0.1) in
+    ⊎_elim (λ w. came-slots c.args.table.now c.args.literal.now c.args.binding_cells.now c.args.binding_text.now c.args.limit c.in-At-after_first.two c.args.scope c.in-At-after_first.more c.after_first.new.1.1.1.1.0 c.match-reach_at.text long c.reach_at-in-At-after_first.ensures w.1.given.1 w.9.ensures w.9.kept.1.1.1.1.0 w.9.kept.1.1.1.1.1.0 w.14 w.15 w.16) (λ w. came-record c.args.table.now c.args.literal.now c.args.binding_cells.now c.args.binding_text.now c.args.limit c.in-At-after_first.two c.args.scope c.in-At-after_first.more c.after_first.new.1.1.1.1.0 c.match-reach_at.text w.4.ensures w.4.kept.1.1.1.1.0 w.4.kept.1.1.1.1.1.0 w.9 w.10 w.11) c.match-reach_at-2.branch
+
+pub element-came : (t : ℕ) (c : Joined-is_leaf) → Came c.args.table.now c.args.literal.now c.args.binding_cells.now c.args.binding_text.now c.args.limit (unmarked_at c.args.table.now c.loop-left.place) c.args.scope c.loop-left.spent c.loop-left.cells c.loop-left.text c.if-is_leaf.part c.if-is_leaf.cells c.if-is_leaf.text
+element-came t c =
+    let f = element-next c.args.table.now c.args.literal.now c.args.at c.loop-left.left c.loop-left.place c.loop-left-test.true c.loop-left.invariant.row in
+    let s = rw (sym c.unmarked-element.ensures) at f.part.sound in
+    let long = (c.well_formed.1.1.1.1.1.1.1.1.0.1.1.0.1.0.1) in
+    rw c.unmarked-element.ensures at (⊎_elim (λ w. came-leaf c.args.table.now c.args.literal.now c.args.binding_cells.now c.args.binding_text.now c.args.limit c.unmarked-element.result c.args.scope c.loop-left.spent c.loop-left.cells c.loop-left.text s long (leaf-here c.args.table.now c.unmarked-element.result c.is_leaf.ensures w.0.taken) w.1.ensures w.3.ensures w.4 w.5 w.6) (λ w. came-record c.args.table.now c.args.literal.now c.args.binding_cells.now c.args.binding_text.now c.args.limit c.unmarked-element.result c.args.scope c.loop-left.spent c.loop-left.cells c.loop-left.text w.3.ensures w.3.kept.1.1.1.1.0 w.3.kept.1.1.1.1.1.0 w.8 w.9 w.10) c.if-is_leaf.branch)
+
+pub key-came : (t : ℕ) (c : Joined-is_leaf) → Came c.args.table.now c.args.literal.now c.args.binding_cells.now c.args.binding_text.now c.args.limit c.loop-left.place c.args.scope c.loop-left.spent c.loop-left.cells c.loop-left.text c.if-is_leaf.one c.if-is_leaf.cells c.if-is_leaf.text
+key-came t c =
+    let f = entry_next c.args.table.now c.args.literal.now c.args.at c.loop-left.left c.loop-left.place c.loop-left-test.true c.loop-left.invariant.row in
+    let long = (c.well_formed.1.1.1.1.1.1.1.1.0.1.1.0.1.0.1) in
+    ⊎_elim (λ w. came-leaf c.args.table.now c.args.literal.now c.args.binding_cells.now c.args.binding_text.now c.args.limit c.loop-left.place c.args.scope c.loop-left.spent c.loop-left.cells c.loop-left.text f.key long (leaf-here c.args.table.now c.loop-left.place c.is_leaf.ensures w.0.taken) w.1.ensures w.3.ensures w.4 w.5 w.6) (λ w. came-record c.args.table.now c.args.literal.now c.args.binding_cells.now c.args.binding_text.now c.args.limit c.loop-left.place c.args.scope c.loop-left.spent c.loop-left.cells c.loop-left.text w.3.ensures w.3.kept.1.1.1.1.0 w.3.kept.1.1.1.1.1.0 w.8 w.9 w.10) c.if-is_leaf.branch
+
+pub value-came : (t : ℕ) (c : Joined-is_leaf-2) → Came c.args.table.now c.args.literal.now c.args.binding_cells.now c.args.binding_text.now c.args.limit (unmarked_at c.args.table.now (after c.args.table.now c.loop-left.place)) c.args.scope c.in-Is.going c.if-is_leaf.cells c.if-is_leaf.text c.if-is_leaf-2.part c.if-is_leaf-2.cells c.if-is_leaf-2.text
+value-came t c =
+    let f = entry_next c.args.table.now c.args.literal.now c.args.at c.loop-left.left c.loop-left.place c.loop-left-test.true c.loop-left.invariant.row in
+    let u2 : c.unmarked-element.result ≡ unmarked_at c.args.table.now (after c.args.table.now c.loop-left.place) = c.unmarked-element.ensures ∙ ap (λ (n : ℕ). unmarked_at c.args.table.now n) c.end_at-second.ensures in
+    let s = rw (sym u2) at f.part.sound in
+    let long = (c.well_formed.1.1.1.1.1.1.1.1.0.1.1.0.1.0.1) in
+    rw u2 at (⊎_elim (λ w. came-leaf c.args.table.now c.args.literal.now c.args.binding_cells.now c.args.binding_text.now c.args.limit c.unmarked-element.result c.args.scope c.in-Is.going c.if-is_leaf.cells c.if-is_leaf.text s long (leaf-here c.args.table.now c.unmarked-element.result c.is_leaf-in-Is.ensures w.0.taken) w.1.ensures w.3.ensures w.4 w.5 w.6) (λ w. came-record c.args.table.now c.args.literal.now c.args.binding_cells.now c.args.binding_text.now c.args.limit c.unmarked-element.result c.args.scope c.in-Is.going c.if-is_leaf.cells c.if-is_leaf.text w.3.ensures w.3.kept.1.1.1.1.0 w.3.kept.1.1.1.1.1.0 w.8 w.9 w.10) c.if-is_leaf-2.branch)
+
+pub condition-came : (t : ℕ) (c : Joined-reads) → Came c.args.table.now c.args.literal.now c.args.binding_cells.now c.args.binding_text.now c.args.limit c.args.places.condition c.loop-left.inner c.loop-left.spent c.loop-left.cells c.loop-left.text c.match-reads.test c.match-reads.cells c.match-reads.text
+condition-came t c =
+    ⊎_elim (λ w. came-slots c.args.table.now c.args.literal.now c.args.binding_cells.now c.args.binding_text.now c.args.limit c.args.places.condition c.loop-left.inner c.loop-left.spent c.loop-left.cells c.loop-left.text c.loop-left.invariant.long c.reach_at-condition_slots.ensures w.1.given.1 w.9.ensures w.9.kept.1.1.1.1.0 w.9.kept.1.1.1.1.1.0 w.14 w.15 w.16) (λ w. came-record c.args.table.now c.args.literal.now c.args.binding_cells.now c.args.binding_text.now c.args.limit c.args.places.condition c.loop-left.inner c.loop-left.spent c.loop-left.cells c.loop-left.text w.4.ensures w.4.kept.1.1.1.1.0 w.4.kept.1.1.1.1.1.0 w.9 w.10 w.11) c.match-reads.branch
+
+pub step-came : (t : ℕ) (c : Joined-reads-2) → Came c.args.table.now c.args.literal.now c.args.binding_cells.now c.args.binding_text.now c.args.limit c.args.places.step (stored c.loop-left.inner c.args.places.item c.cell_at.result) c.in-Holds.more c.match-reads.cells c.match-reads.text c.match-reads-2.gives c.match-reads-2.cells c.match-reads-2.text
+step-came t c =
+    let long = (length-set c.loop-left.inner.slots c.args.places.item (record { value = c.cell_at.result }) ∙ c.loop-left.invariant.long) in
+    ⊎_elim (λ w. came-slots c.args.table.now c.args.literal.now c.args.binding_cells.now c.args.binding_text.now c.args.limit c.args.places.step (stored c.loop-left.inner c.args.places.item c.cell_at.result) c.in-Holds.more c.match-reads.cells c.match-reads.text long c.reach_at-step_slots.ensures w.1.given.1 w.9.ensures w.9.kept.1.1.1.1.0 w.9.kept.1.1.1.1.1.0 w.14 w.15 w.16) (λ w. came-record c.args.table.now c.args.literal.now c.args.binding_cells.now c.args.binding_text.now c.args.limit c.args.places.step (stored c.loop-left.inner c.args.places.item c.cell_at.result) c.in-Holds.more c.match-reads.cells c.match-reads.text w.4.ensures w.4.kept.1.1.1.1.0 w.4.kept.1.1.1.1.1.0 w.9 w.10 w.11) c.match-reads-2.branch
+
 pub appending::appends-loop-left-init : goal.appending::appends-loop-left-init
 appending::appends-loop-left-init t c =
-    appends-begin c.args.table.now c.args.literal.now c.args.binding_cells.now c.args.binding_text.now c.args.cells.now c.args.text.now c.args.limit c.args.at c.args.guarded c.args.guard c.args.list c.args.space c.args.first c.args.count c.args.each c.args.places.item c.args.places.condition c.args.scope c.args.used (mapped-length c.args.scope.slots _ 128 c.well_formed.1.1.1.1.1.1.1.1.0.1.1.0.1.0.1) c.ranges.first.fits c.ranges.count.fits
+    appends-begin c.args.table.now c.args.literal.now c.args.binding_cells.now c.args.binding_text.now c.args.cells.now c.args.text.now c.args.limit c.args.at c.args.guarded c.args.guard c.args.list c.args.space c.args.first c.args.count c.args.each c.args.places.item c.args.places.condition c.args.scope c.args.used (c.well_formed.1.1.1.1.1.1.1.1.0.1.1.0.1.0.1) c.ranges.first.fits c.ranges.count.fits
 
 pub appending::appends-leaf-test-requires : goal.appending::appends-leaf-test-requires
 appending::appends-leaf-test-requires t c =
@@ -86,7 +136,7 @@ appending::appends-loop-left-preserved-in-Fails-passes t c =
 
 pub appending::appends-shape_of-cells-in-Ends-gather_items : goal.appending::appends-shape_of-cells-in-Ends-gather_items
 appending::appends-shape_of-cells-in-Ends-gather_items t c =
-    c.gather_items.auto.1.0 ∙ ((items-came t (goal.at.appending::appends-shape_of-cells-in-Ends-gather_items t c).Joined-reads-2).kept ∙ ((guard-came t (goal.at.appending::appends-shape_of-cells-in-Ends-gather_items t c).Joined-guarded).kept ∙ c.loop-left.invariant.kept))
+    c.gather_items.auto.cells ∙ ((items-came t (goal.at.appending::appends-shape_of-cells-in-Ends-gather_items t c).Joined-reads-2).kept ∙ ((guard-came t (goal.at.appending::appends-shape_of-cells-in-Ends-gather_items t c).Joined-guarded).kept ∙ c.loop-left.invariant.kept))
 
 pub appending::appends-shape_of-text-in-Ends-gather_items : goal.appending::appends-shape_of-text-in-Ends-gather_items
 appending::appends-shape_of-text-in-Ends-gather_items t c =
@@ -116,7 +166,7 @@ pub appending::appends-loop-left-preserved : goal.appending::appends-loop-left-p
 appending::appends-loop-left-preserved t c =
     let listed = items-came t (goal.at.appending::appends-loop-left-preserved t c).Joined-reads-2 in
     let passed = guard-came t (goal.at.appending::appends-loop-left-preserved t c).Joined-guarded in
-    appends-again c.args.table.now c.args.literal.now c.args.binding_cells.now c.args.binding_text.now c.args.cells.now c.args.text.now c.args.limit c.args.at c.args.guarded c.args.guard c.args.list c.args.space c.args.first c.args.count c.args.each c.args.places.item c.args.places.condition c.args.scope c.args.used c.loop-left.invariant c.loop-left-test.true c.ranges.each.fits (c.gather_items.auto.1.0 ∙ (listed.kept ∙ passed.kept)) (listed.keptx ∙ passed.keptx) (length-set c.loop-left.inner.slots c.args.places.item (record { value = c.cell_at.result })) c.add_run-collected.auto.0 c.add_run-collected.auto.1.0 (run-added c.loop-left.firsts c.loop-left.counts _ _ c.loop-left.collected c.add_run-collected.result _ c.in-Run.length _ c.add_run-collected.ensures (omega (arith, c.in-Run.known_told-in-Run-1-own.given.1.0))) (gathers-again c.args.table.now c.args.literal.now c.args.limit c.args.at c.args.guarded c.args.guard c.args.list c.args.space c.args.each c.args.places.item c.args.places.condition c.loop-left.left c.loop-left.cell c.loop-left-test.true (gathered_in c.loop-left.firsts c.loop-left.counts c.loop-left.collected) c.loop-left.inner c.loop-left.spent (rooms c.args.literal.now c.args.binding_cells.now c.args.binding_text.now c.loop-left.cells c.loop-left.text) (literal-does c.args.table.now c.args.literal.now c.args.limit c.args.places.condition c.requires.0 c.requires.1 absent.value c.loop-left.spent c.leaf-test.ensures c.loop-left.inner (rooms c.args.literal.now c.args.binding_cells.now c.args.binding_text.now c.loop-left.cells c.loop-left.text)) c.asks.ensures c.in-Holds.is c.cell_at.ensures passed.passed c.in-Holds-passes.is listed.is c.gather_items.ensures c.in-Run.is c.add_run-collected.ensures)
+    appends-again c.args.table.now c.args.literal.now c.args.binding_cells.now c.args.binding_text.now c.args.cells.now c.args.text.now c.args.limit c.args.at c.args.guarded c.args.guard c.args.list c.args.space c.args.first c.args.count c.args.each c.args.places.item c.args.places.condition c.args.scope c.args.used c.loop-left.invariant c.loop-left-test.true c.ranges.each.fits (c.gather_items.auto.cells ∙ (listed.kept ∙ passed.kept)) (listed.keptx ∙ passed.keptx) (length-set c.loop-left.inner.slots c.args.places.item (record { value = c.cell_at.result })) c.add_run-collected.auto.firsts c.add_run-collected.auto.counts (run-added c.loop-left.firsts c.loop-left.counts _ _ c.loop-left.collected c.add_run-collected.result _ c.in-Run.length _ c.add_run-collected.ensures (omega (arith, c.in-Run.known_told-in-Run-1-own.given.1.0))) (gathers-again c.args.table.now c.args.literal.now c.args.limit c.args.at c.args.guarded c.args.guard c.args.list c.args.space c.args.each c.args.places.item c.args.places.condition c.loop-left.left c.loop-left.cell c.loop-left-test.true (gathered_in c.loop-left.firsts c.loop-left.counts c.loop-left.collected) c.loop-left.inner c.loop-left.spent (rooms c.args.literal.now c.args.binding_cells.now c.args.binding_text.now c.loop-left.cells c.loop-left.text) (literal-does c.args.table.now c.args.literal.now c.args.limit c.args.places.condition c.requires.0 c.requires.1 absent.value c.loop-left.spent c.leaf-test.ensures c.loop-left.inner (rooms c.args.literal.now c.args.binding_cells.now c.args.binding_text.now c.loop-left.cells c.loop-left.text)) c.asks.ensures c.in-Holds.is c.cell_at.ensures passed.passed c.in-Holds-passes.is listed.is c.gather_items.ensures c.in-Run.is c.add_run-collected.ensures)
 
 pub appending::appends-slice_bounds-collected_list-end : goal.appending::appends-slice_bounds-collected_list-end
 appending::appends-slice_bounds-collected_list-end t c = sym c.loop-left.invariant.firsts-long
@@ -129,7 +179,7 @@ appending::appends-collected_list-requires t c = omega (arith, c.loop-left.invar
 
 pub appending::appends-shape_of-cells : goal.appending::appends-shape_of-cells
 appending::appends-shape_of-cells t c =
-    c.collected_list.auto.1.0 ∙ c.loop-left.invariant.kept
+    c.collected_list.auto.cells ∙ c.loop-left.invariant.kept
 
 pub appending::appends-shape_of-text : goal.appending::appends-shape_of-text
 appending::appends-shape_of-text t c =
@@ -138,92 +188,6 @@ appending::appends-shape_of-text t c =
 pub appending::appends-returns : goal.appending::appends-returns
 appending::appends-returns t c =
     c.collected_list.ensures c.args.literal.now c.args.binding_text.now c.loop-left.text ∙ (sym (no-append (loop_at c.args.table.now c.args.literal.now c.args.limit c.args.at c.args.places) (append_at c.args.table.now c.args.literal.now c.args.limit c.args.guarded c.args.guard c.args.list) c.args.space c.args.each c.loop-left.left c.loop-left.cell (omega (arith, c.loop-left-test.false)) (gathered_in c.loop-left.firsts c.loop-left.counts c.loop-left.collected) c.loop-left.inner c.loop-left.spent (rooms c.args.literal.now c.args.binding_cells.now c.args.binding_text.now c.loop-left.cells c.loop-left.text)) ∙ c.loop-left.invariant.same c.args.places refl refl)
-
-pub guard-came : (t : ℕ) (c : Joined-guarded) → Guarded c.args.table.now c.args.literal.now c.args.binding_cells.now c.args.binding_text.now c.args.limit c.args.at c.args.guarded c.args.guard (stored c.loop-left.inner c.args.places.item c.cell_at.result) c.in-Holds.more c.loop-left.cells c.loop-left.text c.if-guarded.passes c.if-guarded.cells c.if-guarded.text
-guard-came t c =
-    let long = (length-set c.loop-left.inner.slots c.args.places.item (record { value = c.cell_at.result })) ∙ c.loop-left.invariant.long in
-    ⊎_elim (λ w. came-guarded c.args.table.now c.args.literal.now c.args.binding_cells.now c.args.binding_text.now c.args.limit c.args.at c.args.guarded c.args.guard (stored c.loop-left.inner c.args.places.item c.cell_at.result) c.in-Holds.more c.loop-left.cells c.loop-left.text w.0.taken (⊎_elim (λ w. came-slots c.args.table.now c.args.literal.now c.args.binding_cells.now c.args.binding_text.now c.args.limit c.args.guard (stored c.loop-left.inner c.args.places.item c.cell_at.result) c.in-Holds.more c.loop-left.cells c.loop-left.text long c.reach_at-guard_slots.ensures w.1.given.1 w.9.ensures w.9.kept.1.1.1.1.0 w.9.kept.1.1.1.1.1.0 w.14 w.15 w.16) (λ w. came-record c.args.table.now c.args.literal.now c.args.binding_cells.now c.args.binding_text.now c.args.limit c.args.guard (stored c.loop-left.inner c.args.places.item c.cell_at.result) c.in-Holds.more c.loop-left.cells c.loop-left.text w.4.ensures w.4.kept.1.1.1.1.0 w.4.kept.1.1.1.1.1.0 w.9 w.10 w.11) w.1.came) w.2.ensures w.3 w.4 w.5) (λ w. came-unguarded c.args.table.now c.args.literal.now c.args.binding_cells.now c.args.binding_text.now c.args.limit c.args.at c.args.guarded c.args.guard (stored c.loop-left.inner c.args.places.item c.cell_at.result) c.in-Holds.more c.loop-left.cells c.loop-left.text w.0.left w.1 w.2 w.3) c.if-guarded.branch
-
-pub items-came : (t : ℕ) (c : Joined-reads-2) → Came c.args.table.now c.args.literal.now c.args.binding_cells.now c.args.binding_text.now c.args.limit c.args.list (stored c.loop-left.inner c.args.places.item c.cell_at.result) c.in-Holds-passes.after c.if-guarded.cells c.if-guarded.text c.match-reads-2.items c.match-reads-2.cells c.match-reads-2.text
-items-came t c =
-    let long = (length-set c.loop-left.inner.slots c.args.places.item (record { value = c.cell_at.result })) ∙ c.loop-left.invariant.long in
-    ⊎_elim (λ w. came-slots c.args.table.now c.args.literal.now c.args.binding_cells.now c.args.binding_text.now c.args.limit c.args.list (stored c.loop-left.inner c.args.places.item c.cell_at.result) c.in-Holds-passes.after c.if-guarded.cells c.if-guarded.text long c.single_at-list_slots.ensures w.1.given.1 w.9.ensures w.9.kept.1.1.1.1.0 w.9.kept.1.1.1.1.1.0 w.14 w.15 w.16) (λ w. came-record c.args.table.now c.args.literal.now c.args.binding_cells.now c.args.binding_text.now c.args.limit c.args.list (stored c.loop-left.inner c.args.places.item c.cell_at.result) c.in-Holds-passes.after c.if-guarded.cells c.if-guarded.text w.4.ensures w.4.kept.1.1.1.1.0 w.4.kept.1.1.1.1.1.0 w.9 w.10 w.11) c.match-reads-2.branch
-
-pub appends-meets : {M : Type 1} (t : ℕ) → tie.Closed M
-appends-meets t =
-    tie.spec (appends-claims t)
-    (appends-at t)
-    appends.Post
-    appends-Inv-loop
-    appends-μ-loop
-    (appends-reach_at-requires t)
-    (appends-single_at-requires t)
-    (appends-loop-holds t)
-    (appends-leaf-requires t)
-    (appends-asks-requires t)
-    (appends-enum_known-outcome t)
-    (appends-same_length t)
-    (appends-same_length-2 t)
-    (appends-returns t)
-    (appends-enum_known-more t)
-    (appends-loop-less t)
-    (appends-loop-again t)
-    (appends-enum_known-more-2 t)
-    (appends-cell_at-requires t)
-    (appends-mul-t63 t)
-    (appends-element_set_from-inner t)
-    (appends-add-cell t)
-    (appends-sub-left t)
-    (appends-enum_known-reads t)
-    (appends-mul-reach t)
-    (appends-element_copy_out-reach t)
-    (appends-mul-reach-2 t)
-    (appends-element_copy_out-reach-2 t)
-    (appends-mul-reach-3 t)
-    (appends-element_copy_out-reach-3 t)
-    (appends-mul-reach-4 t)
-    (appends-element_copy_out-reach-4 t)
-    (appends-reach-requires t)
-    (appends-enum_told t)
-    (appends-eval-requires t)
-    (appends-asks-requires-2 t)
-    (appends-enum_known-passes t)
-    (appends-same_length-3 t)
-    (appends-same_length-4 t)
-    (appends-returns-2 t)
-    (appends-enum_known-passes-2 t)
-    (appends-loop-less-2 t)
-    (appends-loop-again-2 t)
-    (appends-enum_known-passes-3 t)
-    (appends-enum_known-reads-2 t)
-    (appends-mul-single t)
-    (appends-element_copy_out-single t)
-    (appends-mul-single-2 t)
-    (appends-element_copy_out-single-2 t)
-    (appends-mul-single-3 t)
-    (appends-element_copy_out-single-3 t)
-    (appends-mul-single-4 t)
-    (appends-element_copy_out-single-4 t)
-    (appends-single-requires t)
-    (appends-enum_told-2 t)
-    (appends-eval-requires-2 t)
-    (appends-gather_items-requires t)
-    (appends-enum_known-outcome-2 t)
-    (appends-same_length-5 t)
-    (appends-same_length-6 t)
-    (appends-returns-3 t)
-    (appends-enum_known-from t)
-    (appends-slice_aggregate-add_run t)
-    (appends-slice_aggregate-add_run-2 t)
-    (appends-add_run-requires t)
-    (appends-loop-less-3 t)
-    (appends-loop-again-3 t)
-    (appends-slice_aggregate-collected_list t)
-    (appends-slice_aggregate-collected_list-2 t)
-    (appends-collected_list-requires t)
-    (appends-same_length-7 t)
-    (appends-same_length-8 t)
-    (appends-returns-4 t)
 
 pub appending::appends-reach_at-guard_slots-requires : goal.appending::appends-reach_at-guard_slots-requires
 appending::appends-reach_at-guard_slots-requires t c = c.requires.2
@@ -332,10 +296,10 @@ comprehension::comprehend-eval-one-requires t c =
     let g : c.end_at-init.result ≡ after c.args.table.now (c.args.at + 5) = c.end_at-init.ensures ∙ ap (λ (n : ℕ). after c.args.table.now n) f in rw g (omega (arith, z.extents, c.requires.0), z.init)
 
 pub comprehension::comprehend-shape_of-cells-in_default : goal.comprehension::comprehend-shape_of-cells-in_default
-comprehension::comprehend-shape_of-cells-in_default t c = c.eval-one.auto.1.1.1.1.0
+comprehension::comprehend-shape_of-cells-in_default t c = c.eval-one.auto.cells
 
 pub comprehension::comprehend-shape_of-text-in_default : goal.comprehension::comprehend-shape_of-text-in_default
-comprehension::comprehend-shape_of-text-in_default t c = c.eval-one.auto.1.1.1.1.1.0
+comprehension::comprehend-shape_of-text-in_default t c = c.eval-one.auto.text
 
 pub comprehension::comprehend-returns-in_default : goal.comprehension::comprehend-returns-in_default
 comprehension::comprehend-returns-in_default t c =
@@ -349,11 +313,11 @@ comprehension::comprehend-eval-two-requires t c =
 
 pub comprehension::comprehend-shape_of-cells-in_default-two : goal.comprehension::comprehend-shape_of-cells-in_default-two
 comprehension::comprehend-shape_of-cells-in_default-two t c =
-    c.eval-two.auto.1.1.1.1.0 ∙ c.eval-one.auto.1.1.1.1.0
+    c.eval-two.auto.cells ∙ c.eval-one.auto.cells
 
 pub comprehension::comprehend-shape_of-text-in_default-two : goal.comprehension::comprehend-shape_of-text-in_default-two
 comprehension::comprehend-shape_of-text-in_default-two t c =
-    c.eval-two.auto.1.1.1.1.1.0 ∙ c.eval-one.auto.1.1.1.1.1.0
+    c.eval-two.auto.text ∙ c.eval-one.auto.text
 
 pub comprehension::comprehend-returns-in_default-two : goal.comprehension::comprehend-returns-in_default-two
 comprehension::comprehend-returns-in_default-two t c =
@@ -362,11 +326,11 @@ comprehension::comprehend-returns-in_default-two t c =
 
 pub comprehension::comprehend-shape_of-cells-in_default-range_of : goal.comprehension::comprehend-shape_of-cells-in_default-range_of
 comprehension::comprehend-shape_of-cells-in_default-range_of t c =
-    c.eval-two.auto.1.1.1.1.0 ∙ c.eval-one.auto.1.1.1.1.0
+    c.eval-two.auto.cells ∙ c.eval-one.auto.cells
 
 pub comprehension::comprehend-shape_of-text-in_default-range_of : goal.comprehension::comprehend-shape_of-text-in_default-range_of
 comprehension::comprehend-shape_of-text-in_default-range_of t c =
-    c.eval-two.auto.1.1.1.1.1.0 ∙ c.eval-one.auto.1.1.1.1.1.0
+    c.eval-two.auto.text ∙ c.eval-one.auto.text
 
 pub comprehension::comprehend-returns-in_default-range_of : goal.comprehension::comprehend-returns-in_default-range_of
 comprehension::comprehend-returns-in_default-range_of t c =
@@ -399,11 +363,11 @@ comprehension::comprehend-appends-requires-in-Guarded t c =
 
 pub comprehension::comprehend-shape_of-cells-in-No : goal.comprehension::comprehend-shape_of-cells-in-No
 comprehension::comprehend-shape_of-cells-in-No t c =
-    c.turns.auto.1.1.1.1.0 ∙ (c.eval-two.auto.1.1.1.1.0 ∙ c.eval-one.auto.1.1.1.1.0)
+    c.turns.auto.cells ∙ (c.eval-two.auto.cells ∙ c.eval-one.auto.cells)
 
 pub comprehension::comprehend-shape_of-text-in-No : goal.comprehension::comprehend-shape_of-text-in-No
 comprehension::comprehend-shape_of-text-in-No t c =
-    c.turns.auto.1.1.1.1.1.0 ∙ (c.eval-two.auto.1.1.1.1.1.0 ∙ c.eval-one.auto.1.1.1.1.1.0)
+    c.turns.auto.text ∙ (c.eval-two.auto.text ∙ c.eval-one.auto.text)
 
 pub comprehension::comprehend-returns-in-No : goal.comprehension::comprehend-returns-in-No
 comprehension::comprehend-returns-in-No t c =
@@ -412,11 +376,11 @@ comprehension::comprehend-returns-in-No t c =
 
 pub comprehension::comprehend-shape_of-cells-in-Plain : goal.comprehension::comprehend-shape_of-cells-in-Plain
 comprehension::comprehend-shape_of-cells-in-Plain t c =
-    c.appends.auto.1.1.1.1.0 ∙ (c.eval-two.auto.1.1.1.1.0 ∙ c.eval-one.auto.1.1.1.1.0)
+    c.appends.auto.cells ∙ (c.eval-two.auto.cells ∙ c.eval-one.auto.cells)
 
 pub comprehension::comprehend-shape_of-text-in-Plain : goal.comprehension::comprehend-shape_of-text-in-Plain
 comprehension::comprehend-shape_of-text-in-Plain t c =
-    c.appends.auto.1.1.1.1.1.0 ∙ (c.eval-two.auto.1.1.1.1.1.0 ∙ c.eval-one.auto.1.1.1.1.1.0)
+    c.appends.auto.text ∙ (c.eval-two.auto.text ∙ c.eval-one.auto.text)
 
 pub comprehension::comprehend-returns-in-Plain : goal.comprehension::comprehend-returns-in-Plain
 comprehension::comprehend-returns-in-Plain t c =
@@ -425,61 +389,20 @@ comprehension::comprehend-returns-in-Plain t c =
 
 pub comprehension::comprehend-shape_of-cells-in-Guarded : goal.comprehension::comprehend-shape_of-cells-in-Guarded
 comprehension::comprehend-shape_of-cells-in-Guarded t c =
-    c.appends-in-Guarded.auto.1.1.1.1.0 ∙ (c.eval-two.auto.1.1.1.1.0 ∙ c.eval-one.auto.1.1.1.1.0)
+    c.appends-in-Guarded.auto.cells ∙ (c.eval-two.auto.cells ∙ c.eval-one.auto.cells)
 
 pub comprehension::comprehend-shape_of-text-in-Guarded : goal.comprehension::comprehend-shape_of-text-in-Guarded
 comprehension::comprehend-shape_of-text-in-Guarded t c =
-    c.appends-in-Guarded.auto.1.1.1.1.1.0 ∙ (c.eval-two.auto.1.1.1.1.1.0 ∙ c.eval-one.auto.1.1.1.1.1.0)
+    c.appends-in-Guarded.auto.text ∙ (c.eval-two.auto.text ∙ c.eval-one.auto.text)
 
 pub comprehension::comprehend-returns-in-Guarded : goal.comprehension::comprehend-returns-in-Guarded
 comprehension::comprehend-returns-in-Guarded t c =
     let z = comprehension-at c.args.table.now c.args.literal.now c.args.at c.requires.0 c.requires.1 in
     guarded-are c.args.table.now c.args.literal.now c.args.limit c.args.at z c.first_operand-over.ensures c.end_at-init.ensures c.args.scope c.args.used (rooms c.args.literal.now c.args.binding_cells.now c.args.binding_text.now c.args.cells.now c.args.text.now) c.eval-one.ensures c.in-Value.is c.eval-two.ensures c.in-Value-two.is c.range_of.result c.range_of.ensures c.in-Over.is c.places_at-places.ensures c.append_path.result c.append_path.ensures.0 c.in-Guarded.is c.appends-in-Guarded.ensures
 
-pub comprehend-meets : {M : Type 1} (t : ℕ) → tie.Closed M
-comprehend-meets t =
-    tie.spec (comprehend-claims t)
-    (comprehend-at t)
-    comprehend.Post
-    (comprehend-first_operand-requires t)
-    (comprehend-end_at-requires t)
-    (comprehend-eval-requires t)
-    (comprehend-enum_known-one t)
-    (comprehend-same_length t)
-    (comprehend-same_length-2 t)
-    (comprehend-returns t)
-    (comprehend-eval-requires-2 t)
-    (comprehend-enum_known-two t)
-    (comprehend-same_length-3 t)
-    (comprehend-same_length-4 t)
-    (comprehend-returns-2 t)
-    (comprehend-range_of-requires t)
-    (comprehend-enum_known-space t)
-    (comprehend-enum_told t)
-    (comprehend-same_length-5 t)
-    (comprehend-same_length-6 t)
-    (comprehend-returns-3 t)
-    (comprehend-places_at-requires t)
-    (comprehend-append_path-requires t)
-    (comprehend-enum_told-2 t)
-    (comprehend-turns-requires t)
-    (comprehend-enum_known-list t)
-    (comprehend-appends-requires t)
-    (comprehend-enum_known-guard t)
-    (comprehend-appends-requires-2 t)
-    (comprehend-same_length-7 t)
-    (comprehend-same_length-8 t)
-    (comprehend-returns-4 t)
-    (comprehend-same_length-9 t)
-    (comprehend-same_length-10 t)
-    (comprehend-returns-5 t)
-    (comprehend-same_length-11 t)
-    (comprehend-same_length-12 t)
-    (comprehend-returns-6 t)
-
 pub eval::eval-returns-then-limit-used : goal.eval::eval-returns-then-limit-used
 eval::eval-returns-then-limit-used t c =
-    no_step c.args.table.now c.args.literal.now c.args.limit c.args.at c.args.t9 c.args.used (rooms c.args.literal.now c.args.binding_cells.now c.args.binding_text.now c.args.cells.now c.args.text.now) c.if-limit-used.true c.out_of_steps.ensures
+    no_step c.args.table.now c.args.literal.now c.args.limit c.args.at c.args.scope c.args.used (rooms c.args.literal.now c.args.binding_cells.now c.args.binding_text.now c.args.cells.now c.args.text.now) c.if-limit-used.true c.out_of_steps.ensures
 
 pub eval::eval-stepped-begun-requires : goal.eval::eval-stepped-begun-requires
 eval::eval-stepped-begun-requires t c =
@@ -528,153 +451,57 @@ eval::eval-comprehend-requires t c =
 
 pub eval::eval-returns-in-Leaf : goal.eval::eval-returns-in-Leaf
 eval::eval-returns-in-Leaf t c =
-    after-step c.args.table.now c.args.literal.now c.args.limit c.args.at c.args.t9 c.args.used (rooms c.args.literal.now c.args.binding_cells.now c.args.binding_text.now c.args.cells.now c.args.text.now) c.if-limit-used.false c.stepped-begun.ensures (leaf-is c.args.table.now c.args.literal.now c.args.limit c.args.at c.requires c.args.t9 c.stepped-begun.result (rooms c.args.literal.now c.args.binding_cells.now c.args.binding_text.now c.args.cells.now c.args.text.now) (mapped-length c.args.t9.slots _ 128 c.well_formed.1.1.1.1.1.1.1.1.0.1.1.0.1.0.1) (leaf-byte c.args.table.now c.args.literal.now c.args.at c.requires (sym c.shape_at.ensures ∙ c.in-Leaf.is)) c.slot_at-slot.ensures c.leaf_value.ensures)
+    after-step c.args.table.now c.args.literal.now c.args.limit c.args.at c.args.scope c.args.used (rooms c.args.literal.now c.args.binding_cells.now c.args.binding_text.now c.args.cells.now c.args.text.now) c.if-limit-used.false c.stepped-begun.ensures (leaf-is c.args.table.now c.args.literal.now c.args.limit c.args.at c.requires c.args.scope c.stepped-begun.result (rooms c.args.literal.now c.args.binding_cells.now c.args.binding_text.now c.args.cells.now c.args.text.now) (c.well_formed.1.1.1.1.1.1.1.1.0.1.1.0.1.0.1) (leaf-byte c.args.table.now c.args.literal.now c.args.at c.requires (sym c.shape_at.ensures ∙ c.in-Leaf.is)) c.slot_at-slot.ensures c.leaf_value.ensures)
 
 pub eval::eval-returns-in-None : goal.eval::eval-returns-in-None
 eval::eval-returns-in-None t c =
-    after-step c.args.table.now c.args.literal.now c.args.limit c.args.at c.args.t9 c.args.used (rooms c.args.literal.now c.args.binding_cells.now c.args.binding_text.now c.args.cells.now c.args.text.now) c.if-limit-used.false c.stepped-begun.ensures (none_is c.args.table.now c.args.literal.now c.args.limit c.args.at c.requires c.args.t9 c.stepped-begun.result (rooms c.args.literal.now c.args.binding_cells.now c.args.binding_text.now c.args.cells.now c.args.text.now) c.shape_at.ensures c.in-None.is)
+    after-step c.args.table.now c.args.literal.now c.args.limit c.args.at c.args.scope c.args.used (rooms c.args.literal.now c.args.binding_cells.now c.args.binding_text.now c.args.cells.now c.args.text.now) c.if-limit-used.false c.stepped-begun.ensures (none_is c.args.table.now c.args.literal.now c.args.limit c.args.at c.requires c.args.scope c.stepped-begun.result (rooms c.args.literal.now c.args.binding_cells.now c.args.binding_text.now c.args.cells.now c.args.text.now) c.shape_at.ensures c.in-None.is)
 
 pub eval::eval-shape_of-cells-in-Full : goal.eval::eval-shape_of-cells-in-Full
-eval::eval-shape_of-cells-in-Full t c = c.begin.auto.0
+eval::eval-shape_of-cells-in-Full t c = c.begin.auto.cells
 
 pub eval::eval-returns-in-Full : goal.eval::eval-returns-in-Full
 eval::eval-returns-in-Full t c =
-    after-step c.args.table.now c.args.literal.now c.args.limit c.args.at c.args.t9 c.args.used (rooms c.args.literal.now c.args.binding_cells.now c.args.binding_text.now c.args.cells.now c.args.text.now) c.if-limit-used.false c.stepped-begun.ensures (list_full c.args.table.now c.args.literal.now c.args.limit c.args.at c.requires c.args.t9 c.stepped-begun.result (rooms c.args.literal.now c.args.binding_cells.now c.args.binding_text.now c.args.cells.now c.args.text.now) (shape-byte c.args.table.now c.args.literal.now c.args.at c.requires Shape.List (sym c.shape_at.ensures ∙ c.in-List.is) (omega arith)) c.count_at-count.ensures.0 c.begin.ensures c.in-Full.is c.out_of_cells.ensures)
+    after-step c.args.table.now c.args.literal.now c.args.limit c.args.at c.args.scope c.args.used (rooms c.args.literal.now c.args.binding_cells.now c.args.binding_text.now c.args.cells.now c.args.text.now) c.if-limit-used.false c.stepped-begun.ensures (list_full c.args.table.now c.args.literal.now c.args.limit c.args.at c.requires c.args.scope c.stepped-begun.result (rooms c.args.literal.now c.args.binding_cells.now c.args.binding_text.now c.args.cells.now c.args.text.now) (shape-byte c.args.table.now c.args.literal.now c.args.at c.requires Shape.List (sym c.shape_at.ensures ∙ c.in-List.is) (omega arith)) c.count_at-count.ensures.0 c.begin.ensures c.in-Full.is c.out_of_cells.ensures)
 
 pub eval::eval-shape_of-cells-in-At : goal.eval::eval-shape_of-cells-in-At
 eval::eval-shape_of-cells-in-At t c =
-    c.list_parts.auto.1.1.1.1.0 ∙ c.begin.auto.0
+    c.list_parts.auto.cells ∙ c.begin.auto.cells
 
 pub eval::eval-shape_of-text-in-At : goal.eval::eval-shape_of-text-in-At
-eval::eval-shape_of-text-in-At t c = c.list_parts.auto.1.1.1.1.1.0
+eval::eval-shape_of-text-in-At t c = c.list_parts.auto.text
 
 pub eval::eval-returns-in-At : goal.eval::eval-returns-in-At
 eval::eval-returns-in-At t c =
-    after-step c.args.table.now c.args.literal.now c.args.limit c.args.at c.args.t9 c.args.used (rooms c.args.literal.now c.args.binding_cells.now c.args.binding_text.now c.args.cells.now c.args.text.now) c.if-limit-used.false c.stepped-begun.ensures (list-is c.args.table.now c.args.literal.now c.args.limit c.args.at c.requires c.args.t9 c.stepped-begun.result (rooms c.args.literal.now c.args.binding_cells.now c.args.binding_text.now c.args.cells.now c.args.text.now) (shape-byte c.args.table.now c.args.literal.now c.args.at c.requires Shape.List (sym c.shape_at.ensures ∙ c.in-List.is) (omega arith)) c.count_at-count.ensures.0 c.begin.ensures c.in-At.is c.list_parts.ensures)
+    after-step c.args.table.now c.args.literal.now c.args.limit c.args.at c.args.scope c.args.used (rooms c.args.literal.now c.args.binding_cells.now c.args.binding_text.now c.args.cells.now c.args.text.now) c.if-limit-used.false c.stepped-begun.ensures (list-is c.args.table.now c.args.literal.now c.args.limit c.args.at c.requires c.args.scope c.stepped-begun.result (rooms c.args.literal.now c.args.binding_cells.now c.args.binding_text.now c.args.cells.now c.args.text.now) (shape-byte c.args.table.now c.args.literal.now c.args.at c.requires Shape.List (sym c.shape_at.ensures ∙ c.in-List.is) (omega arith)) c.count_at-count.ensures.0 c.begin.ensures c.in-At.is c.list_parts.ensures)
 
 pub eval::eval-shape_of-cells-in-Full-begin : goal.eval::eval-shape_of-cells-in-Full-begin
-eval::eval-shape_of-cells-in-Full-begin t c = c.begin-in-Map.auto.0
+eval::eval-shape_of-cells-in-Full-begin t c = c.begin-in-Map.auto.cells
 
 pub eval::eval-returns-in-Full-begin : goal.eval::eval-returns-in-Full-begin
 eval::eval-returns-in-Full-begin t c =
-    after-step c.args.table.now c.args.literal.now c.args.limit c.args.at c.args.t9 c.args.used (rooms c.args.literal.now c.args.binding_cells.now c.args.binding_text.now c.args.cells.now c.args.text.now) c.if-limit-used.false c.stepped-begun.ensures (map-full c.args.table.now c.args.literal.now c.args.limit c.args.at c.requires c.args.t9 c.stepped-begun.result (rooms c.args.literal.now c.args.binding_cells.now c.args.binding_text.now c.args.cells.now c.args.text.now) (shape-byte c.args.table.now c.args.literal.now c.args.at c.requires Shape.Map (sym c.shape_at.ensures ∙ c.in-Map.is) (omega arith)) c.count_at-count-in-Map.ensures.0 c.begin-in-Map.ensures c.in-Full-begin.is c.out_of_cells-in-Full-begin.ensures)
+    after-step c.args.table.now c.args.literal.now c.args.limit c.args.at c.args.scope c.args.used (rooms c.args.literal.now c.args.binding_cells.now c.args.binding_text.now c.args.cells.now c.args.text.now) c.if-limit-used.false c.stepped-begun.ensures (map-full c.args.table.now c.args.literal.now c.args.limit c.args.at c.requires c.args.scope c.stepped-begun.result (rooms c.args.literal.now c.args.binding_cells.now c.args.binding_text.now c.args.cells.now c.args.text.now) (shape-byte c.args.table.now c.args.literal.now c.args.at c.requires Shape.Map (sym c.shape_at.ensures ∙ c.in-Map.is) (omega arith)) c.count_at-count-in-Map.ensures.0 c.begin-in-Map.ensures c.in-Full-begin.is c.out_of_cells-in-Full-begin.ensures)
 
 pub eval::eval-shape_of-cells-in-At-begin : goal.eval::eval-shape_of-cells-in-At-begin
 eval::eval-shape_of-cells-in-At-begin t c =
-    c.map_parts.auto.1.1.1.1.0 ∙ c.begin-in-Map.auto.0
+    c.map_parts.auto.cells ∙ c.begin-in-Map.auto.cells
 
 pub eval::eval-shape_of-text-in-At-begin : goal.eval::eval-shape_of-text-in-At-begin
-eval::eval-shape_of-text-in-At-begin t c = c.map_parts.auto.1.1.1.1.1.0
+eval::eval-shape_of-text-in-At-begin t c = c.map_parts.auto.text
 
 pub eval::eval-returns-in-At-begin : goal.eval::eval-returns-in-At-begin
 eval::eval-returns-in-At-begin t c =
-    after-step c.args.table.now c.args.literal.now c.args.limit c.args.at c.args.t9 c.args.used (rooms c.args.literal.now c.args.binding_cells.now c.args.binding_text.now c.args.cells.now c.args.text.now) c.if-limit-used.false c.stepped-begun.ensures (map_is c.args.table.now c.args.literal.now c.args.limit c.args.at c.requires c.args.t9 c.stepped-begun.result (rooms c.args.literal.now c.args.binding_cells.now c.args.binding_text.now c.args.cells.now c.args.text.now) (shape-byte c.args.table.now c.args.literal.now c.args.at c.requires Shape.Map (sym c.shape_at.ensures ∙ c.in-Map.is) (omega arith)) c.count_at-count-in-Map.ensures.0 c.begin-in-Map.ensures c.in-At-begin.is c.map_parts.ensures)
+    after-step c.args.table.now c.args.literal.now c.args.limit c.args.at c.args.scope c.args.used (rooms c.args.literal.now c.args.binding_cells.now c.args.binding_text.now c.args.cells.now c.args.text.now) c.if-limit-used.false c.stepped-begun.ensures (map_is c.args.table.now c.args.literal.now c.args.limit c.args.at c.requires c.args.scope c.stepped-begun.result (rooms c.args.literal.now c.args.binding_cells.now c.args.binding_text.now c.args.cells.now c.args.text.now) (shape-byte c.args.table.now c.args.literal.now c.args.at c.requires Shape.Map (sym c.shape_at.ensures ∙ c.in-Map.is) (omega arith)) c.count_at-count-in-Map.ensures.0 c.begin-in-Map.ensures c.in-At-begin.is c.map_parts.ensures)
 
 pub eval::eval-shape_of-cells-in-Comprehension : goal.eval::eval-shape_of-cells-in-Comprehension
-eval::eval-shape_of-cells-in-Comprehension t c = c.comprehend.auto.1.1.1.1.0
+eval::eval-shape_of-cells-in-Comprehension t c = c.comprehend.auto.cells
 
 pub eval::eval-shape_of-text-in-Comprehension : goal.eval::eval-shape_of-text-in-Comprehension
-eval::eval-shape_of-text-in-Comprehension t c = c.comprehend.auto.1.1.1.1.1.0
+eval::eval-shape_of-text-in-Comprehension t c = c.comprehend.auto.text
 
 pub eval::eval-returns-in-Comprehension : goal.eval::eval-returns-in-Comprehension
 eval::eval-returns-in-Comprehension t c =
-    after-step c.args.table.now c.args.literal.now c.args.limit c.args.at c.args.t9 c.args.used (rooms c.args.literal.now c.args.binding_cells.now c.args.binding_text.now c.args.cells.now c.args.text.now) c.if-limit-used.false c.stepped-begun.ensures c.comprehend.ensures
-
-pub left-came : (t : ℕ) (c : Joined-reach_at) → Came c.args.table.now c.args.literal.now c.args.binding_cells.now c.args.binding_text.now c.args.limit (first_at c.args.table.now c.args.at c.in-Operands.fixed) c.args.scope c.stepped-begun.result c.args.cells.now c.args.text.now c.match-reach_at.left c.match-reach_at.cells c.match-reach_at.text
-left-came t c =
-    let long = (mapped-length c.args.t9.slots _ 128 c.well_formed.1.1.1.1.1.1.1.1.0.1.1.0.1.0.1) in
-    rw c.begun_first-one.ensures at (⊎_elim (λ w. came-slots c.args.table.now c.args.literal.now c.args.binding_cells.now c.args.binding_text.now c.args.limit c.begun_first-one.result c.args.t9 c.stepped-begun.result c.args.cells.now c.args.text.now long c.reach_at.ensures w.1.given.1 w.9.ensures w.9.kept.1.1.1.1.0 w.9.kept.1.1.1.1.1.0 w.14 w.15 w.16) (λ w. came-record c.args.table.now c.args.literal.now c.args.binding_cells.now c.args.binding_text.now c.args.limit c.begun_first-one.result c.args.t9 c.stepped-begun.result c.args.cells.now c.args.text.now w.4.ensures w.4.kept.1.1.1.1.0 w.4.kept.1.1.1.1.1.0 w.9 w.10 w.11) c.match-reach_at.branch)
-
-pub right-came : (t : ℕ) (c : Joined-reach_at-2) → Came c.args.table.now c.args.literal.now c.args.binding_cells.now c.args.binding_text.now c.args.limit c.in-At-after_first.two c.args.scope c.in-At-after_first.more c.after_first.new.1.1.1.1.0 c.match-reach_at.text c.match-reach_at-2.right c.match-reach_at-2.cells c.match-reach_at-2.text
-right-came t c =
-    let long = (mapped-length c.args.t9.slots _ 128 c.well_formed.1.1.1.1.1.1.1.1.0.1.1.0.1.0.1) in
-    ⊎_elim (λ w. came-slots c.args.table.now c.args.literal.now c.args.binding_cells.now c.args.binding_text.now c.args.limit c.in-At-after_first.two c.args.t9 c.in-At-after_first.more c.after_first.new.1.1.1.1.0 c.match-reach_at.text long c.reach_at-in-At-after_first.ensures w.1.given.1 w.9.ensures w.9.kept.1.1.1.1.0 w.9.kept.1.1.1.1.1.0 w.14 w.15 w.16) (λ w. came-record c.args.table.now c.args.literal.now c.args.binding_cells.now c.args.binding_text.now c.args.limit c.in-At-after_first.two c.args.t9 c.in-At-after_first.more c.after_first.new.1.1.1.1.0 c.match-reach_at.text w.4.ensures w.4.kept.1.1.1.1.0 w.4.kept.1.1.1.1.1.0 w.9 w.10 w.11) c.match-reach_at-2.branch
-
-pub eval-meets : {M : Type 1} (t : ℕ) → tie.Closed M
-eval-meets t =
-    tie.spec (eval-claims t)
-    (eval-at t)
-    eval.Post
-    (eval-out_of_steps-requires t)
-    (eval-returns t)
-    (eval-stepped-requires t)
-    (eval-shape_at-requires t)
-    (eval-enum_told t)
-    (eval-slot_at-requires t)
-    (eval-mul-leaf_value t)
-    (eval-element_copy_out-leaf_value t)
-    (eval-leaf_value-requires t)
-    (eval-enum_told-2 t)
-    (eval-enum_told-3 t)
-    (eval-count_at-requires t)
-    (eval-begin-requires t)
-    (eval-enum_told-4 t)
-    (eval-out_of_cells-requires t)
-    (eval-enum_known-first t)
-    (eval-list_parts-requires t)
-    (eval-enum_told-5 t)
-    (eval-count_at-requires-2 t)
-    (eval-mul-begin t)
-    (eval-begin-requires-2 t)
-    (eval-enum_told-6 t)
-    (eval-out_of_cells-requires-2 t)
-    (eval-enum_known-first-2 t)
-    (eval-map_parts-requires t)
-    (eval-enum_told-7 t)
-    (eval-comprehend-requires t)
-    (eval-enum_known-fixed t)
-    (eval-begun_first-requires t)
-    (eval-reach_at-requires t)
-    (eval-enum_known-first_slot t)
-    (eval-mul-reach t)
-    (eval-element_copy_out-reach t)
-    (eval-mul-reach-2 t)
-    (eval-element_copy_out-reach-2 t)
-    (eval-mul-reach-3 t)
-    (eval-element_copy_out-reach-3 t)
-    (eval-mul-reach-4 t)
-    (eval-element_copy_out-reach-4 t)
-    (eval-reach-requires t)
-    (eval-enum_told-8 t)
-    (eval-eval-requires t)
-    (eval-after_first-requires t)
-    (eval-enum_known-outcome t)
-    (eval-enum_known-two t)
-    (eval-reach_at-requires-2 t)
-    (eval-enum_known-first_slot-2 t)
-    (eval-mul-reach-5 t)
-    (eval-element_copy_out-reach-5 t)
-    (eval-mul-reach-6 t)
-    (eval-element_copy_out-reach-6 t)
-    (eval-mul-reach-7 t)
-    (eval-element_copy_out-reach-7 t)
-    (eval-mul-reach-8 t)
-    (eval-element_copy_out-reach-8 t)
-    (eval-reach-requires-2 t)
-    (eval-enum_told-9 t)
-    (eval-eval-requires-2 t)
-    (eval-after_both-requires t)
-    (eval-returns-2 t)
-    (eval-returns-3 t)
-    (eval-same_length t)
-    (eval-returns-4 t)
-    (eval-same_length-2 t)
-    (eval-same_length-3 t)
-    (eval-returns-5 t)
-    (eval-same_length-4 t)
-    (eval-returns-6 t)
-    (eval-same_length-5 t)
-    (eval-same_length-6 t)
-    (eval-returns-7 t)
-    (eval-same_length-7 t)
-    (eval-same_length-8 t)
-    (eval-returns-8 t)
-    (eval-same_length-9 t)
-    (eval-same_length-10 t)
-    (eval-returns-9 t)
-    (eval-same_length-11 t)
-    (eval-same_length-12 t)
-    (eval-returns-10 t)
+    after-step c.args.table.now c.args.literal.now c.args.limit c.args.at c.args.scope c.args.used (rooms c.args.literal.now c.args.binding_cells.now c.args.binding_text.now c.args.cells.now c.args.text.now) c.if-limit-used.false c.stepped-begun.ensures c.comprehend.ensures
 
 pub eval::eval-begun_first-one-requires : goal.eval::eval-begun_first-one-requires
 eval::eval-begun_first-one-requires t c =
@@ -771,7 +598,7 @@ eval::eval-eval-right-requires t c =
     let q = second_at c.args.table.now c.args.literal.now c.args.limit c.args.at x c.match-reach_at.left (rooms c.args.literal.now c.args.binding_cells.now c.args.binding_text.now c.match-reach_at.cells c.match-reach_at.text) c.after_first.ensures c.in-At-after_first.is in (omega (arith, q.1, c.requires.0), q.0)
 
 pub eval::eval-shape_of-cells-in-Stop : goal.eval::eval-shape_of-cells-in-Stop
-eval::eval-shape_of-cells-in-Stop t c = c.after_first.auto.1.1.1.1.0 ∙ (left-came t (goal.at.eval::eval-shape_of-cells-in-Stop t c).Joined-reach_at).kept
+eval::eval-shape_of-cells-in-Stop t c = c.after_first.auto.cells ∙ (left-came t (goal.at.eval::eval-shape_of-cells-in-Stop t c).Joined-reach_at).kept
 
 pub eval::eval-shape_of-text-in-Stop : goal.eval::eval-shape_of-text-in-Stop
 eval::eval-shape_of-text-in-Stop t c = (left-came t (goal.at.eval::eval-shape_of-text-in-Stop t c).Joined-reach_at).keptx
@@ -779,19 +606,19 @@ eval::eval-shape_of-text-in-Stop t c = (left-came t (goal.at.eval::eval-shape_of
 pub eval::eval-returns-in-Stop : goal.eval::eval-returns-in-Stop
 eval::eval-returns-in-Stop t c =
     let x = fixed-at c.args.table.now c.args.literal.now c.args.at c.requires c.in-Operands.fixed (sym c.shape_at.ensures ∙ c.in-Operands.is) in
-    after-step c.args.table.now c.args.literal.now c.args.limit c.args.at c.args.t9 c.args.used (rooms c.args.literal.now c.args.binding_cells.now c.args.binding_text.now c.args.cells.now c.args.text.now) c.if-limit-used.false c.stepped-begun.ensures (stops_first c.args.table.now c.args.literal.now c.args.limit c.args.at c.args.t9 c.stepped-begun.result (rooms c.args.literal.now c.args.binding_cells.now c.args.binding_text.now c.args.cells.now c.args.text.now) x (left-came t (goal.at.eval::eval-returns-in-Stop t c).Joined-reach_at).is c.after_first.ensures c.in-Stop.is)
+    after-step c.args.table.now c.args.literal.now c.args.limit c.args.at c.args.scope c.args.used (rooms c.args.literal.now c.args.binding_cells.now c.args.binding_text.now c.args.cells.now c.args.text.now) c.if-limit-used.false c.stepped-begun.ensures (stops_first c.args.table.now c.args.literal.now c.args.limit c.args.at c.args.scope c.stepped-begun.result (rooms c.args.literal.now c.args.binding_cells.now c.args.binding_text.now c.args.cells.now c.args.text.now) x (left-came t (goal.at.eval::eval-returns-in-Stop t c).Joined-reach_at).is c.after_first.ensures c.in-Stop.is)
 
 pub eval::eval-shape_of-cells-after-reach_at-2 : goal.eval::eval-shape_of-cells-after-reach_at-2
 eval::eval-shape_of-cells-after-reach_at-2 t c =
-    c.after_both.auto.1.1.1.0 ∙ ((right-came t (goal.at.eval::eval-shape_of-cells-after-reach_at-2 t c).Joined-reach_at-2).kept ∙ (c.after_first.auto.1.1.1.1.0 ∙ (left-came t (goal.at.eval::eval-shape_of-cells-after-reach_at-2 t c).Joined-reach_at).kept))
+    c.after_both.auto.cells ∙ ((right-came t (goal.at.eval::eval-shape_of-cells-after-reach_at-2 t c).Joined-reach_at-2).kept ∙ (c.after_first.auto.cells ∙ (left-came t (goal.at.eval::eval-shape_of-cells-after-reach_at-2 t c).Joined-reach_at).kept))
 
 pub eval::eval-shape_of-text-after-reach_at-2 : goal.eval::eval-shape_of-text-after-reach_at-2
-eval::eval-shape_of-text-after-reach_at-2 t c = c.after_both.auto.1.1.1.1.0 ∙ ((right-came t (goal.at.eval::eval-shape_of-text-after-reach_at-2 t c).Joined-reach_at-2).keptx ∙ (left-came t (goal.at.eval::eval-shape_of-text-after-reach_at-2 t c).Joined-reach_at).keptx)
+eval::eval-shape_of-text-after-reach_at-2 t c = c.after_both.auto.text ∙ ((right-came t (goal.at.eval::eval-shape_of-text-after-reach_at-2 t c).Joined-reach_at-2).keptx ∙ (left-came t (goal.at.eval::eval-shape_of-text-after-reach_at-2 t c).Joined-reach_at).keptx)
 
 pub eval::eval-returns-after-reach_at-2 : goal.eval::eval-returns-after-reach_at-2
 eval::eval-returns-after-reach_at-2 t c =
     let x = fixed-at c.args.table.now c.args.literal.now c.args.at c.requires c.in-Operands.fixed (sym c.shape_at.ensures ∙ c.in-Operands.is) in
-    after-step c.args.table.now c.args.literal.now c.args.limit c.args.at c.args.t9 c.args.used (rooms c.args.literal.now c.args.binding_cells.now c.args.binding_text.now c.args.cells.now c.args.text.now) c.if-limit-used.false c.stepped-begun.ensures (joins-both c.args.table.now c.args.literal.now c.args.limit c.args.at c.args.t9 c.stepped-begun.result (rooms c.args.literal.now c.args.binding_cells.now c.args.binding_text.now c.args.cells.now c.args.text.now) x (left-came t (goal.at.eval::eval-returns-after-reach_at-2 t c).Joined-reach_at).is c.after_first.ensures c.in-At-after_first.is (right-came t (goal.at.eval::eval-returns-after-reach_at-2 t c).Joined-reach_at-2).is c.after_both.ensures)
+    after-step c.args.table.now c.args.literal.now c.args.limit c.args.at c.args.scope c.args.used (rooms c.args.literal.now c.args.binding_cells.now c.args.binding_text.now c.args.cells.now c.args.text.now) c.if-limit-used.false c.stepped-begun.ensures (joins-both c.args.table.now c.args.literal.now c.args.limit c.args.at c.args.scope c.stepped-begun.result (rooms c.args.literal.now c.args.binding_cells.now c.args.binding_text.now c.args.cells.now c.args.text.now) x (left-came t (goal.at.eval::eval-returns-after-reach_at-2 t c).Joined-reach_at).is c.after_first.ensures c.in-At-after_first.is (right-came t (goal.at.eval::eval-returns-after-reach_at-2 t c).Joined-reach_at-2).is c.after_both.ensures)
 
 pub comprehension::finish-is_leaf-requires : goal.comprehension::finish-is_leaf-requires
 comprehension::finish-is_leaf-requires t c =
@@ -814,43 +641,21 @@ comprehension::finish-eval-requires t c =
 
 pub comprehension::finish-returns-in-Held : goal.comprehension::finish-returns-in-Held
 comprehension::finish-returns-in-Held t c =
-    held-is (machine c.args.table.now c.args.limit (expr_of c.args.table.now c.args.literal.now c.args.result)) c.in-Held.is c.args.t9 c.args.used (rooms c.args.literal.now c.args.binding_cells.now c.args.binding_text.now c.args.cells.now c.args.text.now)
+    held-is (machine c.args.table.now c.args.limit (expr_of c.args.table.now c.args.literal.now c.args.result)) c.in-Held.is c.args.scope c.args.used (rooms c.args.literal.now c.args.binding_cells.now c.args.binding_text.now c.args.cells.now c.args.text.now)
 
 pub comprehension::finish-returns-then-is_leaf : goal.comprehension::finish-returns-then-is_leaf
 comprehension::finish-returns-then-is_leaf t c =
-    result-is (machine c.args.table.now c.args.limit (expr_of c.args.table.now c.args.literal.now c.args.result)) c.in-Nothing.is c.args.t9 c.args.used (rooms c.args.literal.now c.args.binding_cells.now c.args.binding_text.now c.args.cells.now c.args.text.now) (leaf-does c.args.table.now c.args.literal.now c.args.limit c.args.result c.requires c.args.t9 c.args.used (mapped-length c.args.t9.slots _ 128 c.well_formed.1.1.1.1.1.1.1.1.0.1.1.0.1.0.1) (leaf-here c.args.table.now c.args.result c.is_leaf.ensures c.if-is_leaf.true) c.slot_at-slot.ensures c.leaf.ensures (rooms c.args.literal.now c.args.binding_cells.now c.args.binding_text.now c.args.cells.now c.args.text.now))
+    result-is (machine c.args.table.now c.args.limit (expr_of c.args.table.now c.args.literal.now c.args.result)) c.in-Nothing.is c.args.scope c.args.used (rooms c.args.literal.now c.args.binding_cells.now c.args.binding_text.now c.args.cells.now c.args.text.now) (leaf-does c.args.table.now c.args.literal.now c.args.limit c.args.result c.requires c.args.scope c.args.used (c.well_formed.1.1.1.1.1.1.1.1.0.1.1.0.1.0.1) (leaf-here c.args.table.now c.args.result c.is_leaf.ensures c.if-is_leaf.true) c.slot_at-slot.ensures c.leaf.ensures (rooms c.args.literal.now c.args.binding_cells.now c.args.binding_text.now c.args.cells.now c.args.text.now))
 
 pub comprehension::finish-shape_of-cells : goal.comprehension::finish-shape_of-cells
-comprehension::finish-shape_of-cells t c = c.eval.auto.1.1.1.1.0
+comprehension::finish-shape_of-cells t c = c.eval.auto.cells
 
 pub comprehension::finish-shape_of-text : goal.comprehension::finish-shape_of-text
-comprehension::finish-shape_of-text t c = c.eval.auto.1.1.1.1.1.0
+comprehension::finish-shape_of-text t c = c.eval.auto.text
 
 pub comprehension::finish-returns-else-is_leaf : goal.comprehension::finish-returns-else-is_leaf
 comprehension::finish-returns-else-is_leaf t c =
-    result-is (machine c.args.table.now c.args.limit (expr_of c.args.table.now c.args.literal.now c.args.result)) c.in-Nothing.is c.args.t9 c.args.used (rooms c.args.literal.now c.args.binding_cells.now c.args.binding_text.now c.args.cells.now c.args.text.now) c.eval.ensures
-
-pub finish-meets : {M : Type 1} (t : ℕ) → tie.Closed M
-finish-meets t =
-    tie.spec (finish-claims t)
-    (finish-at t)
-    finish.Post
-    (finish-enum_known-held t)
-    (finish-enum_told t)
-    (finish-is_leaf-requires t)
-    (finish-slot_at-requires t)
-    (finish-mul-leaf t)
-    (finish-element_copy_out-leaf t)
-    (finish-leaf-requires t)
-    (finish-eval-requires t)
-    (finish-returns t)
-    (finish-returns-2 t)
-    (finish-same_length t)
-    (finish-same_length-2 t)
-    (finish-returns-3 t)
-
-abbrev pub turns_at : ℕ → In 6 turns-kinds.ps
-turns_at t = and 6 turns-kinds.ps (is 6 turns-kinds.ps μ-turns t) turns.Pre
+    result-is (machine c.args.table.now c.args.limit (expr_of c.args.table.now c.args.literal.now c.args.result)) c.in-Nothing.is c.args.scope c.args.used (rooms c.args.literal.now c.args.binding_cells.now c.args.binding_text.now c.args.cells.now c.args.text.now) c.eval.ensures
 
 pub list_records::list_parts-first_operand-place-requires : goal.list_records::list_parts-first_operand-place-requires
 list_records::list_parts-first_operand-place-requires t c =
@@ -858,7 +663,7 @@ list_records::list_parts-first_operand-place-requires t c =
 
 pub list_records::list_parts-loop-left-init : goal.list_records::list_parts-loop-left-init
 list_records::list_parts-loop-left-init t c =
-    list-begins c.args.table.now c.args.literal.now c.args.binding_cells.now c.args.binding_text.now c.args.cells.now c.args.text.now c.args.limit c.args.at c.args.first c.args.count c.args.t9 c.args.used c.requires.0 c.requires.1 c.requires.2 c.first_operand-place.ensures
+    list-begins c.args.table.now c.args.literal.now c.args.binding_cells.now c.args.binding_text.now c.args.cells.now c.args.text.now c.args.limit c.args.at c.args.first c.args.count c.args.scope c.args.used c.requires.0 c.requires.1 c.requires.2 c.first_operand-place.ensures
 
 pub list_records::list_parts-is_marked-marked-requires : goal.list_records::list_parts-is_marked-marked-requires
 list_records::list_parts-is_marked-marked-requires t c =
@@ -900,7 +705,7 @@ list_records::list_parts-shape_of-text-in_default t c = (element-came t (goal.at
 pub list_records::list_parts-returns-in_default : goal.list_records::list_parts-returns-in_default
 list_records::list_parts-returns-in_default t c =
     let f = element-next c.args.table.now c.args.literal.now c.args.at c.loop-left.left c.loop-left.place c.loop-left-test.true c.loop-left.invariant.row in
-    element-stops c.args.table.now c.args.literal.now c.args.limit c.args.first c.args.t9 c.loop-left.left c.loop-left.place c.loop-left-test.true f.sound c.loop-left.ready c.loop-left.spent (rooms c.args.literal.now c.args.binding_cells.now c.args.binding_text.now c.loop-left.cells c.loop-left.text) (element-came t (goal.at.list_records::list_parts-returns-in_default t c).Joined-is_leaf).is c.in_default.in_default-own.keys2 ∙ c.loop-left.invariant.same
+    element-stops c.args.table.now c.args.literal.now c.args.limit c.args.first c.args.scope c.loop-left.left c.loop-left.place c.loop-left-test.true f.sound c.loop-left.ready c.loop-left.spent (rooms c.args.literal.now c.args.binding_cells.now c.args.binding_text.now c.loop-left.cells c.loop-left.text) (element-came t (goal.at.list_records::list_parts-returns-in_default t c).Joined-is_leaf).is c.in_default.in_default-own.keys2 ∙ c.loop-left.invariant.same
 
 pub list_records::list_parts-add_element-ready-requires : goal.list_records::list_parts-add_element-ready-requires
 list_records::list_parts-add_element-ready-requires t c =
@@ -914,7 +719,7 @@ pub list_records::list_parts-loop-left-preserved : goal.list_records::list_parts
 list_records::list_parts-loop-left-preserved t c =
     let placed = element-came t (goal.at.list_records::list_parts-loop-left-preserved t c).Joined-is_leaf in
     let f = element-next c.args.table.now c.args.literal.now c.args.at c.loop-left.left c.loop-left.place c.loop-left-test.true c.loop-left.invariant.row in
-    rw c.end_at-place.ensures (record { row = f.rest; kept = c.add_element-ready.auto.1.0 ∙ (placed.kept ∙ c.loop-left.invariant.kept); keptx = placed.keptx ∙ c.loop-left.invariant.keptx; room = let n = added-count (part_in (rooms c.args.literal.now c.args.binding_cells.now c.args.binding_text.now c.if-is_leaf.cells c.if-is_leaf.text) c.is_marked-marked.result c.in-Value.v) c.args.first c.loop-left.ready c.if-is_leaf.cells (c.add_element-ready.ensures c.args.literal.now c.args.binding_text.now c.if-is_leaf.text) in omega (arith, n, c.loop-left.invariant.room, c.loop-left-test.true); same = element-again c.args.table.now c.args.literal.now c.args.limit c.args.first c.args.t9 c.loop-left.left c.loop-left.place c.loop-left-test.true f.sound c.loop-left.ready c.loop-left.spent (rooms c.args.literal.now c.args.binding_cells.now c.args.binding_text.now c.loop-left.cells c.loop-left.text) placed.is c.in-Value.is c.is_marked-marked.ensures (c.add_element-ready.ensures c.args.literal.now c.args.binding_text.now c.if-is_leaf.text) ∙ c.loop-left.invariant.same })
+    rw c.end_at-place.ensures (record { row = f.rest; kept = c.add_element-ready.auto.cells ∙ (placed.kept ∙ c.loop-left.invariant.kept); keptx = placed.keptx ∙ c.loop-left.invariant.keptx; room = let n = added-count (part_in (rooms c.args.literal.now c.args.binding_cells.now c.args.binding_text.now c.if-is_leaf.cells c.if-is_leaf.text) c.is_marked-marked.result c.in-Value.v) c.args.first c.loop-left.ready c.if-is_leaf.cells (c.add_element-ready.ensures c.args.literal.now c.args.binding_text.now c.if-is_leaf.text) in omega (arith, n, c.loop-left.invariant.room, c.loop-left-test.true); same = element-again c.args.table.now c.args.literal.now c.args.limit c.args.first c.args.scope c.loop-left.left c.loop-left.place c.loop-left-test.true f.sound c.loop-left.ready c.loop-left.spent (rooms c.args.literal.now c.args.binding_cells.now c.args.binding_text.now c.loop-left.cells c.loop-left.text) placed.is c.in-Value.is c.is_marked-marked.ensures (c.add_element-ready.ensures c.args.literal.now c.args.binding_text.now c.if-is_leaf.text) ∙ c.loop-left.invariant.same })
 
 pub list_records::list_parts-whole_list-requires : goal.list_records::list_parts-whole_list-requires
 list_records::list_parts-whole_list-requires t c = omega (arith, c.loop-left.invariant.room)
@@ -927,45 +732,7 @@ list_records::list_parts-shape_of-text t c = c.loop-left.invariant.keptx
 
 pub list_records::list_parts-returns : goal.list_records::list_parts-returns
 list_records::list_parts-returns t c =
-    ap (λ o. (o, rooms c.args.literal.now c.args.binding_cells.now c.args.binding_text.now c.loop-left.cells c.loop-left.text)) c.whole_list.ensures ∙ (sym (no-element c.args.table.now c.args.literal.now c.args.limit c.args.first c.args.t9 c.loop-left.left c.loop-left.place (omega arith) c.loop-left.ready c.loop-left.spent (rooms c.args.literal.now c.args.binding_cells.now c.args.binding_text.now c.loop-left.cells c.loop-left.text)) ∙ c.loop-left.invariant.same)
-
-pub element-came : (t : ℕ) (c : Joined-is_leaf) → Came c.args.table.now c.args.literal.now c.args.binding_cells.now c.args.binding_text.now c.args.limit (unmarked_at c.args.table.now c.loop-left.place) c.args.scope c.loop-left.spent c.loop-left.cells c.loop-left.text c.if-is_leaf.part c.if-is_leaf.cells c.if-is_leaf.text
-element-came t c =
-    let f = element-next c.args.table.now c.args.literal.now c.args.at c.loop-left.left c.loop-left.place c.loop-left-test.true c.loop-left.invariant.row in
-    let s = rw (sym c.unmarked-element.ensures) at f.part.sound in
-    let long = (mapped-length c.args.t9.slots _ 128 c.well_formed.1.1.1.1.1.1.1.1.0.1.1.0.1.0.1) in
-    rw c.unmarked-element.ensures at (⊎_elim (λ w. came-leaf c.args.table.now c.args.literal.now c.args.binding_cells.now c.args.binding_text.now c.args.limit c.unmarked-element.result c.args.t9 c.loop-left.spent c.loop-left.cells c.loop-left.text s long (leaf-here c.args.table.now c.unmarked-element.result c.is_leaf.ensures w.0.taken) w.1.ensures w.3.ensures w.4 w.5 w.6) (λ w. came-record c.args.table.now c.args.literal.now c.args.binding_cells.now c.args.binding_text.now c.args.limit c.unmarked-element.result c.args.t9 c.loop-left.spent c.loop-left.cells c.loop-left.text w.3.ensures w.3.kept.1.1.1.1.0 w.3.kept.1.1.1.1.1.0 w.8 w.9 w.10) c.if-is_leaf.branch)
-
-pub list-parts-meets : {M : Type 1} (t : ℕ) → tie.Closed M
-list-parts-meets t =
-    tie.spec (list_parts-claims t)
-    (list_parts-at t)
-    list-parts.Post
-    list_parts-Inv-loop
-    list_parts-μ-loop
-    (list_parts-first_operand-requires t)
-    (list_parts-loop-holds t)
-    (list_parts-is_marked-requires t)
-    (list_parts-unmarked-requires t)
-    (list_parts-is_leaf-requires t)
-    (list_parts-slot_at-requires t)
-    (list_parts-mul-leaf t)
-    (list_parts-element_copy_out-leaf t)
-    (list_parts-leaf-requires t)
-    (list_parts-eval-requires t)
-    (list_parts-enum_known-part t)
-    (list_parts-same_length t)
-    (list_parts-same_length-2 t)
-    (list_parts-returns t)
-    (list_parts-add_element-requires t)
-    (list_parts-end_at-requires t)
-    (list_parts-sub-left t)
-    (list_parts-loop-less t)
-    (list_parts-loop-again t)
-    (list_parts-whole_list-requires t)
-    (list_parts-same_length-3 t)
-    (list_parts-same_length-4 t)
-    (list_parts-returns-2 t)
+    ap (λ o. (o, rooms c.args.literal.now c.args.binding_cells.now c.args.binding_text.now c.loop-left.cells c.loop-left.text)) c.whole_list.ensures ∙ (sym (no-element c.args.table.now c.args.literal.now c.args.limit c.args.first c.args.scope c.loop-left.left c.loop-left.place (omega arith) c.loop-left.ready c.loop-left.spent (rooms c.args.literal.now c.args.binding_cells.now c.args.binding_text.now c.loop-left.cells c.loop-left.text)) ∙ c.loop-left.invariant.same)
 
 pub map_records::map_parts-first_operand-place-requires : goal.map_records::map_parts-first_operand-place-requires
 map_records::map_parts-first_operand-place-requires t c =
@@ -973,7 +740,7 @@ map_records::map_parts-first_operand-place-requires t c =
 
 pub map_records::map_parts-loop-left-init : goal.map_records::map_parts-loop-left-init
 map_records::map_parts-loop-left-init t c =
-    map-begins c.args.table.now c.args.literal.now c.args.binding_cells.now c.args.binding_text.now c.args.cells.now c.args.text.now c.args.limit c.args.at c.args.first c.args.count c.args.t9 c.args.used c.requires.0 c.requires.1 c.requires.2 c.first_operand-place.ensures
+    map-begins c.args.table.now c.args.literal.now c.args.binding_cells.now c.args.binding_text.now c.args.cells.now c.args.text.now c.args.limit c.args.at c.args.first c.args.count c.args.scope c.args.used c.requires.0 c.requires.1 c.requires.2 c.first_operand-place.ensures
 
 pub map_records::map_parts-is_leaf-requires : goal.map_records::map_parts-is_leaf-requires
 map_records::map_parts-is_leaf-requires t c =
@@ -1005,7 +772,7 @@ map_records::map_parts-shape_of-text-in-Ends t c =
 pub map_records::map_parts-returns-in-Ends : goal.map_records::map_parts-returns-in-Ends
 map_records::map_parts-returns-in-Ends t c =
     let f = entry_next c.args.table.now c.args.literal.now c.args.at c.loop-left.left c.loop-left.place c.loop-left-test.true c.loop-left.invariant.row in
-    key-ends c.args.table.now c.args.literal.now c.args.limit c.args.at c.args.first c.args.t9 c.loop-left.left c.loop-left.place c.loop-left-test.true f.sound c.loop-left.ready c.loop-left.spent (rooms c.args.literal.now c.args.binding_cells.now c.args.binding_text.now c.loop-left.cells c.loop-left.text) (key-came t (goal.at.map_records::map_parts-returns-in-Ends t c).Joined-is_leaf).is c.key_of.ensures c.in-Ends.is ∙ c.loop-left.invariant.same
+    key-ends c.args.table.now c.args.literal.now c.args.limit c.args.at c.args.first c.args.scope c.loop-left.left c.loop-left.place c.loop-left-test.true f.sound c.loop-left.ready c.loop-left.spent (rooms c.args.literal.now c.args.binding_cells.now c.args.binding_text.now c.loop-left.cells c.loop-left.text) (key-came t (goal.at.map_records::map_parts-returns-in-Ends t c).Joined-is_leaf).is c.key_of.ensures c.in-Ends.is ∙ c.loop-left.invariant.same
 
 pub map_records::map_parts-end_at-second-requires : goal.map_records::map_parts-end_at-second-requires
 map_records::map_parts-end_at-second-requires t c =
@@ -1057,7 +824,7 @@ map_records::map_parts-shape_of-text-in_default t c =
 pub map_records::map_parts-returns-in_default : goal.map_records::map_parts-returns-in_default
 map_records::map_parts-returns-in_default t c =
     let f = entry_next c.args.table.now c.args.literal.now c.args.at c.loop-left.left c.loop-left.place c.loop-left-test.true c.loop-left.invariant.row in
-    value-stops c.args.table.now c.args.literal.now c.args.limit c.args.at c.args.first c.args.t9 c.loop-left.left c.loop-left.place c.loop-left-test.true f.sound c.loop-left.ready c.loop-left.spent (rooms c.args.literal.now c.args.binding_cells.now c.args.binding_text.now c.loop-left.cells c.loop-left.text) (key-came t (goal.at.map_records::map_parts-returns-in_default t c).Joined-is_leaf).is c.key_of.ensures c.in-Is.is (value-came t (goal.at.map_records::map_parts-returns-in_default t c).Joined-is_leaf-2).is c.in_default.in_default-own.keys2 ∙ c.loop-left.invariant.same
+    value-stops c.args.table.now c.args.literal.now c.args.limit c.args.at c.args.first c.args.scope c.loop-left.left c.loop-left.place c.loop-left-test.true f.sound c.loop-left.ready c.loop-left.spent (rooms c.args.literal.now c.args.binding_cells.now c.args.binding_text.now c.loop-left.cells c.loop-left.text) (key-came t (goal.at.map_records::map_parts-returns-in_default t c).Joined-is_leaf).is c.key_of.ensures c.in-Is.is (value-came t (goal.at.map_records::map_parts-returns-in_default t c).Joined-is_leaf-2).is c.in_default.in_default-own.keys2 ∙ c.loop-left.invariant.same
 
 pub map_records::map_parts-end_at-place-requires : goal.map_records::map_parts-end_at-place-requires
 map_records::map_parts-end_at-place-requires t c =
@@ -1069,7 +836,7 @@ map_records::map_parts-add_entry-requires t c =
 
 pub map_records::map_parts-shape_of-cells-in-Ends-add_entry : goal.map_records::map_parts-shape_of-cells-in-Ends-add_entry
 map_records::map_parts-shape_of-cells-in-Ends-add_entry t c =
-    c.add_entry.auto.1.1.1.0 ∙ ((value-came t (goal.at.map_records::map_parts-shape_of-cells-in-Ends-add_entry t c).Joined-is_leaf-2).kept ∙ ((key-came t (goal.at.map_records::map_parts-shape_of-cells-in-Ends-add_entry t c).Joined-is_leaf).kept ∙ c.loop-left.invariant.kept))
+    c.add_entry.auto.cells ∙ ((value-came t (goal.at.map_records::map_parts-shape_of-cells-in-Ends-add_entry t c).Joined-is_leaf-2).kept ∙ ((key-came t (goal.at.map_records::map_parts-shape_of-cells-in-Ends-add_entry t c).Joined-is_leaf).kept ∙ c.loop-left.invariant.kept))
 
 pub map_records::map_parts-shape_of-text-in-Ends-add_entry : goal.map_records::map_parts-shape_of-text-in-Ends-add_entry
 map_records::map_parts-shape_of-text-in-Ends-add_entry t c =
@@ -1078,7 +845,7 @@ map_records::map_parts-shape_of-text-in-Ends-add_entry t c =
 pub map_records::map_parts-returns-in-Ends-add_entry : goal.map_records::map_parts-returns-in-Ends-add_entry
 map_records::map_parts-returns-in-Ends-add_entry t c =
     let f = entry_next c.args.table.now c.args.literal.now c.args.at c.loop-left.left c.loop-left.place c.loop-left-test.true c.loop-left.invariant.row in
-    entry-ends c.args.table.now c.args.literal.now c.args.limit c.args.at c.args.first c.args.t9 c.loop-left.left c.loop-left.place c.loop-left-test.true f.sound c.loop-left.ready c.loop-left.spent (rooms c.args.literal.now c.args.binding_cells.now c.args.binding_text.now c.loop-left.cells c.loop-left.text) (key-came t (goal.at.map_records::map_parts-returns-in-Ends-add_entry t c).Joined-is_leaf).is c.key_of.ensures c.in-Is.is (value-came t (goal.at.map_records::map_parts-returns-in-Ends-add_entry t c).Joined-is_leaf-2).is c.in-Value.is (c.is_marked-marked.ensures ∙ ap (λ (n : ℕ). eqb (get_or c.args.table.now n 0) 14) c.end_at-second.ensures) c.add_entry.ensures c.in-Ends-add_entry.is ∙ c.loop-left.invariant.same
+    entry-ends c.args.table.now c.args.literal.now c.args.limit c.args.at c.args.first c.args.scope c.loop-left.left c.loop-left.place c.loop-left-test.true f.sound c.loop-left.ready c.loop-left.spent (rooms c.args.literal.now c.args.binding_cells.now c.args.binding_text.now c.loop-left.cells c.loop-left.text) (key-came t (goal.at.map_records::map_parts-returns-in-Ends-add_entry t c).Joined-is_leaf).is c.key_of.ensures c.in-Is.is (value-came t (goal.at.map_records::map_parts-returns-in-Ends-add_entry t c).Joined-is_leaf-2).is c.in-Value.is (c.is_marked-marked.ensures ∙ ap (λ (n : ℕ). eqb (get_or c.args.table.now n 0) 14) c.end_at-second.ensures) c.add_entry.ensures c.in-Ends-add_entry.is ∙ c.loop-left.invariant.same
 
 pub map_records::map_parts-loop-left-smaller : goal.map_records::map_parts-loop-left-smaller
 map_records::map_parts-loop-left-smaller t c =
@@ -1089,7 +856,7 @@ map_records::map_parts-loop-left-preserved t c =
     let valued = value-came t (goal.at.map_records::map_parts-loop-left-preserved t c).Joined-is_leaf-2 in
     let keyed = key-came t (goal.at.map_records::map_parts-loop-left-preserved t c).Joined-is_leaf in
     let f = entry_next c.args.table.now c.args.literal.now c.args.at c.loop-left.left c.loop-left.place c.loop-left-test.true c.loop-left.invariant.row in
-    rw (c.end_at-place.ensures, c.end_at-second.ensures) (record { row = f.rest; kept = c.add_entry.auto.1.1.1.0 ∙ (valued.kept ∙ (keyed.kept ∙ c.loop-left.invariant.kept)); keptx = valued.keptx ∙ (keyed.keptx ∙ c.loop-left.invariant.keptx); room = let n = entered-count (part_in (rooms c.args.literal.now c.args.binding_cells.now c.args.binding_text.now c.if-is_leaf-2.cells c.if-is_leaf-2.text) c.is_marked-marked.result c.in-Value.v) c.args.limit c.args.at c.args.first c.loop-left.ready c.in-Is.key c.in-Value.more (rooms c.args.literal.now c.args.binding_cells.now c.args.binding_text.now c.if-is_leaf-2.cells c.if-is_leaf-2.text) c.add_entry.ensures c.in-Made.is in omega (arith, n, c.loop-left.invariant.room, c.loop-left-test.true); same = entry-again c.args.table.now c.args.literal.now c.args.limit c.args.at c.args.first c.args.t9 c.loop-left.left c.loop-left.place c.loop-left-test.true f.sound c.loop-left.ready c.loop-left.spent (rooms c.args.literal.now c.args.binding_cells.now c.args.binding_text.now c.loop-left.cells c.loop-left.text) keyed.is c.key_of.ensures c.in-Is.is valued.is c.in-Value.is (c.is_marked-marked.ensures ∙ ap (λ (n : ℕ). eqb (get_or c.args.table.now n 0) 14) c.end_at-second.ensures) c.add_entry.ensures c.in-Made.is ∙ c.loop-left.invariant.same })
+    rw (c.end_at-place.ensures, c.end_at-second.ensures) (record { row = f.rest; kept = c.add_entry.auto.cells ∙ (valued.kept ∙ (keyed.kept ∙ c.loop-left.invariant.kept)); keptx = valued.keptx ∙ (keyed.keptx ∙ c.loop-left.invariant.keptx); room = let n = entered-count (part_in (rooms c.args.literal.now c.args.binding_cells.now c.args.binding_text.now c.if-is_leaf-2.cells c.if-is_leaf-2.text) c.is_marked-marked.result c.in-Value.v) c.args.limit c.args.at c.args.first c.loop-left.ready c.in-Is.key c.in-Value.more (rooms c.args.literal.now c.args.binding_cells.now c.args.binding_text.now c.if-is_leaf-2.cells c.if-is_leaf-2.text) c.add_entry.ensures c.in-Made.is in omega (arith, n, c.loop-left.invariant.room, c.loop-left-test.true); same = entry-again c.args.table.now c.args.literal.now c.args.limit c.args.at c.args.first c.args.scope c.loop-left.left c.loop-left.place c.loop-left-test.true f.sound c.loop-left.ready c.loop-left.spent (rooms c.args.literal.now c.args.binding_cells.now c.args.binding_text.now c.loop-left.cells c.loop-left.text) keyed.is c.key_of.ensures c.in-Is.is valued.is c.in-Value.is (c.is_marked-marked.ensures ∙ ap (λ (n : ℕ). eqb (get_or c.args.table.now n 0) 14) c.end_at-second.ensures) c.add_entry.ensures c.in-Made.is ∙ c.loop-left.invariant.same })
 
 pub map_records::map_parts-whole_map-requires : goal.map_records::map_parts-whole_map-requires
 map_records::map_parts-whole_map-requires t c = omega (arith, c.loop-left.invariant.room)
@@ -1102,70 +869,7 @@ map_records::map_parts-shape_of-text t c = c.loop-left.invariant.keptx
 
 pub map_records::map_parts-returns : goal.map_records::map_parts-returns
 map_records::map_parts-returns t c =
-    ap (λ o. (o, rooms c.args.literal.now c.args.binding_cells.now c.args.binding_text.now c.loop-left.cells c.loop-left.text)) c.whole_map.ensures ∙ (sym (no-entry c.args.table.now c.args.literal.now c.args.limit c.args.at c.args.first c.args.t9 c.loop-left.left c.loop-left.place (omega arith) c.loop-left.ready c.loop-left.spent (rooms c.args.literal.now c.args.binding_cells.now c.args.binding_text.now c.loop-left.cells c.loop-left.text)) ∙ c.loop-left.invariant.same)
-
-pub key-came : (t : ℕ) (c : Joined-is_leaf) → Came c.args.table.now c.args.literal.now c.args.binding_cells.now c.args.binding_text.now c.args.limit c.loop-left.place c.args.scope c.loop-left.spent c.loop-left.cells c.loop-left.text c.if-is_leaf.one c.if-is_leaf.cells c.if-is_leaf.text
-key-came t c =
-    let f = entry_next c.args.table.now c.args.literal.now c.args.at c.loop-left.left c.loop-left.place c.loop-left-test.true c.loop-left.invariant.row in
-    let long = (mapped-length c.args.t9.slots _ 128 c.well_formed.1.1.1.1.1.1.1.1.0.1.1.0.1.0.1) in
-    ⊎_elim (λ w. came-leaf c.args.table.now c.args.literal.now c.args.binding_cells.now c.args.binding_text.now c.args.limit c.loop-left.place c.args.t9 c.loop-left.spent c.loop-left.cells c.loop-left.text f.key long (leaf-here c.args.table.now c.loop-left.place c.is_leaf.ensures w.0.taken) w.1.ensures w.3.ensures w.4 w.5 w.6) (λ w. came-record c.args.table.now c.args.literal.now c.args.binding_cells.now c.args.binding_text.now c.args.limit c.loop-left.place c.args.t9 c.loop-left.spent c.loop-left.cells c.loop-left.text w.3.ensures w.3.kept.1.1.1.1.0 w.3.kept.1.1.1.1.1.0 w.8 w.9 w.10) c.if-is_leaf.branch
-
-pub value-came : (t : ℕ) (c : Joined-is_leaf-2) → Came c.args.table.now c.args.literal.now c.args.binding_cells.now c.args.binding_text.now c.args.limit (unmarked_at c.args.table.now (after c.args.table.now c.loop-left.place)) c.args.scope c.in-Is.going c.if-is_leaf.cells c.if-is_leaf.text c.if-is_leaf-2.part c.if-is_leaf-2.cells c.if-is_leaf-2.text
-value-came t c =
-    let f = entry_next c.args.table.now c.args.literal.now c.args.at c.loop-left.left c.loop-left.place c.loop-left-test.true c.loop-left.invariant.row in
-    let u2 : c.unmarked-element.result ≡ unmarked_at c.args.table.now (after c.args.table.now c.loop-left.place) = c.unmarked-element.ensures ∙ ap (λ (n : ℕ). unmarked_at c.args.table.now n) c.end_at-second.ensures in
-    let s = rw (sym u2) at f.part.sound in
-    let long = (mapped-length c.args.t9.slots _ 128 c.well_formed.1.1.1.1.1.1.1.1.0.1.1.0.1.0.1) in
-    rw u2 at (⊎_elim (λ w. came-leaf c.args.table.now c.args.literal.now c.args.binding_cells.now c.args.binding_text.now c.args.limit c.unmarked-element.result c.args.t9 c.in-Is.going c.if-is_leaf.cells c.if-is_leaf.text s long (leaf-here c.args.table.now c.unmarked-element.result c.is_leaf-in-Is.ensures w.0.taken) w.1.ensures w.3.ensures w.4 w.5 w.6) (λ w. came-record c.args.table.now c.args.literal.now c.args.binding_cells.now c.args.binding_text.now c.args.limit c.unmarked-element.result c.args.t9 c.in-Is.going c.if-is_leaf.cells c.if-is_leaf.text w.3.ensures w.3.kept.1.1.1.1.0 w.3.kept.1.1.1.1.1.0 w.8 w.9 w.10) c.if-is_leaf-2.branch)
-
-pub map-parts-meets : {M : Type 1} (t : ℕ) → tie.Closed M
-map-parts-meets t =
-    tie.spec (map_parts-claims t)
-    (map_parts-at t)
-    map-parts.Post
-    map_parts-Inv-loop
-    map_parts-μ-loop
-    (map_parts-first_operand-requires t)
-    (map_parts-loop-holds t)
-    (map_parts-is_leaf-requires t)
-    (map_parts-slot_at-requires t)
-    (map_parts-mul-leaf t)
-    (map_parts-element_copy_out-leaf t)
-    (map_parts-leaf-requires t)
-    (map_parts-eval-requires t)
-    (map_parts-key_of-requires t)
-    (map_parts-enum_known-outcome t)
-    (map_parts-same_length t)
-    (map_parts-same_length-2 t)
-    (map_parts-returns t)
-    (map_parts-enum_known-key t)
-    (map_parts-end_at-requires t)
-    (map_parts-is_marked-requires t)
-    (map_parts-unmarked-requires t)
-    (map_parts-is_leaf-requires-2 t)
-    (map_parts-slot_at-requires-2 t)
-    (map_parts-mul-leaf-2 t)
-    (map_parts-element_copy_out-leaf-2 t)
-    (map_parts-leaf-requires-2 t)
-    (map_parts-eval-requires-2 t)
-    (map_parts-enum_known-part t)
-    (map_parts-same_length-3 t)
-    (map_parts-same_length-4 t)
-    (map_parts-returns-2 t)
-    (map_parts-end_at-requires-2 t)
-    (map_parts-sub-left t)
-    (map_parts-add_entry-requires t)
-    (map_parts-enum_known-outcome-2 t)
-    (map_parts-same_length-5 t)
-    (map_parts-same_length-6 t)
-    (map_parts-returns-3 t)
-    (map_parts-enum_known-grown t)
-    (map_parts-loop-less t)
-    (map_parts-loop-again t)
-    (map_parts-whole_map-requires t)
-    (map_parts-same_length-7 t)
-    (map_parts-same_length-8 t)
-    (map_parts-returns-4 t)
+    ap (λ o. (o, rooms c.args.literal.now c.args.binding_cells.now c.args.binding_text.now c.loop-left.cells c.loop-left.text)) c.whole_map.ensures ∙ (sym (no-entry c.args.table.now c.args.literal.now c.args.limit c.args.at c.args.first c.args.scope c.loop-left.left c.loop-left.place (omega arith) c.loop-left.ready c.loop-left.spent (rooms c.args.literal.now c.args.binding_cells.now c.args.binding_text.now c.loop-left.cells c.loop-left.text)) ∙ c.loop-left.invariant.same)
 
 pub comprehension::turns-folds_at-folds-requires : goal.comprehension::turns-folds_at-folds-requires
 comprehension::turns-folds_at-folds-requires t c = c.requires.1
@@ -1184,7 +888,7 @@ comprehension::turns-bounds-inner-accumulator t c =
 
 pub comprehension::turns-loop-left-init : goal.comprehension::turns-loop-left-init
 comprehension::turns-loop-left-init t c =
-    turns-begin c.args.table.now c.args.literal.now c.args.binding_cells.now c.args.binding_text.now c.args.cells.now c.args.text.now c.args.limit c.args.at c.args.space c.args.first c.args.count c.args.each c.args.places (stored c.args.scope c.args.places.accumulator c.args.start) c.args.used (length-set c.args.scope.slots c.args.places.accumulator (record { value = c.args.start }) ∙ (mapped-length c.args.scope.slots _ 128 c.well_formed.1.1.1.1.1.1.1.1.0.1.1.0.1.0.1)) c.ranges.first.fits c.ranges.count.fits
+    turns-begin c.args.table.now c.args.literal.now c.args.binding_cells.now c.args.binding_text.now c.args.cells.now c.args.text.now c.args.limit c.args.at c.args.space c.args.first c.args.count c.args.each c.args.places (stored c.args.scope c.args.places.accumulator c.args.start) c.args.used (length-set c.args.scope.slots c.args.places.accumulator (record { value = c.args.start }) ∙ (c.well_formed.1.1.1.1.1.1.1.1.0.1.1.0.1.0.1)) c.ranges.first.fits c.ranges.count.fits
 
 pub comprehension::turns-offset_bounds-inner-first_slot : goal.comprehension::turns-offset_bounds-inner-first_slot
 comprehension::turns-offset_bounds-inner-first_slot t c =
@@ -1331,90 +1035,12 @@ comprehension::turns-finish-requires t c =
 
 pub comprehension::turns-shape_of-cells : goal.comprehension::turns-shape_of-cells
 comprehension::turns-shape_of-cells t c =
-    c.finish.auto.1.1.1.1.0 ∙ c.loop-left.invariant.kept
+    c.finish.auto.cells ∙ c.loop-left.invariant.kept
 
 pub comprehension::turns-shape_of-text : goal.comprehension::turns-shape_of-text
 comprehension::turns-shape_of-text t c =
-    c.finish.auto.1.1.1.1.1.0 ∙ c.loop-left.invariant.keptx
+    c.finish.auto.text ∙ c.loop-left.invariant.keptx
 
 pub comprehension::turns-returns : goal.comprehension::turns-returns
 comprehension::turns-returns t c =
     no-turn (loop_at c.args.table.now c.args.literal.now c.args.limit c.args.at c.args.places) c.args.space c.args.each c.loop-left.left c.loop-left.cell (omega (arith, c.loop-left-test.false)) c.loop-left.held c.loop-left.inner c.loop-left.spent (rooms c.args.literal.now c.args.binding_cells.now c.args.binding_text.now c.loop-left.cells c.loop-left.text) c.finish.ensures ∙ c.loop-left.invariant.same
-
-pub condition-came : (t : ℕ) (c : Joined-reads) → Came c.args.table.now c.args.literal.now c.args.binding_cells.now c.args.binding_text.now c.args.limit c.args.places.condition c.loop-left.inner c.loop-left.spent c.loop-left.cells c.loop-left.text c.match-reads.test c.match-reads.cells c.match-reads.text
-condition-came t c =
-    ⊎_elim (λ w. came-slots c.args.table.now c.args.literal.now c.args.binding_cells.now c.args.binding_text.now c.args.limit c.args.places.condition c.loop-left.inner c.loop-left.spent c.loop-left.cells c.loop-left.text c.loop-left.invariant.long c.reach_at-condition_slots.ensures w.1.given.1 w.9.ensures w.9.kept.1.1.1.1.0 w.9.kept.1.1.1.1.1.0 w.14 w.15 w.16) (λ w. came-record c.args.table.now c.args.literal.now c.args.binding_cells.now c.args.binding_text.now c.args.limit c.args.places.condition c.loop-left.inner c.loop-left.spent c.loop-left.cells c.loop-left.text w.4.ensures w.4.kept.1.1.1.1.0 w.4.kept.1.1.1.1.1.0 w.9 w.10 w.11) c.match-reads.branch
-
-pub step-came : (t : ℕ) (c : Joined-reads-2) → Came c.args.table.now c.args.literal.now c.args.binding_cells.now c.args.binding_text.now c.args.limit c.args.places.step (stored c.loop-left.inner c.args.places.item c.cell_at.result) c.in-Holds.more c.match-reads.cells c.match-reads.text c.match-reads-2.gives c.match-reads-2.cells c.match-reads-2.text
-step-came t c =
-    let long = (length-set c.loop-left.inner.slots c.args.places.item (record { value = c.cell_at.result }) ∙ c.loop-left.invariant.long) in
-    ⊎_elim (λ w. came-slots c.args.table.now c.args.literal.now c.args.binding_cells.now c.args.binding_text.now c.args.limit c.args.places.step (stored c.loop-left.inner c.args.places.item c.cell_at.result) c.in-Holds.more c.match-reads.cells c.match-reads.text long c.reach_at-step_slots.ensures w.1.given.1 w.9.ensures w.9.kept.1.1.1.1.0 w.9.kept.1.1.1.1.1.0 w.14 w.15 w.16) (λ w. came-record c.args.table.now c.args.literal.now c.args.binding_cells.now c.args.binding_text.now c.args.limit c.args.places.step (stored c.loop-left.inner c.args.places.item c.cell_at.result) c.in-Holds.more c.match-reads.cells c.match-reads.text w.4.ensures w.4.kept.1.1.1.1.0 w.4.kept.1.1.1.1.1.0 w.9 w.10 w.11) c.match-reads-2.branch
-
-pub turns-meets : {M : Type 1} (t : ℕ) → tie.Closed M
-turns-meets t =
-    tie.spec (turns-claims t)
-    (turns_at t)
-    turns.Post
-    turns-Inv-loop
-    turns-μ-loop
-    (turns-folds_at-requires t)
-    (turns-reach_at-requires t)
-    (turns-reach_at-requires-2 t)
-    (turns-mul-t51 t)
-    (turns-element_set_from-inner t)
-    (turns-loop-holds t)
-    (turns-enum_known-reads t)
-    (turns-mul-reach t)
-    (turns-element_copy_out-reach t)
-    (turns-mul-reach-2 t)
-    (turns-element_copy_out-reach-2 t)
-    (turns-mul-reach-3 t)
-    (turns-element_copy_out-reach-3 t)
-    (turns-mul-reach-4 t)
-    (turns-element_copy_out-reach-4 t)
-    (turns-reach-requires t)
-    (turns-enum_told t)
-    (turns-eval-requires t)
-    (turns-asks-requires t)
-    (turns-enum_known-outcome t)
-    (turns-same_length t)
-    (turns-same_length-2 t)
-    (turns_returns t)
-    (turns-enum_known-more t)
-    (turns-loop-less t)
-    (turns-loop-again t)
-    (turns-enum_known-more-2 t)
-    (turns-cell_at-requires t)
-    (turns-mul-t86 t)
-    (turns-element_set_from-inner-2 t)
-    (turns-enum_known-reads-2 t)
-    (turns-mul-reach-5 t)
-    (turns-element_copy_out-reach-5 t)
-    (turns-mul-reach-6 t)
-    (turns-element_copy_out-reach-6 t)
-    (turns-mul-reach-7 t)
-    (turns-element_copy_out-reach-7 t)
-    (turns-mul-reach-8 t)
-    (turns-element_copy_out-reach-8 t)
-    (turns-reach-requires-2 t)
-    (turns-enum_told-2 t)
-    (turns-eval-requires-2 t)
-    (turns-add-cell t)
-    (turns-sub-left t)
-    (turns-step_of-requires t)
-    (turns-enum_known-outcome-2 t)
-    (turns-same_length-3 t)
-    (turns-same_length-4 t)
-    (turns-returns-2 t)
-    (turns-enum_known-pending t)
-    (turns-loop-less-2 t)
-    (turns-loop-again-2 t)
-    (turns-enum_known-v t)
-    (turns-mul-t117 t)
-    (turns-element_set_from-inner-3 t)
-    (turns-loop-less-3 t)
-    (turns-loop-again-3 t)
-    (turns-finish-requires t)
-    (turns-same_length-5 t)
-    (turns-same_length-6 t)
-    (turns-returns-3 t)

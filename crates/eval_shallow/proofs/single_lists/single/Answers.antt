@@ -31,10 +31,10 @@ reach-element-requires c =
     element-asked c.args.table.now c.args.literal.now c.args.at one c.first_operand.ensures c.requires.1
 
 pub shape_of-cells-in_default : goal.shape_of-cells-in_default
-shape_of-cells-in_default c = c.reach-element.auto.1.1.1.1.0 ∙ c.begin.auto.0
+shape_of-cells-in_default c = c.reach-element.auto.cells ∙ c.begin.auto.cells
 
 pub shape_of-text-in_default : goal.shape_of-text-in_default
-shape_of-text-in_default c = c.reach-element.auto.1.1.1.1.1.0
+shape_of-text-in_default c = c.reach-element.auto.text
 
 pub returns-in_default : goal.returns-in_default
 returns-in_default c =
@@ -51,7 +51,7 @@ whole_list-requires c =
     omega (arith, count)
 
 pub shape_of-cells-in-Full : goal.shape_of-cells-in-Full
-shape_of-cells-in-Full c = c.begin.auto.0
+shape_of-cells-in-Full c = c.begin.auto.cells
 
 pub returns-in-Full : goal.returns-in-Full
 returns-in-Full c =
@@ -60,10 +60,10 @@ returns-in-Full c =
     λ s h. after-step c.args.table.now c.args.literal.now c.args.limit c.args.at s c.args.used lent c.if-limit-used.false c.stepped-begun.ensures (single-full c.args.table.now c.args.literal.now c.args.limit c.args.at c.requires.0 one s c.stepped-begun.result lent c.begin.ensures c.in-Full.is c.out_of_cells.ensures)
 
 pub shape_of-cells-in-Value : goal.shape_of-cells-in-Value
-shape_of-cells-in-Value c = c.add_element-ready.auto.1.0 ∙ (c.reach-element.auto.1.1.1.1.0 ∙ c.begin.auto.0)
+shape_of-cells-in-Value c = c.add_element-ready.auto.cells ∙ (c.reach-element.auto.cells ∙ c.begin.auto.cells)
 
 pub shape_of-text : goal.shape_of-text
-shape_of-text c = c.reach-element.auto.1.1.1.1.1.0
+shape_of-text c = c.reach-element.auto.text
 
 pub returns-in-Value : goal.returns-in-Value
 returns-in-Value c =

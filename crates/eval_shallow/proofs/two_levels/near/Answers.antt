@@ -47,10 +47,10 @@ returns-in-Stop c =
     after-step c.args.table.now c.args.literal.now c.args.limit c.args.at s c.args.used lent c.if-limit-used.false c.stepped-begun.ensures (stops_first c.args.table.now c.args.literal.now c.args.limit c.args.at s c.stepped-begun.result lent operands first c.after_first.ensures c.in-Stop.is)
 
 pub shape_of-cells-in-At : goal.shape_of-cells-in-At
-shape_of-cells-in-At c = c.after_both.auto.1.1.1.0 ∙ (c.small-right.auto.1.1.1.1.0 ∙ (c.after_first.auto.1.1.1.1.0 ∙ c.small-left.auto.1.1.1.1.0))
+shape_of-cells-in-At c = c.after_both.auto.cells ∙ (c.small-right.auto.cells ∙ (c.after_first.auto.cells ∙ c.small-left.auto.cells))
 
 pub shape_of-text-in-At : goal.shape_of-text-in-At
-shape_of-text-in-At c = c.after_both.auto.1.1.1.1.0 ∙ (c.small-right.auto.1.1.1.1.1.0 ∙ c.small-left.auto.1.1.1.1.1.0)
+shape_of-text-in-At c = c.after_both.auto.text ∙ (c.small-right.auto.text ∙ c.small-left.auto.text)
 
 pub returns-in-At : goal.returns-in-At
 returns-in-At c =
