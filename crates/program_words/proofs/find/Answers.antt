@@ -8,10 +8,10 @@ pub loop-at-init : goal.loop-at-init
 loop-at-init c = seek-start _ _ _
 
 pub returns-then-bytes-at : goal.returns-then-bytes-at
-returns-then-bytes-at c = found_here c.loop-at.invariant (omega arith) (omega arith)
+returns-then-bytes-at c = let f = found_here c.loop-at.invariant (omega arith) (omega arith) in record { value = f.0; lower_bound = f.1 }
 
 pub loop-at-preserved : goal.loop-at-preserved
 loop-at-preserved c = seek-on c.loop-at.invariant (omega arith) (omega arith)
 
 pub returns : goal.returns
-returns c = found_none c.loop-at.invariant (omega arith)
+returns c = let f = found_none c.loop-at.invariant (omega arith) in record { value = f.0; lower_bound = f.1 }

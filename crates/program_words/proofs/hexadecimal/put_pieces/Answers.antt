@@ -9,7 +9,7 @@ pub loop-from-init : goal.loop-from-init
 loop-from-init c = pieces-start _ _
 
 pub loop-from-preserved : goal.loop-from-preserved
-loop-from-preserved c = pieces-on c.loop-from.invariant (omega arith) c.find-end.ensures.0 c.put_piece-next.ensures
+loop-from-preserved c = pieces-on c.loop-from.invariant (omega arith) c.find-end.ensures.value c.put_piece-next.ensures
 
 pub returns : goal.returns
-returns c = counted _ _ (pieces_end c.loop-from.invariant (omega arith))
+returns c = let f = counted _ _ (pieces_end c.loop-from.invariant (omega arith)) in record { fact = f.0; prefix_len = f.1 }
