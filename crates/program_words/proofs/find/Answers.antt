@@ -1,5 +1,4 @@
 -- `find` meets its contract: nothing is found before the loop's place. Assumes nothing.
-use Prim.Native.Nat.{◌-◌}
 use native.Mathlib.Omega.{arith}
 use Rattle.program_words.proofs.Places.{seek-start, seek-on, found_here, found_none}
 use Rattle.program_words.proofs.find.Goals as goal

@@ -1,5 +1,4 @@
 -- `hexadecimal::put_pieces` meets its contract: what is left from the loop's place on is still to be put. Assumes nothing.
-use Prim.Native.Nat.{◌-◌}
 use native.Mathlib.Omega.{arith}
 use Rattle.program_words.proofs.Pairs.{counted}
 use Rattle.program_words.proofs.Parts.{pieces-start, pieces-on, pieces_end}
