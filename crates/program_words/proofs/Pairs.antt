@@ -8,9 +8,9 @@ use native.Mathlib.Omega.{arith}
 use lib.Dec.{ltb}
 use lib.ListN.{length, get_or, drop, length-drop}
 use lib.Seq.{drop-cons}
+use Rattle.std.proofs.Common.{length-take-le}
 use borrow.Author.Tests.{lt-ltb, ltb-true}
-use Rattle.io.specs.Counts.{IsPrefixLen}
-use Rattle.io.proofs.Counting.{prefix_len_of_le}
+use Rattle.std.specs.Counts.{IsPrefixLen}
 use Rattle.line_pieces.specs.Page.{Page, put, puts}
 use Rattle.line_pieces.proofs.Putting.{puts_one, puts_none, kept-length, puts-within}
 use Rattle.program_words.specs.Hexadecimal.{digit_of, bytes_of}
@@ -91,4 +91,6 @@ module _ {w : List ℕ} {p q : Page} {i : ℕ} (r : Paired w p i q) where
 
 -- ---- all of it, from the start of the memory
 pub counted : (s out : List ℕ) {r : ℕ} {after : List ℕ} → ◌≡◌ {A = Page} (r, after) (puts s (0, out)) → (◌≡◌ {A = Page} (r, after) (puts s (0, out))) × IsPrefixLen r after
-counted s out {r} {after} e = (e, prefix_len_of_le r after (subst (λ (q : Page). q.0 ≤ length q.1) (sym e) (puts-within s (0, out) (omega arith))))
+counted s out {r} {after} e =
+    let h = subst (λ (q : Page). q.0 ≤ length q.1) (sym e) (puts-within s (0, out) (omega arith)) in
+    (e, (h, sym (length-take-le r after h)))

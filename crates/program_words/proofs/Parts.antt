@@ -11,7 +11,6 @@ use borrow.Author.Tests.{ltb-true, ltb-false}
 use Rattle.line_pieces.specs.Page.{Page, put, puts}
 use Rattle.line_pieces.proofs.Putting.{put_in, puts_none, puts-joined, puts-full, kept-length}
 use Rattle.program_words.specs.declared.decimal.Number.{Number}
-use Rattle.program_words.specs.declared.decimal.Number.TheVariants as Number
 use Rattle.program_words.specs.Place.{place_of, place_from}
 use Rattle.program_words.specs.Decimal.{number_of}
 use Rattle.program_words.specs.Hexadecimal.{bytes_of, repeated, count_of, times_of, piece_of, pieces_of, spelled_by}

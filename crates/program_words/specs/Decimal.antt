@@ -2,7 +2,6 @@
 use Rattle.std.specs.Prelude.{ℕ, ◌+◌, ◌-◌, ◌*◌, min, Bool, cond, ◌&&◌, List, [], ◌∷◌, leb}
 use Prim.Native.Char.{code}
 use Rattle.program_words.specs.declared.decimal.Number.{Number}
-use Rattle.program_words.specs.declared.decimal.Number.TheVariants as Number
 
 abbrev pub is_digit : ℕ → Bool
 is_digit x = leb (code "0") x && leb x (code "9")

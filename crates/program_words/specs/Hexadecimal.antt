@@ -4,7 +4,6 @@ use Prim.Native.Char.{code}
 use Rattle.program_words.specs.Place.{place_of}
 use Rattle.program_words.specs.Decimal.{is_digit, number_of}
 use Rattle.program_words.specs.declared.decimal.Number.{Number}
-use Rattle.program_words.specs.declared.decimal.Number.TheVariants as Number
 
 -- in either case; 16 where the byte is no digit
 unfoldable pub digit_of : ℕ → ℕ

@@ -1,4 +1,6 @@
 // What the words of a line spell, numbers in decimal digits and bytes in hexadecimal ones, and where a word ends.
+#![tactic(auto)]
+
 ghost use Rattle.std.specs.Prelude.{◌≡◌, ◌≤◌, min, length};
 ghost use Rattle.program_words.specs.Place.{place_from};
 

@@ -1,5 +1,7 @@
 // Answers a list of cases from standard input, a case to a line, by the public functions of `numbers` and `text`.
 // Each line is written back with ` = ` and the answer; the last line says how many there were.
+#![tactic(auto)]
+
 ghost use Rattle.std.specs.Prelude.{◌≡◌, length};
 
 use crate::answer::Answer;

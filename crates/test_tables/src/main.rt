@@ -1,5 +1,7 @@
 // Checks a list of node tables from standard input, a table with its literal text to a line, by `table_check::check`.
 // Of each line its number, the two lengths and the answer are written; the last line says how many there were.
+#![tactic(auto)]
+
 ghost use Rattle.std.specs.Prelude.{◌≡◌, length};
 
 use program_input::read_full;

@@ -1,5 +1,4 @@
 -- `find` meets its contract: nothing is found before the loop's place. Assumes nothing.
-use Prim.Native.Nat.{◌-◌}
 use native.Mathlib.Omega.{arith}
 use Rattle.program_words.proofs.Places.{seek-start, seek-on, found_here, found_none}
 use Rattle.program_words.proofs.find.Goals as goal
@@ -8,10 +7,10 @@ pub loop-at-init : goal.loop-at-init
 loop-at-init c = seek-start _ _ _
 
 pub returns-then-bytes-at : goal.returns-then-bytes-at
-returns-then-bytes-at c = found_here c.loop-at.invariant (omega arith) (omega arith)
+returns-then-bytes-at c = let f = found_here c.loop-at.invariant (omega arith) (omega arith) in record { value = f.0; lower_bound = f.1 }
 
 pub loop-at-preserved : goal.loop-at-preserved
 loop-at-preserved c = seek-on c.loop-at.invariant (omega arith) (omega arith)
 
 pub returns : goal.returns
-returns c = found_none c.loop-at.invariant (omega arith)
+returns c = let f = found_none c.loop-at.invariant (omega arith) in record { value = f.0; lower_bound = f.1 }

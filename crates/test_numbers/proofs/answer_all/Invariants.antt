@@ -4,7 +4,7 @@ use lib.ListN.{length}
 use Rattle.test_numbers.proofs.answer_all.Given as goal
 
 abbrev pub invariant-loop-from : goal.invariant-loop-from
-invariant-loop-from l = l.cases ≤ l.from
+invariant-loop-from g l = l.cases ≤ l.from
 
 abbrev pub decreases-loop-from : goal.decreases-loop-from
-decreases-loop-from l = length l.list - l.from
+decreases-loop-from g l = length l.list - l.from

@@ -1,5 +1,4 @@
 -- `decimal::number_of` meets its contract: what is left from the loop's place on decides. Assumes nothing.
-use Prim.Native.Nat.{◌-◌}
 use native.Mathlib.Omega.{arith}
 use Rattle.program_words.proofs.Numerals.{number-none, read-start, read_none, read-on, read-end}
 use Rattle.program_words.proofs.decimal.number_of.Goals as goal

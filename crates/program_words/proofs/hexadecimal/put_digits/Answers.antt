@@ -1,5 +1,4 @@
 -- `hexadecimal::put_digits` meets its contract: what is left from the loop's place on is still to be put. Assumes nothing.
-use Prim.Native.Nat.{◌-◌}
 use native.Mathlib.Omega.{arith}
 use Rattle.program_words.proofs.Pairs.{pair-start, pair_end, pair-none, pair-on}
 use Rattle.program_words.proofs.hexadecimal.put_digits.Goals as goal

@@ -8,4 +8,4 @@ pub slice_bounds-put_repeated-end : goal.slice_bounds-put_repeated-end
 slice_bounds-put_repeated-end c = simp length-take (omega arith)
 
 pub returns : goal.returns
-returns c = a_piece _ _ c.find-star.ensures.0 c.times-count.ensures c.put_repeated.ensures
+returns c = a_piece _ _ c.find-star.ensures.value c.times-count.ensures c.put_repeated.ensures
