@@ -17,7 +17,7 @@ use Rattle.meaning.specs.Heads.{Got, got, refused, ◌>>=◌}
 use Rattle.meaning.specs.Table.{read_table}
 use Rattle.meaning.specs.Bindings.{scope_of}
 use Rattle.meaning.specs.Answer.{ran, answer_run, answer_read}
-use Rattle.rooms.specs.Rooms.{Rooms, rooms}
+use Rattle.rooms.specs.Rooms.{Rooms}
 use Rattle.rooms.specs.Scope.{StandsSlot, StandsScope, slot_of}
 use Rattle.rooms.specs.Stands.{Alive}
 use Rattle.bindings_sound.specs.declared.Bindings.{Bindings}

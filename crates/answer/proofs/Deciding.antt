@@ -18,7 +18,6 @@ use Rattle.bindings_sound.specs.declared.Soundness.TheVariants as Soundness
 use Rattle.bindings_sound.specs.Sound.{sound_of}
 use Rattle.machine.specs.Answer.{answered}
 use Rattle.answer.specs.declared.Answer.{Answer}
-use Rattle.answer.specs.declared.Answer.TheVariants as Answer
 use Rattle.answer.specs.Evaluated.{ended, evaluated}
 use Rattle.answer.specs.Evaluated as Evaluated
 

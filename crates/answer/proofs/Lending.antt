@@ -12,7 +12,6 @@ use denote.Enum.Declared as Enum
 use denote.Struct.Declared as Struct
 use Rattle.meaning.specs.WellFormed.{AllBytes}
 use Rattle.rooms.specs.declared.value.Value.{Value}
-use Rattle.rooms.specs.declared.value.Value.TheVariants as Value
 use Rattle.rooms.specs.declared.scope.Slot.{Slot}
 use Rattle.rooms.specs.Cells.{Fits}
 use Rattle.rooms.specs.Rooms.{Rooms}

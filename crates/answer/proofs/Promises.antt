@@ -52,7 +52,6 @@ use Rattle.machine.specs.Answer.{CellsHave}
 use Rattle.answer_values.specs.Shown.{Shows}
 use Rattle.answer_values.proofs.Showing.{shows}
 use Rattle.answer.specs.declared.Answer.{Answer}
-use Rattle.answer.specs.declared.Answer.TheVariants as Answer
 use Rattle.answer.specs.Evaluated.{accepted}
 use Rattle.answer.specs.Meant.{Told, told, told_by, counts_used, counts_told, Says, limits, bound, meant, Evaluates}
 use Rattle.answer.specs.Alike.{Alike}

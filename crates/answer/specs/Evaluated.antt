@@ -10,11 +10,9 @@ use Rattle.rooms.specs.Rooms.{Rooms}
 use Rattle.bindings_sound.specs.declared.Bindings.{Bindings}
 use Rattle.bindings_sound.specs.Sound.{sound_of, if_sound}
 use Rattle.machine.specs.declared.outcome.Outcome.{Outcome}
-use Rattle.machine.specs.declared.outcome.Outcome.TheVariants as Outcome
 use Rattle.machine.specs.Outcomes.{Res}
 use Rattle.machine.specs.Answer.{answered}
 use Rattle.answer.specs.declared.Answer.{Answer}
-use Rattle.answer.specs.declared.Answer.TheVariants as Answer
 
 abbrev pub as_answer : Outcome → Answer
 as_answer (Outcome.Value v u) = Answer.Value v u

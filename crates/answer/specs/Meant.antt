@@ -17,7 +17,6 @@ use Rattle.meaning_laws.specs.Answers.{counts_in}
 use Rattle.machine.specs.Answer.{CellsHave}
 use Rattle.answer.specs.Numbers.{error_meant, limit_meant}
 use Rattle.answer.specs.declared.Answer.{Answer}
-use Rattle.answer.specs.declared.Answer.TheVariants as Answer
 use Rattle.answer.specs.Evaluated.{accepted, evaluated}
 
 -- ---- what an answer tells

@@ -3,9 +3,7 @@ use Rattle.std.specs.Prelude.{ℕ}
 use Rattle.meaning.specs.Errors as Errors
 use Rattle.meaning.specs.Errors.{a_bool, an_iterable}
 use Rattle.machine.specs.declared.outcome.Error.{Error}
-use Rattle.machine.specs.declared.outcome.Error.TheVariants as Error
 use Rattle.machine.specs.declared.outcome.Limit.{Limit}
-use Rattle.machine.specs.declared.outcome.Limit.TheVariants as Limit
 
 abbrev pub error_meant : Error → Errors.Error
 error_meant Error.UndeclaredReference = Errors.UndeclaredReference

@@ -1,5 +1,7 @@
 // The answer of an evaluation: a value, an error, exhaustion or a refusal.
 // Here: what comes back, and how a run ends: what was charged is cleared, unless there is a value. `reasons` has the numbers of errors and limits.
+#![tactic(auto)]
+
 pub mod reasons;
 
 ghost use Rattle.std.specs.Prelude.{◌≡◌, min};

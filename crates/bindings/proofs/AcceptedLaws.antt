@@ -29,7 +29,6 @@ use Rattle.rooms_taking.specs.Taking.{cell_room, text_room}
 use Rattle.rooms.specs.Scope.{slot_of, stored}
 use Rattle.bindings_sound.specs.declared.Bindings.{Bindings}
 use Rattle.bindings_sound.specs.declared.Soundness.{Soundness}
-use Rattle.bindings_sound.specs.declared.Soundness.TheVariants as Soundness
 use Rattle.bindings_sound.specs.Fits.{is_absent}
 use Rattle.bindings_sound.specs.Sound.{sound_of, if_sound}
 use Rattle.bindings.specs.declared.admission.Answer.{Answer}

@@ -17,7 +17,6 @@ use Rattle.table_layout.specs.Layout.{after}
 use Rattle.table_check.specs.Records.{expr_of, part_of, pairs_of, SoundPart}
 use Rattle.table_check.proofs.Parts.{part-marked, part-bare}
 use Rattle.rooms.specs.declared.value.Value.{Value}
-use Rattle.rooms.specs.declared.value.Value.TheVariants as Value
 use Rattle.rooms.specs.declared.value.CellSpace.TheVariants as Cells
 use Rattle.rooms.specs.Value.{nesting_of}
 use Rattle.rooms.specs.Cells.{written_in}

@@ -1,6 +1,8 @@
 // Bindings: values that tables of literals spell, kept in a binding room under names.
 // Here: a binding is brought in, and a room is emptied. A refusal changes nothing that is lent. `admission` decides whether a binding may be
 // brought in, and `laying` lays its value down in the room.
+#![tactic(auto)]
+
 pub mod admission;
 pub mod laying;
 

@@ -27,7 +27,6 @@ use Rattle.meaning_laws.proofs.TableFormed.{table-formed}
 use Rattle.meaning_laws.proofs.Spelled.{literal-sound, spelled-well-formed}
 use Rattle.table_check.specs.Records.{expr_of}
 use Rattle.rooms.specs.declared.value.Value.{Value}
-use Rattle.rooms.specs.declared.value.Value.TheVariants as Value
 use Rattle.rooms.specs.Value.{nesting_of}
 use Rattle.rooms.specs.Cells.{cell_in}
 use Rattle.rooms.specs.Rooms.{rooms}

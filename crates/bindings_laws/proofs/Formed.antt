@@ -9,7 +9,6 @@ use lib.Ieee.{binary64}
 use lib.Ieee.Bits.{to_bits-lt}
 use lib.ListN.{length, get_or}
 use Rattle.numbers.specs.declared.double.Double.{Double}
-use Rattle.numbers.specs.declared.double.Double.TheVariants as Double
 use Rattle.numbers.specs.Double.{bits_of}
 use Rattle.numbers.proofs.IntLaws.{in-range}
 use Rattle.text.specs.Utf8.{well_formed}

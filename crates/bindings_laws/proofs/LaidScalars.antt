@@ -10,7 +10,6 @@ use native.Mathlib.Omega.{arith}
 use lib.ListN.{length, set, take, length-set}
 use lib.Seq.{get_or-set_same}
 use Rattle.numbers.specs.declared.double.Double.{Double}
-use Rattle.numbers.specs.declared.double.Double.TheVariants as Double
 use Rattle.numbers.specs.Double.{bits_of, double_of}
 use Rattle.numbers.proofs.IntLaws.{range_small}
 use Rattle.numbers.proofs.DoubleLaws.{bits_back}

@@ -15,7 +15,6 @@ use Rattle.meaning.specs.Value.{Scalar, null, bool, int, uint, double, string, s
 use Rattle.meaning.specs.Spelling.{Literal, scalar_at, Literals, LiteralPairs, literal_nesting, literals_nesting, literal_pairs_nesting}
 use Rattle.meaning.specs.WellFormed.{SoundScalar, Sound, SoundElements, SoundEntries}
 use Rattle.rooms.specs.declared.value.Value.{Value}
-use Rattle.rooms.specs.declared.value.Value.TheVariants as Value
 use Rattle.rooms.specs.declared.value.CellSpace.TheVariants as Cells
 use Rattle.rooms.specs.Value.{nesting_of}
 use Rattle.rooms.specs.Cells.{cell_in}

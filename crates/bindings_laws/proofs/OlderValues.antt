@@ -12,7 +12,6 @@ use Rattle.text.specs.Utf8.{well_formed}
 use Rattle.meaning.specs.Value as Meaning
 use Rattle.meaning.specs.Value.{key_of, scalar, string, list, map, cons, entry}
 use Rattle.rooms.specs.declared.value.Value.{Value}
-use Rattle.rooms.specs.declared.value.Value.TheVariants as Value
 use Rattle.rooms.specs.declared.value.TextSpace.TheVariants as Text
 use Rattle.rooms.specs.declared.value.CellSpace.TheVariants as Cells
 use Rattle.rooms.specs.Value.{nesting_of, plain_of, is_key}

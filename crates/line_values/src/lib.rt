@@ -1,5 +1,7 @@
 // Values as text, put into lent memory. Parts that stand in a value many times are put each time, up to where the memory ends.
 // Here: any value. `nested` puts a value with its parts, `plain` one without parts, and `scalars` a Bool, a number or a text.
+#![tactic(auto)]
+
 pub mod nested;
 pub mod plain;
 pub mod scalars;

@@ -1,6 +1,5 @@
 -- `admission::judge_all` meets its contract. Assumes nothing.
 use mathlib.Core.Path.{sym, ◌∙◌}
-use borrow.Author.Tests.{not-true, not-false}
 use Rattle.bindings.proofs.AcceptedLaws.{checked-read, all-unsound, all-unnamed, all-bound, all-unread, all_read}
 use Rattle.bindings.proofs.admission.judge_all.Goals as goal
 

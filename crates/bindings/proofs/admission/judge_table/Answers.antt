@@ -1,7 +1,6 @@
 -- `admission::judge_table` meets its contract. Assumes nothing.
 use mathlib.Core.Path.{sym, ◌∙◌}
 use native.Mathlib.Omega.{arith}
-use borrow.Author.Tests.{not-true, not-false}
 use Rattle.bindings_literals.proofs.PartLaws.{bare-part}
 use Rattle.bindings.proofs.BringSteps.{table-other, table-deep, table-key, table-cells, table-bytes, table_done}
 use Rattle.bindings.proofs.admission.judge_table.Goals as goal

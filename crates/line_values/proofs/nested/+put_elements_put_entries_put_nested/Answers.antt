@@ -4,11 +4,9 @@ use mathlib.Core.Path.{refl, ◌∙◌}
 use native.Mathlib.Omega.{arith}
 use Rattle.rooms.specs.declared.value.Value.{Value}
 use Rattle.rooms.specs.Rooms.{rooms, cell_at}
-use Rattle.line_pieces.specs.Page.{puts}
 use Rattle.line_pieces.proofs.Putting.{puts-full, kept-length}
 use Rattle.line_values.specs.Shown.{shown_to}
 use Rattle.line_values.proofs.Steps.{elements-over, elements-on, entries_over, entries-on, nested-none, nested-list, nested-map, nested-present, nested-plain}
-use borrow.Fn.PlainCycle.{is}
 use Rattle.line_values.proofs.nested.+put_elements_put_entries_put_nested.Goals as goal
 
 pub put_elements-loop-left-init : goal.put_elements-loop-left-init
@@ -17,7 +15,7 @@ put_elements-loop-left-init t c =
 
 pub put_elements-put_nested-next-requires : goal.put_elements-put_nested-next-requires
 put_elements-put_nested-next-requires t c =
-    (omega (arith, c.requires.0), tt)
+    (omega arith, tt)
 
 pub put_elements-loop-left-preserved : goal.put_elements-loop-left-preserved
 unfolding cell_at
@@ -36,11 +34,11 @@ put_entries-loop-left-init t c =
 
 pub put_entries-put_nested-next-requires : goal.put_entries-put_nested-next-requires
 put_entries-put_nested-next-requires t c =
-    (omega (arith, c.requires.0), tt)
+    (omega arith, tt)
 
 pub put_entries-put_nested-next-requires-in-loop-left : goal.put_entries-put_nested-next-requires-in-loop-left
 put_entries-put_nested-next-requires-in-loop-left t c =
-    (omega (arith, c.requires.0), tt)
+    (omega arith, tt)
 
 pub put_entries-loop-left-preserved : goal.put_entries-loop-left-preserved
 unfolding cell_at
@@ -64,15 +62,15 @@ put_nested-returns-then-out-at t c = search (rules, puts-full)
 
 pub put_nested-put_elements-end-requires : goal.put_nested-put_elements-end-requires
 put_nested-put_elements-end-requires t c =
-    (omega (arith, c.requires.0, c.if-levels-eq0.false), tt)
+    (omega arith, tt)
 
 pub put_nested-put_entries-end-requires : goal.put_nested-put_entries-end-requires
 put_nested-put_entries-end-requires t c =
-    (omega (arith, c.requires.0, c.if-levels-eq0.false), tt)
+    (omega arith, tt)
 
 pub put_nested-put_nested-requires : goal.put_nested-put_nested-requires
 put_nested-put_nested-requires t c =
-    (omega (arith, c.requires.0, c.if-levels-eq0.false), tt)
+    (omega arith, tt)
 
 pub put_nested-returns-in-Elements : goal.put_nested-returns-in-Elements
 put_nested-returns-in-Elements t c = search (rules, nested-list)

@@ -4,7 +4,6 @@ use mathlib.Core.Path.{◌≡◌}
 use Rattle.rooms.specs.Rooms.{rooms}
 use Rattle.line_pieces.specs.Page.{Page, puts}
 use Rattle.line_values.specs.Shown.{elements_shown, entries_shown, shown_to}
-use borrow.Fn.PlainCycle.{is}
 use lib.ListN as Lists
 use Rattle.line_values.proofs.nested.+put_elements_put_entries_put_nested.Given as goal
 
@@ -26,7 +25,7 @@ decreases-put_elements-loop-left l = l.left
 
 abbrev pub invariant-put_entries-loop-left : goal.invariant-put_entries-loop-left
 invariant-put_entries-loop-left l =
-    (Lists.length l.next ≡ Lists.length l.initial.out) × (l.left + (left + left) ≤ 200000) × (◌≡◌ {A = Page} (puts (entries_shown (λ v. shown_to l.levels (rooms l.literal l.binding_cells l.binding_text l.cells l.text) v) (rooms l.literal l.binding_cells l.binding_text l.cells l.text) l.space l.left left) (l.place, l.next)) (puts (entries_shown (λ v. shown_to l.levels (rooms l.literal l.binding_cells l.binding_text l.cells l.text) v) (rooms l.literal l.binding_cells l.binding_text l.cells l.text) l.space l.first l.length) (l.at, l.initial.out)))
+    (Lists.length l.out ≡ Lists.length l.initial.out) × (l.place + (l.left + l.left) ≤ 200000) × (◌≡◌ {A = Page} (puts (entries_shown (λ v. shown_to l.levels (rooms l.literal l.binding_cells l.binding_text l.cells l.text) v) (rooms l.literal l.binding_cells l.binding_text l.cells l.text) l.space l.place l.left) (l.next, l.out)) (puts (entries_shown (λ v. shown_to l.levels (rooms l.literal l.binding_cells l.binding_text l.cells l.text) v) (rooms l.literal l.binding_cells l.binding_text l.cells l.text) l.space l.first l.length) (l.at, l.initial.out)))
 
 abbrev pub decreases-put_entries-loop-left : goal.decreases-put_entries-loop-left
-decreases-put_entries-loop-left l = left
+decreases-put_entries-loop-left l = l.left
