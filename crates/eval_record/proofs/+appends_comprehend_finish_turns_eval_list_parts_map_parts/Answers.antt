@@ -1,4 +1,5 @@
 -- The cycle of `eval`: every member meets its contract. Assumes nothing.
+use borrow.Enum.Refused.{opened}
 use mathlib.Core.Path.{refl, sym, ◌∙◌, ◌≡◌, ap}
 use native.Mathlib.Omega.{arith}
 use Rattle.rooms.specs.Rooms.{rooms}
@@ -35,57 +36,87 @@ use lib.Dec.{eqb}
 use Rattle.eval_record.proofs.Maps.{map-begins, entered-count, no-entry, key-ends, value-stops, entry-ends, entry-again}
 use Rattle.eval_shapes.specs.declared.Shape.TheVariants as Shape
 use Rattle.eval_record.proofs.+appends_comprehend_finish_turns_eval_list_parts_map_parts.Goals as goal
-use Rattle.eval_record.proofs.+appends_comprehend_finish_turns_eval_list_parts_map_parts.Goals.{Joined-guarded, Joined-is_leaf, Joined-is_leaf-2, Joined-reach_at, Joined-reach_at-2, Joined-reads, Joined-reads-2}
+use Rattle.eval_record.proofs.+appends_comprehend_finish_turns_eval_list_parts_map_parts.Goals.{appending::appends-Joined-guarded, appending::appends-Joined-reads-2, comprehension::turns-Joined-reads, comprehension::turns-Joined-reads-2, eval::eval-Joined-reach_at, eval::eval-Joined-reach_at-2, list_records::list_parts-Joined-is_leaf, map_records::map_parts-Joined-is_leaf, map_records::map_parts-Joined-is_leaf-2, appending::appends-in-Slots-reads, appending::appends-in-No-reads, eval::eval-in-Slots, eval::eval-in-No, eval::eval-in-Slots-reach_at, eval::eval-in-No-reach_at, comprehension::turns-in-Slots, comprehension::turns-in-No, comprehension::turns-in-Slots-reads, comprehension::turns-in-No-reads, list_records::list_parts-then-is_leaf, list_records::list_parts-else-is_leaf, map_records::map_parts-then-is_leaf, map_records::map_parts-else-is_leaf, map_records::map_parts-then-is_leaf-2, map_records::map_parts-else-is_leaf-2, appending::appends-then-guarded, appending::appends-in-Slots, appending::appends-in-No, appending::appends-else-guarded}
 
-pub guard-came : (t : ℕ) (c : Joined-guarded) → Guarded c.args.table.now c.args.literal.now c.args.binding_cells.now c.args.binding_text.now c.args.limit c.args.at c.args.guarded c.args.guard (stored c.loop-left.inner c.args.places.item c.cell_at.result) c.in-Holds.more c.loop-left.cells c.loop-left.text c.if-guarded.passes c.if-guarded.cells c.if-guarded.text
+pub guard-came : (t : ℕ) (c : appending::appends-Joined-guarded t) → Guarded c.args.table.now c.args.literal.now c.args.binding_cells.now c.args.binding_text.now c.args.limit c.args.at c.args.guarded c.args.guard (stored c.loop-left.inner c.args.places.item c.cell_at.result) c.in-Holds.more c.loop-left.cells c.loop-left.text c.if-guarded.passes c.if-guarded.cells c.if-guarded.text
 guard-came t c =
     let long = (length-set c.loop-left.inner.slots c.args.places.item (record { value = c.cell_at.result })) ∙ c.loop-left.invariant.long in
-    ⊎_elim (λ w. came-guarded c.args.table.now c.args.literal.now c.args.binding_cells.now c.args.binding_text.now c.args.limit c.args.at c.args.guarded c.args.guard (stored c.loop-left.inner c.args.places.item c.cell_at.result) c.in-Holds.more c.loop-left.cells c.loop-left.text w.0.taken (⊎_elim (λ w. came-slots c.args.table.now c.args.literal.now c.args.binding_cells.now c.args.binding_text.now c.args.limit c.args.guard (stored c.loop-left.inner c.args.places.item c.cell_at.result) c.in-Holds.more c.loop-left.cells c.loop-left.text long c.reach_at-guard_slots.ensures w.1.given.1 w.9.ensures w.9.kept.1.1.1.1.0 w.9.kept.1.1.1.1.1.0 w.14 w.15 w.16) (λ w. came-record c.args.table.now c.args.literal.now c.args.binding_cells.now c.args.binding_text.now c.args.limit c.args.guard (stored c.loop-left.inner c.args.places.item c.cell_at.result) c.in-Holds.more c.loop-left.cells c.loop-left.text w.4.ensures w.4.kept.1.1.1.1.0 w.4.kept.1.1.1.1.1.0 w.9 w.10 w.11) w.1.came) w.2.ensures w.3 w.4 w.5) (λ w. came-unguarded c.args.table.now c.args.literal.now c.args.binding_cells.now c.args.binding_text.now c.args.limit c.args.at c.args.guarded c.args.guard (stored c.loop-left.inner c.args.places.item c.cell_at.result) c.in-Holds.more c.loop-left.cells c.loop-left.text w.0.left w.1 w.2 w.3) c.if-guarded.branch
+    elim c.if-guarded.branch [
+      | appending::appends-then-guarded w ↦ came-guarded c.args.table.now c.args.literal.now c.args.binding_cells.now c.args.binding_text.now c.args.limit c.args.at c.args.guarded c.args.guard (stored c.loop-left.inner c.args.places.item c.cell_at.result) c.in-Holds.more c.loop-left.cells c.loop-left.text w.if-guarded.true (elim w.match-reads.branch [
+        | appending::appends-in-Slots w' ↦ came-slots c.args.table.now c.args.literal.now c.args.binding_cells.now c.args.binding_text.now c.args.limit c.args.guard (stored c.loop-left.inner c.args.places.item c.cell_at.result) c.in-Holds.more c.loop-left.cells c.loop-left.text long c.reach_at-guard_slots.ensures w'.in-Slots.is w'.reach-test.ensures w'.reach-test.auto.cells w'.reach-test.auto.text w'.cells-is w'.text-is w'.test-is
+        | appending::appends-in-No w' ↦ came-record c.args.table.now c.args.literal.now c.args.binding_cells.now c.args.binding_text.now c.args.limit c.args.guard (stored c.loop-left.inner c.args.places.item c.cell_at.result) c.in-Holds.more c.loop-left.cells c.loop-left.text w'.eval-test.ensures w'.eval-test.auto.cells w'.eval-test.auto.text w'.cells-is w'.text-is w'.test-is
+      ]) w.asks-passes.ensures w.cells-is w.text-is w.passes-is
+      | appending::appends-else-guarded w ↦ came-unguarded c.args.table.now c.args.literal.now c.args.binding_cells.now c.args.binding_text.now c.args.limit c.args.at c.args.guarded c.args.guard (stored c.loop-left.inner c.args.places.item c.cell_at.result) c.in-Holds.more c.loop-left.cells c.loop-left.text w.if-guarded.false w.cells-is w.text-is w.passes-is
+    ]
 
-pub items-came : (t : ℕ) (c : Joined-reads-2) → Came c.args.table.now c.args.literal.now c.args.binding_cells.now c.args.binding_text.now c.args.limit c.args.list (stored c.loop-left.inner c.args.places.item c.cell_at.result) c.in-Holds-passes.after c.if-guarded.cells c.if-guarded.text c.match-reads-2.items c.match-reads-2.cells c.match-reads-2.text
+pub items-came : (t : ℕ) (c : appending::appends-Joined-reads-2 t) → Came c.args.table.now c.args.literal.now c.args.binding_cells.now c.args.binding_text.now c.args.limit c.args.list (stored c.loop-left.inner c.args.places.item c.cell_at.result) c.in-Holds-passes.after c.if-guarded.cells c.if-guarded.text c.match-reads-2.items c.match-reads-2.cells c.match-reads-2.text
 items-came t c =
     let long = (length-set c.loop-left.inner.slots c.args.places.item (record { value = c.cell_at.result })) ∙ c.loop-left.invariant.long in
-    ⊎_elim (λ w. came-slots c.args.table.now c.args.literal.now c.args.binding_cells.now c.args.binding_text.now c.args.limit c.args.list (stored c.loop-left.inner c.args.places.item c.cell_at.result) c.in-Holds-passes.after c.if-guarded.cells c.if-guarded.text long c.single_at-list_slots.ensures w.1.given.1 w.9.ensures w.9.kept.1.1.1.1.0 w.9.kept.1.1.1.1.1.0 w.14 w.15 w.16) (λ w. came-record c.args.table.now c.args.literal.now c.args.binding_cells.now c.args.binding_text.now c.args.limit c.args.list (stored c.loop-left.inner c.args.places.item c.cell_at.result) c.in-Holds-passes.after c.if-guarded.cells c.if-guarded.text w.4.ensures w.4.kept.1.1.1.1.0 w.4.kept.1.1.1.1.1.0 w.9 w.10 w.11) c.match-reads-2.branch
+    elim c.match-reads-2.branch [
+      | appending::appends-in-Slots-reads w ↦ came-slots c.args.table.now c.args.literal.now c.args.binding_cells.now c.args.binding_text.now c.args.limit c.args.list (stored c.loop-left.inner c.args.places.item c.cell_at.result) c.in-Holds-passes.after c.if-guarded.cells c.if-guarded.text long c.single_at-list_slots.ensures w.in-Slots-reads.is w.single-items.ensures w.single-items.auto.cells w.single-items.auto.text w.cells-is w.text-is w.items-is
+      | appending::appends-in-No-reads w ↦ came-record c.args.table.now c.args.literal.now c.args.binding_cells.now c.args.binding_text.now c.args.limit c.args.list (stored c.loop-left.inner c.args.places.item c.cell_at.result) c.in-Holds-passes.after c.if-guarded.cells c.if-guarded.text w.eval-items.ensures w.eval-items.auto.cells w.eval-items.auto.text w.cells-is w.text-is w.items-is
+    ]
 
-pub left-came : (t : ℕ) (c : Joined-reach_at) → Came c.args.table.now c.args.literal.now c.args.binding_cells.now c.args.binding_text.now c.args.limit (first_at c.args.table.now c.args.at c.in-Operands.fixed) c.args.scope c.stepped-begun.result c.args.cells.now c.args.text.now c.match-reach_at.left c.match-reach_at.cells c.match-reach_at.text
+pub left-came : (t : ℕ) (c : eval::eval-Joined-reach_at t) → Came c.args.table.now c.args.literal.now c.args.binding_cells.now c.args.binding_text.now c.args.limit (first_at c.args.table.now c.args.at c.in-Operands.fixed) c.args.scope c.stepped-begun.result c.args.cells.now c.args.text.now c.match-reach_at.left c.match-reach_at.cells c.match-reach_at.text
 left-came t c =
     let long = (c.well_formed.1.1.1.1.1.1.1.1.0.1.1.0.1.0.1) in
-    rw c.begun_first-one.ensures at (⊎_elim (λ w. came-slots c.args.table.now c.args.literal.now c.args.binding_cells.now c.args.binding_text.now c.args.limit c.begun_first-one.result c.args.scope c.stepped-begun.result c.args.cells.now c.args.text.now long c.reach_at.ensures w.1.given.1 w.9.ensures w.9.kept.1.1.1.1.0 w.9.kept.1.1.1.1.1.0 w.14 w.15 w.16) (λ w. came-record c.args.table.now c.args.literal.now c.args.binding_cells.now c.args.binding_text.now c.args.limit c.begun_first-one.result c.args.scope c.stepped-begun.result c.args.cells.now c.args.text.now w.4.ensures w.4.kept.1.1.1.1.0 w.4.kept.1.1.1.1.1.0 w.9 w.10 w.11) c.match-reach_at.branch)
+    rw (← c.begun_first-one.ensures) (elim c.match-reach_at.branch [
+      | eval::eval-in-Slots w ↦ came-slots c.args.table.now c.args.literal.now c.args.binding_cells.now c.args.binding_text.now c.args.limit c.begun_first-one.result c.args.scope c.stepped-begun.result c.args.cells.now c.args.text.now long c.reach_at.ensures w.in-Slots.is w.reach-left.ensures w.reach-left.auto.cells w.reach-left.auto.text w.cells-is w.text-is w.left-is
+      | eval::eval-in-No w ↦ came-record c.args.table.now c.args.literal.now c.args.binding_cells.now c.args.binding_text.now c.args.limit c.begun_first-one.result c.args.scope c.stepped-begun.result c.args.cells.now c.args.text.now w.eval-left.ensures w.eval-left.auto.cells w.eval-left.auto.text w.cells-is w.text-is w.left-is
+    ])
 
-pub right-came : (t : ℕ) (c : Joined-reach_at-2) → Came c.args.table.now c.args.literal.now c.args.binding_cells.now c.args.binding_text.now c.args.limit c.in-At-after_first.two c.args.scope c.in-At-after_first.more c.after_first.new.1.1.1.1.0 c.match-reach_at.text c.match-reach_at-2.right c.match-reach_at-2.cells c.match-reach_at-2.text
+pub right-came : (t : ℕ) (c : eval::eval-Joined-reach_at-2 t) → Came c.args.table.now c.args.literal.now c.args.binding_cells.now c.args.binding_text.now c.args.limit c.in-At-after_first.two c.args.scope c.in-At-after_first.more c.after_first.new.cells c.match-reach_at.text c.match-reach_at-2.right c.match-reach_at-2.cells c.match-reach_at-2.text
 right-came t c =
     let long = (c.well_formed.1.1.1.1.1.1.1.1.0.1.1.0.1.0.1) in
-    ⊎_elim (λ w. came-slots c.args.table.now c.args.literal.now c.args.binding_cells.now c.args.binding_text.now c.args.limit c.in-At-after_first.two c.args.scope c.in-At-after_first.more c.after_first.new.1.1.1.1.0 c.match-reach_at.text long c.reach_at-in-At-after_first.ensures w.1.given.1 w.9.ensures w.9.kept.1.1.1.1.0 w.9.kept.1.1.1.1.1.0 w.14 w.15 w.16) (λ w. came-record c.args.table.now c.args.literal.now c.args.binding_cells.now c.args.binding_text.now c.args.limit c.in-At-after_first.two c.args.scope c.in-At-after_first.more c.after_first.new.1.1.1.1.0 c.match-reach_at.text w.4.ensures w.4.kept.1.1.1.1.0 w.4.kept.1.1.1.1.1.0 w.9 w.10 w.11) c.match-reach_at-2.branch
+    elim c.match-reach_at-2.branch [
+      | eval::eval-in-Slots-reach_at w ↦ came-slots c.args.table.now c.args.literal.now c.args.binding_cells.now c.args.binding_text.now c.args.limit c.in-At-after_first.two c.args.scope c.in-At-after_first.more c.after_first.new.cells c.match-reach_at.text long c.reach_at-in-At-after_first.ensures w.in-Slots-reach_at.is w.reach-right.ensures w.reach-right.auto.cells w.reach-right.auto.text w.cells-is w.text-is w.right-is
+      | eval::eval-in-No-reach_at w ↦ came-record c.args.table.now c.args.literal.now c.args.binding_cells.now c.args.binding_text.now c.args.limit c.in-At-after_first.two c.args.scope c.in-At-after_first.more c.after_first.new.cells c.match-reach_at.text w.eval-right.ensures w.eval-right.auto.cells w.eval-right.auto.text w.cells-is w.text-is w.right-is
+    ]
 
-pub element-came : (t : ℕ) (c : Joined-is_leaf) → Came c.args.table.now c.args.literal.now c.args.binding_cells.now c.args.binding_text.now c.args.limit (unmarked_at c.args.table.now c.loop-left.place) c.args.scope c.loop-left.spent c.loop-left.cells c.loop-left.text c.if-is_leaf.part c.if-is_leaf.cells c.if-is_leaf.text
+pub element-came : (t : ℕ) (c : list_records::list_parts-Joined-is_leaf t) → Came c.args.table.now c.args.literal.now c.args.binding_cells.now c.args.binding_text.now c.args.limit (unmarked_at c.args.table.now c.loop-left.place) c.args.scope c.loop-left.spent c.loop-left.cells c.loop-left.text c.if-is_leaf.part c.if-is_leaf.cells c.if-is_leaf.text
 element-came t c =
     let f = element-next c.args.table.now c.args.literal.now c.args.at c.loop-left.left c.loop-left.place c.loop-left-test.true c.loop-left.invariant.row in
     let s = rw (sym c.unmarked-element.ensures) at f.part.sound in
     let long = (c.well_formed.1.1.1.1.1.1.1.1.0.1.1.0.1.0.1) in
-    rw c.unmarked-element.ensures at (⊎_elim (λ w. came-leaf c.args.table.now c.args.literal.now c.args.binding_cells.now c.args.binding_text.now c.args.limit c.unmarked-element.result c.args.scope c.loop-left.spent c.loop-left.cells c.loop-left.text s long (leaf-here c.args.table.now c.unmarked-element.result c.is_leaf.ensures w.0.taken) w.1.ensures w.3.ensures w.4 w.5 w.6) (λ w. came-record c.args.table.now c.args.literal.now c.args.binding_cells.now c.args.binding_text.now c.args.limit c.unmarked-element.result c.args.scope c.loop-left.spent c.loop-left.cells c.loop-left.text w.3.ensures w.3.kept.1.1.1.1.0 w.3.kept.1.1.1.1.1.0 w.8 w.9 w.10) c.if-is_leaf.branch)
+    rw (← c.unmarked-element.ensures) (elim c.if-is_leaf.branch [
+      | list_records::list_parts-then-is_leaf w ↦ came-leaf c.args.table.now c.args.literal.now c.args.binding_cells.now c.args.binding_text.now c.args.limit c.unmarked-element.result c.args.scope c.loop-left.spent c.loop-left.cells c.loop-left.text s long (leaf-here c.args.table.now c.unmarked-element.result c.is_leaf.ensures w.if-is_leaf.true) w.slot_at-slot.ensures w.leaf-part.ensures w.cells-is w.text-is w.part-is
+      | list_records::list_parts-else-is_leaf w ↦ came-record c.args.table.now c.args.literal.now c.args.binding_cells.now c.args.binding_text.now c.args.limit c.unmarked-element.result c.args.scope c.loop-left.spent c.loop-left.cells c.loop-left.text w.eval-part.ensures w.eval-part.auto.cells w.eval-part.auto.text w.cells-is w.text-is w.part-is
+    ])
 
-pub key-came : (t : ℕ) (c : Joined-is_leaf) → Came c.args.table.now c.args.literal.now c.args.binding_cells.now c.args.binding_text.now c.args.limit c.loop-left.place c.args.scope c.loop-left.spent c.loop-left.cells c.loop-left.text c.if-is_leaf.one c.if-is_leaf.cells c.if-is_leaf.text
+pub key-came : (t : ℕ) (c : map_records::map_parts-Joined-is_leaf t) → Came c.args.table.now c.args.literal.now c.args.binding_cells.now c.args.binding_text.now c.args.limit c.loop-left.place c.args.scope c.loop-left.spent c.loop-left.cells c.loop-left.text c.if-is_leaf.one c.if-is_leaf.cells c.if-is_leaf.text
 key-came t c =
     let f = entry_next c.args.table.now c.args.literal.now c.args.at c.loop-left.left c.loop-left.place c.loop-left-test.true c.loop-left.invariant.row in
     let long = (c.well_formed.1.1.1.1.1.1.1.1.0.1.1.0.1.0.1) in
-    ⊎_elim (λ w. came-leaf c.args.table.now c.args.literal.now c.args.binding_cells.now c.args.binding_text.now c.args.limit c.loop-left.place c.args.scope c.loop-left.spent c.loop-left.cells c.loop-left.text f.key long (leaf-here c.args.table.now c.loop-left.place c.is_leaf.ensures w.0.taken) w.1.ensures w.3.ensures w.4 w.5 w.6) (λ w. came-record c.args.table.now c.args.literal.now c.args.binding_cells.now c.args.binding_text.now c.args.limit c.loop-left.place c.args.scope c.loop-left.spent c.loop-left.cells c.loop-left.text w.3.ensures w.3.kept.1.1.1.1.0 w.3.kept.1.1.1.1.1.0 w.8 w.9 w.10) c.if-is_leaf.branch
+    elim c.if-is_leaf.branch [
+      | map_records::map_parts-then-is_leaf w ↦ came-leaf c.args.table.now c.args.literal.now c.args.binding_cells.now c.args.binding_text.now c.args.limit c.loop-left.place c.args.scope c.loop-left.spent c.loop-left.cells c.loop-left.text f.key long (leaf-here c.args.table.now c.loop-left.place c.is_leaf.ensures w.if-is_leaf.true) w.slot_at-slot.ensures w.leaf-one.ensures w.cells-is w.text-is w.one-is
+      | map_records::map_parts-else-is_leaf w ↦ came-record c.args.table.now c.args.literal.now c.args.binding_cells.now c.args.binding_text.now c.args.limit c.loop-left.place c.args.scope c.loop-left.spent c.loop-left.cells c.loop-left.text w.eval-one.ensures w.eval-one.auto.cells w.eval-one.auto.text w.cells-is w.text-is w.one-is
+    ]
 
-pub value-came : (t : ℕ) (c : Joined-is_leaf-2) → Came c.args.table.now c.args.literal.now c.args.binding_cells.now c.args.binding_text.now c.args.limit (unmarked_at c.args.table.now (after c.args.table.now c.loop-left.place)) c.args.scope c.in-Is.going c.if-is_leaf.cells c.if-is_leaf.text c.if-is_leaf-2.part c.if-is_leaf-2.cells c.if-is_leaf-2.text
+pub value-came : (t : ℕ) (c : map_records::map_parts-Joined-is_leaf-2 t) → Came c.args.table.now c.args.literal.now c.args.binding_cells.now c.args.binding_text.now c.args.limit (unmarked_at c.args.table.now (after c.args.table.now c.loop-left.place)) c.args.scope c.in-Is.going c.if-is_leaf.cells c.if-is_leaf.text c.if-is_leaf-2.part c.if-is_leaf-2.cells c.if-is_leaf-2.text
 value-came t c =
     let f = entry_next c.args.table.now c.args.literal.now c.args.at c.loop-left.left c.loop-left.place c.loop-left-test.true c.loop-left.invariant.row in
     let u2 : c.unmarked-element.result ≡ unmarked_at c.args.table.now (after c.args.table.now c.loop-left.place) = c.unmarked-element.ensures ∙ ap (λ (n : ℕ). unmarked_at c.args.table.now n) c.end_at-second.ensures in
     let s = rw (sym u2) at f.part.sound in
     let long = (c.well_formed.1.1.1.1.1.1.1.1.0.1.1.0.1.0.1) in
-    rw u2 at (⊎_elim (λ w. came-leaf c.args.table.now c.args.literal.now c.args.binding_cells.now c.args.binding_text.now c.args.limit c.unmarked-element.result c.args.scope c.in-Is.going c.if-is_leaf.cells c.if-is_leaf.text s long (leaf-here c.args.table.now c.unmarked-element.result c.is_leaf-in-Is.ensures w.0.taken) w.1.ensures w.3.ensures w.4 w.5 w.6) (λ w. came-record c.args.table.now c.args.literal.now c.args.binding_cells.now c.args.binding_text.now c.args.limit c.unmarked-element.result c.args.scope c.in-Is.going c.if-is_leaf.cells c.if-is_leaf.text w.3.ensures w.3.kept.1.1.1.1.0 w.3.kept.1.1.1.1.1.0 w.8 w.9 w.10) c.if-is_leaf-2.branch)
+    rw (← u2) (elim c.if-is_leaf-2.branch [
+      | map_records::map_parts-then-is_leaf-2 w ↦ came-leaf c.args.table.now c.args.literal.now c.args.binding_cells.now c.args.binding_text.now c.args.limit c.unmarked-element.result c.args.scope c.in-Is.going c.if-is_leaf.cells c.if-is_leaf.text s long (leaf-here c.args.table.now c.unmarked-element.result c.is_leaf-in-Is.ensures w.if-is_leaf-2.true) w.slot_at-slot-then-is_leaf-2.ensures w.leaf-part.ensures w.cells-is w.text-is w.part-is
+      | map_records::map_parts-else-is_leaf-2 w ↦ came-record c.args.table.now c.args.literal.now c.args.binding_cells.now c.args.binding_text.now c.args.limit c.unmarked-element.result c.args.scope c.in-Is.going c.if-is_leaf.cells c.if-is_leaf.text w.eval-part.ensures w.eval-part.auto.cells w.eval-part.auto.text w.cells-is w.text-is w.part-is
+    ])
 
-pub condition-came : (t : ℕ) (c : Joined-reads) → Came c.args.table.now c.args.literal.now c.args.binding_cells.now c.args.binding_text.now c.args.limit c.args.places.condition c.loop-left.inner c.loop-left.spent c.loop-left.cells c.loop-left.text c.match-reads.test c.match-reads.cells c.match-reads.text
+pub condition-came : (t : ℕ) (c : comprehension::turns-Joined-reads t) → Came c.args.table.now c.args.literal.now c.args.binding_cells.now c.args.binding_text.now c.args.limit c.args.places.condition c.loop-left.inner c.loop-left.spent c.loop-left.cells c.loop-left.text c.match-reads.test c.match-reads.cells c.match-reads.text
 condition-came t c =
-    ⊎_elim (λ w. came-slots c.args.table.now c.args.literal.now c.args.binding_cells.now c.args.binding_text.now c.args.limit c.args.places.condition c.loop-left.inner c.loop-left.spent c.loop-left.cells c.loop-left.text c.loop-left.invariant.long c.reach_at-condition_slots.ensures w.1.given.1 w.9.ensures w.9.kept.1.1.1.1.0 w.9.kept.1.1.1.1.1.0 w.14 w.15 w.16) (λ w. came-record c.args.table.now c.args.literal.now c.args.binding_cells.now c.args.binding_text.now c.args.limit c.args.places.condition c.loop-left.inner c.loop-left.spent c.loop-left.cells c.loop-left.text w.4.ensures w.4.kept.1.1.1.1.0 w.4.kept.1.1.1.1.1.0 w.9 w.10 w.11) c.match-reads.branch
+    elim c.match-reads.branch [
+      | comprehension::turns-in-Slots w ↦ came-slots c.args.table.now c.args.literal.now c.args.binding_cells.now c.args.binding_text.now c.args.limit c.args.places.condition c.loop-left.inner c.loop-left.spent c.loop-left.cells c.loop-left.text c.loop-left.invariant.long c.reach_at-condition_slots.ensures w.in-Slots.is w.reach-test.ensures w.reach-test.auto.cells w.reach-test.auto.text w.cells-is w.text-is w.test-is
+      | comprehension::turns-in-No w ↦ came-record c.args.table.now c.args.literal.now c.args.binding_cells.now c.args.binding_text.now c.args.limit c.args.places.condition c.loop-left.inner c.loop-left.spent c.loop-left.cells c.loop-left.text w.eval-test.ensures w.eval-test.auto.cells w.eval-test.auto.text w.cells-is w.text-is w.test-is
+    ]
 
-pub step-came : (t : ℕ) (c : Joined-reads-2) → Came c.args.table.now c.args.literal.now c.args.binding_cells.now c.args.binding_text.now c.args.limit c.args.places.step (stored c.loop-left.inner c.args.places.item c.cell_at.result) c.in-Holds.more c.match-reads.cells c.match-reads.text c.match-reads-2.gives c.match-reads-2.cells c.match-reads-2.text
+pub step-came : (t : ℕ) (c : comprehension::turns-Joined-reads-2 t) → Came c.args.table.now c.args.literal.now c.args.binding_cells.now c.args.binding_text.now c.args.limit c.args.places.step (stored c.loop-left.inner c.args.places.item c.cell_at.result) c.in-Holds.more c.match-reads.cells c.match-reads.text c.match-reads-2.gives c.match-reads-2.cells c.match-reads-2.text
 step-came t c =
     let long = (length-set c.loop-left.inner.slots c.args.places.item (record { value = c.cell_at.result }) ∙ c.loop-left.invariant.long) in
-    ⊎_elim (λ w. came-slots c.args.table.now c.args.literal.now c.args.binding_cells.now c.args.binding_text.now c.args.limit c.args.places.step (stored c.loop-left.inner c.args.places.item c.cell_at.result) c.in-Holds.more c.match-reads.cells c.match-reads.text long c.reach_at-step_slots.ensures w.1.given.1 w.9.ensures w.9.kept.1.1.1.1.0 w.9.kept.1.1.1.1.1.0 w.14 w.15 w.16) (λ w. came-record c.args.table.now c.args.literal.now c.args.binding_cells.now c.args.binding_text.now c.args.limit c.args.places.step (stored c.loop-left.inner c.args.places.item c.cell_at.result) c.in-Holds.more c.match-reads.cells c.match-reads.text w.4.ensures w.4.kept.1.1.1.1.0 w.4.kept.1.1.1.1.1.0 w.9 w.10 w.11) c.match-reads-2.branch
+    elim c.match-reads-2.branch [
+      | comprehension::turns-in-Slots-reads w ↦ came-slots c.args.table.now c.args.literal.now c.args.binding_cells.now c.args.binding_text.now c.args.limit c.args.places.step (stored c.loop-left.inner c.args.places.item c.cell_at.result) c.in-Holds.more c.match-reads.cells c.match-reads.text long c.reach_at-step_slots.ensures w.in-Slots-reads.is w.reach-gives.ensures w.reach-gives.auto.cells w.reach-gives.auto.text w.cells-is w.text-is w.gives-is
+      | comprehension::turns-in-No-reads w ↦ came-record c.args.table.now c.args.literal.now c.args.binding_cells.now c.args.binding_text.now c.args.limit c.args.places.step (stored c.loop-left.inner c.args.places.item c.cell_at.result) c.in-Holds.more c.match-reads.cells c.match-reads.text w.eval-gives.ensures w.eval-gives.auto.cells w.eval-gives.auto.text w.cells-is w.text-is w.gives-is
+    ]
 
 pub appending::appends-loop-left-init : goal.appending::appends-loop-left-init
 appending::appends-loop-left-init t c =
@@ -238,7 +269,7 @@ appending::appends-reach-test-requires t c =
 
 pub appending::appends-eval-test-requires : goal.appending::appends-eval-test-requires
 appending::appends-eval-test-requires t c =
-    (omega (arith, c.requires.0, c.requires.4), c.requires.2)
+    (omega (arith, c.requires.4), c.requires.2)
 
 pub appending::appends-offset_bounds-inner-first_slot-in-Slots-reads : goal.appending::appends-offset_bounds-inner-first_slot-in-Slots-reads
 appending::appends-offset_bounds-inner-first_slot-in-Slots-reads t c =
@@ -278,7 +309,7 @@ appending::appends-single-items-requires t c =
 
 pub appending::appends-eval-items-requires : goal.appending::appends-eval-items-requires
 appending::appends-eval-items-requires t c =
-    (omega (arith, c.requires.0, c.requires.5), c.requires.3)
+    (omega (arith, c.requires.5), c.requires.3)
 
 pub comprehension::comprehend-first_operand-over-requires : goal.comprehension::comprehend-first_operand-over-requires
 comprehension::comprehend-first_operand-over-requires t c =
@@ -293,7 +324,7 @@ pub comprehension::comprehend-eval-one-requires : goal.comprehension::comprehend
 comprehension::comprehend-eval-one-requires t c =
     let z = comprehension-at c.args.table.now c.args.literal.now c.args.at c.requires.0 c.requires.1 in
     let f : c.first_operand-over.result ≡ c.args.at + 5 = c.first_operand-over.ensures ∙ z.first in
-    let g : c.end_at-init.result ≡ after c.args.table.now (c.args.at + 5) = c.end_at-init.ensures ∙ ap (λ (n : ℕ). after c.args.table.now n) f in rw g (omega (arith, z.extents, c.requires.0), z.init)
+    let g : c.end_at-init.result ≡ after c.args.table.now (c.args.at + 5) = c.end_at-init.ensures ∙ ap (λ (n : ℕ). after c.args.table.now n) f in rw g (omega (arith, z.extents), z.init)
 
 pub comprehension::comprehend-shape_of-cells-in_default : goal.comprehension::comprehend-shape_of-cells-in_default
 comprehension::comprehend-shape_of-cells-in_default t c = c.eval-one.auto.cells
@@ -304,12 +335,12 @@ comprehension::comprehend-shape_of-text-in_default t c = c.eval-one.auto.text
 pub comprehension::comprehend-returns-in_default : goal.comprehension::comprehend-returns-in_default
 comprehension::comprehend-returns-in_default t c =
     let z = comprehension-at c.args.table.now c.args.literal.now c.args.at c.requires.0 c.requires.1 in
-    init-stops c.args.table.now c.args.literal.now c.args.limit c.args.at z c.first_operand-over.ensures c.end_at-init.ensures c.args.scope c.args.used (rooms c.args.literal.now c.args.binding_cells.now c.args.binding_text.now c.args.cells.now c.args.text.now) c.eval-one.ensures c.in_default.in_default-own.keys2
+    init-stops c.args.table.now c.args.literal.now c.args.limit c.args.at z c.first_operand-over.ensures c.end_at-init.ensures c.args.scope c.args.used (rooms c.args.literal.now c.args.binding_cells.now c.args.binding_text.now c.args.cells.now c.args.text.now) c.eval-one.ensures (opened c.in_default.in_default-own.keys2)
 
 pub comprehension::comprehend-eval-two-requires : goal.comprehension::comprehend-eval-two-requires
 comprehension::comprehend-eval-two-requires t c =
     let z = comprehension-at c.args.table.now c.args.literal.now c.args.at c.requires.0 c.requires.1 in
-    let f : c.first_operand-over.result ≡ c.args.at + 5 = c.first_operand-over.ensures ∙ z.first in rw f (omega (arith, z.extents, c.requires.0), z.range)
+    let f : c.first_operand-over.result ≡ c.args.at + 5 = c.first_operand-over.ensures ∙ z.first in rw f (omega (arith, z.extents), z.range)
 
 pub comprehension::comprehend-shape_of-cells-in_default-two : goal.comprehension::comprehend-shape_of-cells-in_default-two
 comprehension::comprehend-shape_of-cells-in_default-two t c =
@@ -322,7 +353,7 @@ comprehension::comprehend-shape_of-text-in_default-two t c =
 pub comprehension::comprehend-returns-in_default-two : goal.comprehension::comprehend-returns-in_default-two
 comprehension::comprehend-returns-in_default-two t c =
     let z = comprehension-at c.args.table.now c.args.literal.now c.args.at c.requires.0 c.requires.1 in
-    range-stops c.args.table.now c.args.literal.now c.args.limit c.args.at z c.first_operand-over.ensures c.end_at-init.ensures c.args.scope c.args.used (rooms c.args.literal.now c.args.binding_cells.now c.args.binding_text.now c.args.cells.now c.args.text.now) c.eval-one.ensures c.in-Value.is c.eval-two.ensures c.in_default-two.in_default-two-own.keys2
+    range-stops c.args.table.now c.args.literal.now c.args.limit c.args.at z c.first_operand-over.ensures c.end_at-init.ensures c.args.scope c.args.used (rooms c.args.literal.now c.args.binding_cells.now c.args.binding_text.now c.args.cells.now c.args.text.now) c.eval-one.ensures c.in-Value.is c.eval-two.ensures (opened c.in_default-two.in_default-two-own.keys2)
 
 pub comprehension::comprehend-shape_of-cells-in_default-range_of : goal.comprehension::comprehend-shape_of-cells-in_default-range_of
 comprehension::comprehend-shape_of-cells-in_default-range_of t c =
@@ -349,17 +380,17 @@ comprehension::comprehend-append_path-requires t c =
 
 pub comprehension::comprehend-turns-requires : goal.comprehension::comprehend-turns-requires
 comprehension::comprehend-turns-requires t c =
-    let z = comprehension-at c.args.table.now c.args.literal.now c.args.at c.requires.0 c.requires.1 in (let q = operands-smaller c.args.table.now c.args.literal.now c.args.at z c.places_at-places.ensures in omega (arith, q, c.requires.0), (condition-sound c.args.table.now c.args.literal.now c.args.at z c.places_at-places.ensures, step-sound c.args.table.now c.args.literal.now c.args.at z c.places_at-places.ensures, result-sound c.args.table.now c.args.literal.now c.args.at z c.places_at-places.ensures, accumulator-small c.args.table.now c.args.literal.now c.args.at z c.places_at-places.ensures, item-small c.args.table.now c.args.literal.now c.args.at z c.places_at-places.ensures))
+    let z = comprehension-at c.args.table.now c.args.literal.now c.args.at c.requires.0 c.requires.1 in (let q = operands-smaller c.args.table.now c.args.literal.now c.args.at z c.places_at-places.ensures in omega (arith, q), (condition-sound c.args.table.now c.args.literal.now c.args.at z c.places_at-places.ensures, step-sound c.args.table.now c.args.literal.now c.args.at z c.places_at-places.ensures, result-sound c.args.table.now c.args.literal.now c.args.at z c.places_at-places.ensures, accumulator-small c.args.table.now c.args.literal.now c.args.at z c.places_at-places.ensures, item-small c.args.table.now c.args.literal.now c.args.at z c.places_at-places.ensures))
 
 pub comprehension::comprehend-appends-requires : goal.comprehension::comprehend-appends-requires
 comprehension::comprehend-appends-requires t c =
     let z = comprehension-at c.args.table.now c.args.literal.now c.args.at c.requires.0 c.requires.1 in
-    let q = plain-run c.args.table.now c.args.literal.now c.args.at z c.places_at-places.ensures c.in-Value.start c.append_path.result c.append_path.ensures.0 c.append_path.ensures.1 c.in-Plain.is in (omega (arith, c.requires.0), (condition-sound c.args.table.now c.args.literal.now c.args.at z c.places_at-places.ensures, q.literal, q.guard-sound, q.list-sound, q.guard-smaller, q.list-smaller, item-small c.args.table.now c.args.literal.now c.args.at z c.places_at-places.ensures))
+    let q = plain-run c.args.table.now c.args.literal.now c.args.at z c.places_at-places.ensures c.in-Value.start c.append_path.result c.append_path.ensures.0 c.append_path.ensures.1 c.in-Plain.is in (omega arith, (condition-sound c.args.table.now c.args.literal.now c.args.at z c.places_at-places.ensures, q.literal, q.guard-sound, q.list-sound, q.guard-smaller, q.list-smaller, item-small c.args.table.now c.args.literal.now c.args.at z c.places_at-places.ensures))
 
 pub comprehension::comprehend-appends-requires-in-Guarded : goal.comprehension::comprehend-appends-requires-in-Guarded
 comprehension::comprehend-appends-requires-in-Guarded t c =
     let z = comprehension-at c.args.table.now c.args.literal.now c.args.at c.requires.0 c.requires.1 in
-    let q = guarded-run c.args.table.now c.args.literal.now c.args.at z c.places_at-places.ensures c.in-Value.start c.append_path.result c.append_path.ensures.0 c.append_path.ensures.1 c.in-Guarded.is in (omega (arith, c.requires.0), (condition-sound c.args.table.now c.args.literal.now c.args.at z c.places_at-places.ensures, q.literal, q.guard-sound, q.list-sound, q.guard-smaller, q.list-smaller, item-small c.args.table.now c.args.literal.now c.args.at z c.places_at-places.ensures))
+    let q = guarded-run c.args.table.now c.args.literal.now c.args.at z c.places_at-places.ensures c.in-Value.start c.append_path.result c.append_path.ensures.0 c.append_path.ensures.1 c.in-Guarded.is in (omega arith, (condition-sound c.args.table.now c.args.literal.now c.args.at z c.places_at-places.ensures, q.literal, q.guard-sound, q.list-sound, q.guard-smaller, q.list-smaller, item-small c.args.table.now c.args.literal.now c.args.at z c.places_at-places.ensures))
 
 pub comprehension::comprehend-shape_of-cells-in-No : goal.comprehension::comprehend-shape_of-cells-in-No
 comprehension::comprehend-shape_of-cells-in-No t c =
@@ -432,7 +463,7 @@ eval::eval-begin-requires t c = c.count_at-count.ensures.1
 
 pub eval::eval-list_parts-requires : goal.eval::eval-list_parts-requires
 eval::eval-list_parts-requires t c =
-    (omega (arith, c.requires.0), (c.requires, (shape-byte c.args.table.now c.args.literal.now c.args.at c.requires Shape.List (sym c.shape_at.ensures ∙ c.in-List.is) (omega arith)), (begun-places c.count_at-count.result c.count_at-count.result c.stepped-begun.result (rooms c.args.literal.now c.args.binding_cells.now c.args.binding_text.now c.args.cells.now c.args.text.now) c.begin.ensures c.in-At.is).1 ∙ c.count_at-count.ensures.0))
+    (omega arith, (c.requires, (shape-byte c.args.table.now c.args.literal.now c.args.at c.requires Shape.List (sym c.shape_at.ensures ∙ c.in-List.is) (omega arith)), (begun-places c.count_at-count.result c.count_at-count.result c.stepped-begun.result (rooms c.args.literal.now c.args.binding_cells.now c.args.binding_text.now c.args.cells.now c.args.text.now) c.begin.ensures c.in-At.is).1 ∙ c.count_at-count.ensures.0))
 
 pub eval::eval-count_at-count-requires-in-Map : goal.eval::eval-count_at-count-requires-in-Map
 eval::eval-count_at-count-requires-in-Map t c =
@@ -443,11 +474,11 @@ eval::eval-begin-requires-in-Map t c = c.count_at-count-in-Map.ensures.1
 
 pub eval::eval-map_parts-requires : goal.eval::eval-map_parts-requires
 eval::eval-map_parts-requires t c =
-    (omega (arith, c.requires.0), (c.requires, (shape-byte c.args.table.now c.args.literal.now c.args.at c.requires Shape.Map (sym c.shape_at.ensures ∙ c.in-Map.is) (omega arith)), (begun-places c.count_at-count-in-Map.result (2 * c.count_at-count-in-Map.result) c.stepped-begun.result (rooms c.args.literal.now c.args.binding_cells.now c.args.binding_text.now c.args.cells.now c.args.text.now) c.begin-in-Map.ensures c.in-At-begin.is).1 ∙ c.count_at-count-in-Map.ensures.0))
+    (omega arith, (c.requires, (shape-byte c.args.table.now c.args.literal.now c.args.at c.requires Shape.Map (sym c.shape_at.ensures ∙ c.in-Map.is) (omega arith)), (begun-places c.count_at-count-in-Map.result (2 * c.count_at-count-in-Map.result) c.stepped-begun.result (rooms c.args.literal.now c.args.binding_cells.now c.args.binding_text.now c.args.cells.now c.args.text.now) c.begin-in-Map.ensures c.in-At-begin.is).1 ∙ c.count_at-count-in-Map.ensures.0))
 
 pub eval::eval-comprehend-requires : goal.eval::eval-comprehend-requires
 eval::eval-comprehend-requires t c =
-    (omega (arith, c.requires.0), (c.requires, shape-byte c.args.table.now c.args.literal.now c.args.at c.requires Shape.Comprehension (sym c.shape_at.ensures ∙ c.in-Comprehension.is) (omega arith)))
+    (omega arith, (c.requires, shape-byte c.args.table.now c.args.literal.now c.args.at c.requires Shape.Comprehension (sym c.shape_at.ensures ∙ c.in-Comprehension.is) (omega arith)))
 
 pub eval::eval-returns-in-Leaf : goal.eval::eval-returns-in-Leaf
 eval::eval-returns-in-Leaf t c =
@@ -548,7 +579,7 @@ eval::eval-reach-left-requires t c =
 pub eval::eval-eval-left-requires : goal.eval::eval-eval-left-requires
 eval::eval-eval-left-requires t c =
     let x = fixed-at c.args.table.now c.args.literal.now c.args.at c.requires c.in-Operands.fixed (sym c.shape_at.ensures ∙ c.in-Operands.is) in
-    let s = rw (sym c.begun_first-one.ensures) at x.first in (let q = rw (sym c.begun_first-one.ensures) at x.smaller in omega (arith, q, c.requires.0), s)
+    let s = rw (sym c.begun_first-one.ensures) at x.first in (let q = rw (sym c.begun_first-one.ensures) at x.smaller in omega (arith, q), s)
 
 pub eval::eval-after_first-requires : goal.eval::eval-after_first-requires
 eval::eval-after_first-requires t c =
@@ -595,7 +626,7 @@ eval::eval-reach-right-requires t c =
 pub eval::eval-eval-right-requires : goal.eval::eval-eval-right-requires
 eval::eval-eval-right-requires t c =
     let x = fixed-at c.args.table.now c.args.literal.now c.args.at c.requires c.in-Operands.fixed (sym c.shape_at.ensures ∙ c.in-Operands.is) in
-    let q = second_at c.args.table.now c.args.literal.now c.args.limit c.args.at x c.match-reach_at.left (rooms c.args.literal.now c.args.binding_cells.now c.args.binding_text.now c.match-reach_at.cells c.match-reach_at.text) c.after_first.ensures c.in-At-after_first.is in (omega (arith, q.1, c.requires.0), q.0)
+    let q = second_at c.args.table.now c.args.literal.now c.args.limit c.args.at x c.match-reach_at.left (rooms c.args.literal.now c.args.binding_cells.now c.args.binding_text.now c.match-reach_at.cells c.match-reach_at.text) c.after_first.ensures c.in-At-after_first.is in (omega (arith, q.1), q.0)
 
 pub eval::eval-shape_of-cells-in-Stop : goal.eval::eval-shape_of-cells-in-Stop
 eval::eval-shape_of-cells-in-Stop t c = c.after_first.auto.cells ∙ (left-came t (goal.at.eval::eval-shape_of-cells-in-Stop t c).Joined-reach_at).kept
@@ -622,7 +653,7 @@ eval::eval-returns-after-reach_at-2 t c =
 
 pub comprehension::finish-is_leaf-requires : goal.comprehension::finish-is_leaf-requires
 comprehension::finish-is_leaf-requires t c =
-    (sound-stands c.args.table.now c.args.literal.now c.args.result c.requires).here
+    (sound-stands c.args.table.now c.args.literal.now c.args.res c.requires).here
 
 pub comprehension::finish-slot_at-slot-requires : goal.comprehension::finish-slot_at-slot-requires
 comprehension::finish-slot_at-slot-requires t c =
@@ -633,19 +664,19 @@ comprehension::finish-bounds-scope-slot t c = c.slot_at-slot.ensures.1
 
 pub comprehension::finish-leaf-requires : goal.comprehension::finish-leaf-requires
 comprehension::finish-leaf-requires t c =
-    (c.requires, leaf-here c.args.table.now c.args.result c.is_leaf.ensures c.if-is_leaf.true)
+    (c.requires, leaf-here c.args.table.now c.args.res c.is_leaf.ensures c.if-is_leaf.true)
 
 pub comprehension::finish-eval-requires : goal.comprehension::finish-eval-requires
 comprehension::finish-eval-requires t c =
-    (omega (arith, c.requires.0), c.requires)
+    (omega arith, c.requires)
 
 pub comprehension::finish-returns-in-Held : goal.comprehension::finish-returns-in-Held
 comprehension::finish-returns-in-Held t c =
-    held-is (machine c.args.table.now c.args.limit (expr_of c.args.table.now c.args.literal.now c.args.result)) c.in-Held.is c.args.scope c.args.used (rooms c.args.literal.now c.args.binding_cells.now c.args.binding_text.now c.args.cells.now c.args.text.now)
+    held-is (machine c.args.table.now c.args.limit (expr_of c.args.table.now c.args.literal.now c.args.res)) c.in-Held.is c.args.scope c.args.used (rooms c.args.literal.now c.args.binding_cells.now c.args.binding_text.now c.args.cells.now c.args.text.now)
 
 pub comprehension::finish-returns-then-is_leaf : goal.comprehension::finish-returns-then-is_leaf
 comprehension::finish-returns-then-is_leaf t c =
-    result-is (machine c.args.table.now c.args.limit (expr_of c.args.table.now c.args.literal.now c.args.result)) c.in-Nothing.is c.args.scope c.args.used (rooms c.args.literal.now c.args.binding_cells.now c.args.binding_text.now c.args.cells.now c.args.text.now) (leaf-does c.args.table.now c.args.literal.now c.args.limit c.args.result c.requires c.args.scope c.args.used (c.well_formed.1.1.1.1.1.1.1.1.0.1.1.0.1.0.1) (leaf-here c.args.table.now c.args.result c.is_leaf.ensures c.if-is_leaf.true) c.slot_at-slot.ensures c.leaf.ensures (rooms c.args.literal.now c.args.binding_cells.now c.args.binding_text.now c.args.cells.now c.args.text.now))
+    result-is (machine c.args.table.now c.args.limit (expr_of c.args.table.now c.args.literal.now c.args.res)) c.in-Nothing.is c.args.scope c.args.used (rooms c.args.literal.now c.args.binding_cells.now c.args.binding_text.now c.args.cells.now c.args.text.now) (leaf-does c.args.table.now c.args.literal.now c.args.limit c.args.res c.requires c.args.scope c.args.used (c.well_formed.1.1.1.1.1.1.1.1.0.1.1.0.1.0.1) (leaf-here c.args.table.now c.args.res c.is_leaf.ensures c.if-is_leaf.true) c.slot_at-slot.ensures c.leaf.ensures (rooms c.args.literal.now c.args.binding_cells.now c.args.binding_text.now c.args.cells.now c.args.text.now))
 
 pub comprehension::finish-shape_of-cells : goal.comprehension::finish-shape_of-cells
 comprehension::finish-shape_of-cells t c = c.eval.auto.cells
@@ -655,7 +686,7 @@ comprehension::finish-shape_of-text t c = c.eval.auto.text
 
 pub comprehension::finish-returns-else-is_leaf : goal.comprehension::finish-returns-else-is_leaf
 comprehension::finish-returns-else-is_leaf t c =
-    result-is (machine c.args.table.now c.args.limit (expr_of c.args.table.now c.args.literal.now c.args.result)) c.in-Nothing.is c.args.scope c.args.used (rooms c.args.literal.now c.args.binding_cells.now c.args.binding_text.now c.args.cells.now c.args.text.now) c.eval.ensures
+    result-is (machine c.args.table.now c.args.limit (expr_of c.args.table.now c.args.literal.now c.args.res)) c.in-Nothing.is c.args.scope c.args.used (rooms c.args.literal.now c.args.binding_cells.now c.args.binding_text.now c.args.cells.now c.args.text.now) c.eval.ensures
 
 pub list_records::list_parts-first_operand-place-requires : goal.list_records::list_parts-first_operand-place-requires
 list_records::list_parts-first_operand-place-requires t c =
@@ -694,7 +725,7 @@ list_records::list_parts-leaf-part-requires t c =
 pub list_records::list_parts-eval-part-requires : goal.list_records::list_parts-eval-part-requires
 list_records::list_parts-eval-part-requires t c =
     let f = element-next c.args.table.now c.args.literal.now c.args.at c.loop-left.left c.loop-left.place c.loop-left-test.true c.loop-left.invariant.row in
-    let s = rw (sym c.unmarked-element.ensures) at f.part.sound in (let q = rw (sym c.unmarked-element.ensures) at f.smaller in omega (arith, q, c.requires.0), s)
+    let s = rw (sym c.unmarked-element.ensures) at f.part.sound in (let q = rw (sym c.unmarked-element.ensures) at f.smaller in omega (arith, q), s)
 
 pub list_records::list_parts-shape_of-cells-in_default : goal.list_records::list_parts-shape_of-cells-in_default
 list_records::list_parts-shape_of-cells-in_default t c = (element-came t (goal.at.list_records::list_parts-shape_of-cells-in_default t c).Joined-is_leaf).kept ∙ c.loop-left.invariant.kept
@@ -705,7 +736,7 @@ list_records::list_parts-shape_of-text-in_default t c = (element-came t (goal.at
 pub list_records::list_parts-returns-in_default : goal.list_records::list_parts-returns-in_default
 list_records::list_parts-returns-in_default t c =
     let f = element-next c.args.table.now c.args.literal.now c.args.at c.loop-left.left c.loop-left.place c.loop-left-test.true c.loop-left.invariant.row in
-    element-stops c.args.table.now c.args.literal.now c.args.limit c.args.first c.args.scope c.loop-left.left c.loop-left.place c.loop-left-test.true f.sound c.loop-left.ready c.loop-left.spent (rooms c.args.literal.now c.args.binding_cells.now c.args.binding_text.now c.loop-left.cells c.loop-left.text) (element-came t (goal.at.list_records::list_parts-returns-in_default t c).Joined-is_leaf).is c.in_default.in_default-own.keys2 ∙ c.loop-left.invariant.same
+    element-stops c.args.table.now c.args.literal.now c.args.limit c.args.first c.args.scope c.loop-left.left c.loop-left.place c.loop-left-test.true f.sound c.loop-left.ready c.loop-left.spent (rooms c.args.literal.now c.args.binding_cells.now c.args.binding_text.now c.loop-left.cells c.loop-left.text) (element-came t (goal.at.list_records::list_parts-returns-in_default t c).Joined-is_leaf).is (opened c.in_default.in_default-own.keys2) ∙ c.loop-left.invariant.same
 
 pub list_records::list_parts-add_element-ready-requires : goal.list_records::list_parts-add_element-ready-requires
 list_records::list_parts-add_element-ready-requires t c =
@@ -759,7 +790,7 @@ map_records::map_parts-leaf-one-requires t c =
 
 pub map_records::map_parts-eval-one-requires : goal.map_records::map_parts-eval-one-requires
 map_records::map_parts-eval-one-requires t c =
-    let f = entry_next c.args.table.now c.args.literal.now c.args.at c.loop-left.left c.loop-left.place c.loop-left-test.true c.loop-left.invariant.row in (omega (arith, f.key-smaller, c.requires.0), f.key)
+    let f = entry_next c.args.table.now c.args.literal.now c.args.at c.loop-left.left c.loop-left.place c.loop-left-test.true c.loop-left.invariant.row in (omega (arith, f.key-smaller), f.key)
 
 pub map_records::map_parts-shape_of-cells-in-Ends : goal.map_records::map_parts-shape_of-cells-in-Ends
 map_records::map_parts-shape_of-cells-in-Ends t c =
@@ -811,7 +842,7 @@ pub map_records::map_parts-eval-part-requires : goal.map_records::map_parts-eval
 map_records::map_parts-eval-part-requires t c =
     let f = entry_next c.args.table.now c.args.literal.now c.args.at c.loop-left.left c.loop-left.place c.loop-left-test.true c.loop-left.invariant.row in
     let u2 : c.unmarked-element.result ≡ unmarked_at c.args.table.now (after c.args.table.now c.loop-left.place) = c.unmarked-element.ensures ∙ ap (λ (n : ℕ). unmarked_at c.args.table.now n) c.end_at-second.ensures in
-    let s = rw (sym u2) at f.part.sound in (let q = rw (sym u2) at f.smaller in omega (arith, q, c.requires.0), s)
+    let s = rw (sym u2) at f.part.sound in (let q = rw (sym u2) at f.smaller in omega (arith, q), s)
 
 pub map_records::map_parts-shape_of-cells-in_default : goal.map_records::map_parts-shape_of-cells-in_default
 map_records::map_parts-shape_of-cells-in_default t c =
@@ -824,7 +855,7 @@ map_records::map_parts-shape_of-text-in_default t c =
 pub map_records::map_parts-returns-in_default : goal.map_records::map_parts-returns-in_default
 map_records::map_parts-returns-in_default t c =
     let f = entry_next c.args.table.now c.args.literal.now c.args.at c.loop-left.left c.loop-left.place c.loop-left-test.true c.loop-left.invariant.row in
-    value-stops c.args.table.now c.args.literal.now c.args.limit c.args.at c.args.first c.args.scope c.loop-left.left c.loop-left.place c.loop-left-test.true f.sound c.loop-left.ready c.loop-left.spent (rooms c.args.literal.now c.args.binding_cells.now c.args.binding_text.now c.loop-left.cells c.loop-left.text) (key-came t (goal.at.map_records::map_parts-returns-in_default t c).Joined-is_leaf).is c.key_of.ensures c.in-Is.is (value-came t (goal.at.map_records::map_parts-returns-in_default t c).Joined-is_leaf-2).is c.in_default.in_default-own.keys2 ∙ c.loop-left.invariant.same
+    value-stops c.args.table.now c.args.literal.now c.args.limit c.args.at c.args.first c.args.scope c.loop-left.left c.loop-left.place c.loop-left-test.true f.sound c.loop-left.ready c.loop-left.spent (rooms c.args.literal.now c.args.binding_cells.now c.args.binding_text.now c.loop-left.cells c.loop-left.text) (key-came t (goal.at.map_records::map_parts-returns-in_default t c).Joined-is_leaf).is c.key_of.ensures c.in-Is.is (value-came t (goal.at.map_records::map_parts-returns-in_default t c).Joined-is_leaf-2).is (opened c.in_default.in_default-own.keys2) ∙ c.loop-left.invariant.same
 
 pub map_records::map_parts-end_at-place-requires : goal.map_records::map_parts-end_at-place-requires
 map_records::map_parts-end_at-place-requires t c =
@@ -928,7 +959,7 @@ comprehension::turns-reach-test-requires t c =
 
 pub comprehension::turns-eval-test-requires : goal.comprehension::turns-eval-test-requires
 comprehension::turns-eval-test-requires t c =
-    (omega (arith, c.requires.0), c.requires.0)
+    (omega arith, c.requires.0)
 
 pub comprehension::turns-shape_of-cells-in-Ends : goal.comprehension::turns-shape_of-cells-in-Ends
 comprehension::turns-shape_of-cells-in-Ends t c = (condition-came t (goal.at.comprehension::turns-shape_of-cells-in-Ends t c).Joined-reads).kept ∙ c.loop-left.invariant.kept
@@ -991,7 +1022,7 @@ comprehension::turns-reach-gives-requires t c =
 
 pub comprehension::turns-eval-gives-requires : goal.comprehension::turns-eval-gives-requires
 comprehension::turns-eval-gives-requires t c =
-    (omega (arith, c.requires.0), c.requires.1)
+    (omega arith, c.requires.1)
 
 pub comprehension::turns-overflow_add-cell : goal.comprehension::turns-overflow_add-cell
 comprehension::turns-overflow_add-cell t c =
@@ -1031,7 +1062,7 @@ comprehension::turns-loop-left-preserved t c =
 
 pub comprehension::turns-finish-requires : goal.comprehension::turns-finish-requires
 comprehension::turns-finish-requires t c =
-    (omega (arith, c.requires.0, extent-least c.args.table.now c.args.literal.now c.args.places.condition c.requires.0), c.requires.2)
+    (omega (arith, extent-least c.args.table.now c.args.literal.now c.args.places.condition c.requires.0), c.requires.2)
 
 pub comprehension::turns-shape_of-cells : goal.comprehension::turns-shape_of-cells
 comprehension::turns-shape_of-cells t c =
