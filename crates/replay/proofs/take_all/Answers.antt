@@ -4,13 +4,13 @@ use native.Mathlib.Omega.{arith}
 use Rattle.replay.proofs.take_all.Goals as goal
 
 pub overflow_sub-turns : goal.overflow_sub-turns
-overflow_sub-turns c = omega (arith, c.loop-turns-test.true)
+overflow_sub-turns g c = omega (arith, c.loop-turns-test.true)
 
 pub loop-turns-smaller : goal.loop-turns-smaller
-loop-turns-smaller c = omega (arith, c.loop-turns-test.true)
+loop-turns-smaller g c = omega (arith, c.loop-turns-test.true)
 
 pub loop-turns-preserved : goal.loop-turns-preserved
-loop-turns-preserved c = (
+loop-turns-preserved g c = (
   c.chunk-1.given ∙ c.loop-turns.invariant.0,
   c.line-1.given ∙ c.loop-turns.invariant.1,
   c.literal-1.given ∙ c.loop-turns.invariant.2,

@@ -6,15 +6,15 @@ use native.Mathlib.Omega.{arith}
 use Rattle.replay.proofs.take_chunk.Goals as goal
 
 pub overflow_add-from : goal.overflow_add-from
-overflow_add-from c =
-    omega (arith, c.find-end.ensures.1, c.well_formed)
+overflow_add-from g c =
+    omega (arith, c.find-end.ensures.lower_bound, c.well_formed)
 
 pub loop-from-smaller : goal.loop-from-smaller
-loop-from-smaller c =
-    omega (arith, c.loop-from-test.true, c.find-end.ensures.1)
+loop-from-smaller g c =
+    omega (arith, c.loop-from-test.true, c.find-end.ensures.lower_bound)
 
 pub loop-from-preserved : goal.loop-from-preserved
-loop-from-preserved c = (
+loop-from-preserved g c = (
   c.line-1.given ∙ c.loop-from.invariant.0,
   c.literal-1.given ∙ c.loop-from.invariant.1,
   c.table-1.given ∙ c.loop-from.invariant.2,

@@ -6,9 +6,9 @@ use lib.ListN.{length}
 use Rattle.replay.proofs.take_chunk.Given as goal
 
 abbrev pub invariant-loop-from : goal.invariant-loop-from
-invariant-loop-from l =
+invariant-loop-from g l =
     (length l.line ≡ length l.initial.line) × (length l.literal ≡ length l.initial.literal) × (length l.table ≡ length l.initial.table) × (length l.binding_cells ≡ length l.initial.binding_cells) × (length l.binding_text ≡ length l.initial.binding_text) × (length l.cells ≡ length l.initial.cells) × (length l.text ≡ length l.initial.text) × (length l.out ≡ length l.initial.out)
 
 abbrev pub decreases-loop-from : goal.decreases-loop-from
-decreases-loop-from l =
+decreases-loop-from g l =
     length l.chunk - l.from

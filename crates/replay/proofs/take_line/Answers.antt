@@ -4,4 +4,4 @@ use lib.ListN.{length-take}
 use Rattle.replay.proofs.take_line.Goals as goal
 
 pub slice_bounds-answer_line-end : goal.slice_bounds-answer_line-end
-slice_bounds-answer_line-end c = simp length-take (omega arith)
+slice_bounds-answer_line-end g c = simp length-take (omega arith)

@@ -4,4 +4,4 @@ use native.Mathlib.Omega.{arith}
 use Rattle.test_bindings.proofs.answer_line.Goals as goal
 
 pub overflow_add-from : goal.overflow_add-from
-overflow_add-from c = omega (arith, c.deed_end-end.ensures.1, c.well_formed)
+overflow_add-from g c = omega (arith, c.deed_end-end.ensures.1, c.well_formed)

@@ -5,7 +5,7 @@ use lib.ListN.{length}
 use Rattle.test_bindings.proofs.answer_line.Given as goal
 
 abbrev pub invariant-loop-from : goal.invariant-loop-from
-invariant-loop-from l = (length l.cells ≡ length l.initial.cells) × (length l.text ≡ length l.initial.text) × (length l.left ≡ length l.initial.left) × (length l.right ≡ length l.initial.right)
+invariant-loop-from g l = (length l.cells ≡ length l.initial.cells) × (length l.text ≡ length l.initial.text) × (length l.left ≡ length l.initial.left) × (length l.right ≡ length l.initial.right)
 
 abbrev pub decreases-loop-from : goal.decreases-loop-from
-decreases-loop-from l = length l.part - l.from
+decreases-loop-from g l = length l.part - l.from

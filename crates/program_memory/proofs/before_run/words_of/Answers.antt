@@ -4,7 +4,7 @@ use lib.ListN.{length-take}
 use Rattle.program_memory.proofs.before_run.words_of.Goals as goal
 
 pub returns-then-most-count : goal.returns-then-most-count
-returns-then-most-count c = (omega arith, (omega arith, simp length-take (omega arith)))
+returns-then-most-count c = record { value = omega arith; prefix_len = (omega arith, simp length-take (omega arith)) }
 
 pub returns-else-most-count : goal.returns-else-most-count
-returns-else-most-count c = (omega arith, (omega arith, simp length-take (omega arith)))
+returns-else-most-count c = record { value = omega arith; prefix_len = (omega arith, simp length-take (omega arith)) }
