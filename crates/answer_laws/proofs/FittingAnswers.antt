@@ -24,7 +24,6 @@ use Rattle.bindings_sound.specs.Held.{held_scope, alive_below}
 use Rattle.bindings_sound.proofs.SoundScope.{sound-scope}
 use Rattle.machine.specs.declared.outcome.Used.{Used}
 use Rattle.machine.specs.declared.outcome.Outcome.{Outcome}
-use Rattle.machine.specs.declared.outcome.Outcome.TheVariants as Outcome
 use Rattle.machine.specs.Outcomes.{Res}
 use Rattle.machine.specs.Machine.{machine}
 use Rattle.machine.specs.Refines.{used_of, from, Good, Below}

@@ -1,4 +1,5 @@
 // The calls for callers in C and Rust, but for evaluation, over words that the caller holds.
+#![tactic(auto)]
 
 // What goes in: a table checked, a state emptied, a binding brought in.
 pub mod intake;

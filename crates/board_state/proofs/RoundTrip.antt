@@ -11,7 +11,6 @@ use Rattle.numbers.specs.declared.double.Double.{Double}
 use Rattle.numbers.specs.declared.double.Double.TheVariants.{Plain, Nan}
 use Rattle.numbers.specs.Double.{bits_of, double_of}
 use Rattle.rooms.specs.declared.value.Value.{Value}
-use Rattle.rooms.specs.declared.value.Value.TheVariants as Value
 use Rattle.rooms.specs.declared.scope.Slot.{Slot}
 use Rattle.rooms.specs.Value.{double_value}
 use Rattle.rooms.specs.Cells.{head_of, payload_of, cell_of, cell_in, Fits, settled}

@@ -9,7 +9,6 @@ use lib.Dec.{eqb}
 use lib.Seq.{set_at, append_snoc, take-suc, drop-cons, length-take-le, take_all, take_at, sets-eq}
 use borrow.Author.Tests.{lt-ltb, le-ltb, eq-eqb, ne_eqb, eqb-true}
 use Rattle.rooms.specs.declared.value.Value.{Value}
-use Rattle.rooms.specs.declared.value.Value.TheVariants as Value
 use Rattle.rooms.specs.declared.scope.Slot.{Slot}
 use Rattle.rooms.specs.declared.scope.Scope.{Scope}
 use Rattle.rooms.specs.Cells.{head_of, payload_of, value_of, bare_of, cell_of, has_cell, cell_in, written_in}

@@ -1,6 +1,8 @@
 // Bindings as words that a caller holds, a state: a slot for each of the 128 names, as a cell; then how many cells and bytes of the binding room
 // are used; and how many slots there are, by which a state is known. Words of any other shape stand for bindings that no room is sound with.
 // Here: a state is read and written. `bringing` brings a binding in over one.
+#![tactic(auto)]
+
 pub mod bringing;
 
 ghost use Rattle.std.specs.Prelude.{◌≡◌, ◌≤◌, ◌++◌, length, drop};

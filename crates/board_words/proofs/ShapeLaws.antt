@@ -5,11 +5,9 @@ use mathlib.Core.List.{List, [], ◌∷◌, ◌++◌}
 use native.Mathlib.Omega.{arith}
 use lib.ListN.{get_or}
 use Rattle.rooms.specs.declared.value.Value.{Value}
-use Rattle.rooms.specs.declared.value.Value.TheVariants as Value
 use Rattle.rooms.specs.Value.{plain_of, parts_of}
 use Rattle.rooms.specs.Cells.{head_of, payload_of}
 use Rattle.answer_values.specs.declared.spans_and_counts.Span.{Span}
-use Rattle.answer_values.specs.declared.spans_and_counts.Span.TheVariants as Span
 use Rattle.answer_values.specs.Kinds.{kind_of}
 use Rattle.answer_values.specs.SpansAndCounts.{span_in, count_in}
 use Rattle.board_words.specs.Overlay.{handed}

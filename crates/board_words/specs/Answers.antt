@@ -3,14 +3,11 @@
 use Rattle.std.specs.Prelude.{ℕ, List, [], ◌∷◌}
 use Rattle.meaning.specs.Errors.{error_number}
 use Rattle.rooms.specs.declared.value.Value.{Value}
-use Rattle.rooms.specs.declared.value.Value.TheVariants as Value
 use Rattle.rooms.specs.Cells.{head_of, payload_of}
 use Rattle.table_check.specs.declared.Checked.{Checked}
-use Rattle.table_check.specs.declared.Checked.TheVariants as Checked
 use Rattle.machine.specs.declared.outcome.Used.{Used}
 use Rattle.answer.specs.Numbers.{error_meant, limit_meant, limit_number}
 use Rattle.answer.specs.declared.Answer.{Answer}
-use Rattle.answer.specs.declared.Answer.TheVariants as Answer
 
 abbrev pub answer_words : ℕ
 answer_words = 8

@@ -4,11 +4,8 @@ use Rattle.rooms.specs.declared.value.Value.{Value}
 use Rattle.rooms.specs.Value.{plain_of, parts_of}
 use Rattle.rooms.specs.Cells.{bit_of, word_of, text_number, head_of, payload_of}
 use Rattle.answer_values.specs.declared.kinds.Truth.{Truth}
-use Rattle.answer_values.specs.declared.kinds.Truth.TheVariants as Truth
 use Rattle.answer_values.specs.declared.numeric.Numeric.{Numeric}
-use Rattle.answer_values.specs.declared.numeric.Numeric.TheVariants as Numeric
 use Rattle.answer_values.specs.declared.spans_and_counts.Span.{Span}
-use Rattle.answer_values.specs.declared.spans_and_counts.Span.TheVariants as Span
 use Rattle.answer_values.specs.Kinds.{kind_of, truth_in}
 use Rattle.answer_values.specs.Numbers.{number_in}
 use Rattle.answer_values.specs.SpansAndCounts.{span_in, count_in}

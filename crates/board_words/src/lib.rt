@@ -1,4 +1,5 @@
 // Answers and values as words, as callers in C and Rust read them.
+#![tactic(auto)]
 
 // An answer as eight words.
 pub mod answers;

@@ -4,7 +4,6 @@ use mathlib.Core.Path.{◌≡◌, sym, ap, ◌∙◌}
 use mathlib.Core.List.{◌++◌}
 use Rattle.machine.specs.declared.outcome.Used.{Used}
 use Rattle.machine.specs.declared.outcome.Limit.{Limit}
-use Rattle.machine.specs.declared.outcome.Limit.TheVariants as Limit
 use Rattle.answer.specs.Numbers.{limit_meant}
 use Rattle.answer.specs.Meant.{counts_used}
 use Rattle.line_pieces.specs.Page.{Page, puts}

@@ -13,9 +13,7 @@ use Rattle.rooms.specs.declared.value.Value.{Value}
 use Rattle.rooms.specs.Rooms.{Rooms}
 use Rattle.rooms.specs.Reading.{reading}
 use Rattle.answer.specs.declared.Answer.{Answer}
-use Rattle.answer.specs.declared.Answer.TheVariants as Answer
 use Rattle.answer.specs.Meant.{Told, refused, value, error, counts_used, told, told_by, Says}
-use Rattle.answer.specs.Meant as Told
 use Rattle.line_pieces.specs.Spelled.{ascii}
 use Rattle.line_values.specs.Written.{written}
 use Rattle.line_values.specs.Shown.{shown_in}

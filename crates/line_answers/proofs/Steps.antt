@@ -9,7 +9,6 @@ use Rattle.machine.specs.declared.outcome.Error.{Error}
 use Rattle.machine.specs.declared.outcome.Limit.{Limit}
 use Rattle.answer.specs.Numbers.{error_meant, limit_meant}
 use Rattle.answer.specs.declared.Answer.{Answer}
-use Rattle.answer.specs.declared.Answer.TheVariants as Answer
 use Rattle.answer.specs.Meant.{counts_used}
 use Rattle.line_pieces.specs.Page.{Page, puts}
 use Rattle.line_pieces.specs.Spelled.{ascii}

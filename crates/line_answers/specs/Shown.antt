@@ -4,7 +4,6 @@ use Rattle.meaning.specs.Errors.{error_number}
 use Rattle.rooms.specs.Rooms.{Rooms}
 use Rattle.answer.specs.Numbers.{error_meant, limit_meant}
 use Rattle.answer.specs.declared.Answer.{Answer}
-use Rattle.answer.specs.declared.Answer.TheVariants as Answer
 use Rattle.answer.specs.Meant.{counts_used}
 use Rattle.line_pieces.specs.Spelled.{ascii}
 use Rattle.line_values.specs.Shown.{shown_in}

@@ -1,5 +1,7 @@
 // The line of an answer, put into lent memory.
 // Here: the whole line. `phrases` puts its counts, places and limits, and `shortening` cuts a value that is too long.
+#![tactic(auto)]
+
 pub mod phrases;
 pub mod shortening;
 

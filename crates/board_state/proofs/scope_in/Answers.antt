@@ -1,10 +1,9 @@
 -- `scope_in`: the slots read so far, and absent ones behind them. Assumes nothing.
 use mathlib.Core.Path.{refl, sym, ap, ◌∙◌}
-use mathlib.Core.Logic.{⊎_elim}
 use native.Mathlib.Omega.{arith}
-use borrow.Author.Tests.{not-false}
 use Rattle.rooms.specs.declared.scope.Scope.{Scope}
 use Rattle.board_state.proofs.SlotSteps.{slot-absent, slot-stored, slot_kept, slots-none, slots-all}
+use Rattle.board_state.proofs.scope_in.Goals.{then-not-says_absent, else-not-says_absent}
 use Rattle.board_state.proofs.scope_in.Goals as goal
 
 pub loop-left-init : goal.loop-left-init
@@ -13,10 +12,10 @@ loop-left-init c = (refl, slots-none c.args.words.now c.empty-scope.result.slots
 pub loop-left-preserved : goal.loop-left-preserved
 loop-left-preserved c = (
   omega arith,
-  ⊎_elim
-      (λ w. ap (λ (s : Scope). s.slots) w.2 ∙ slot-stored c.args.words.now c.loop-left.scope.slots w.1.result c.loop-left.at c.loop-left.left c.loop-left-test.true c.loop-left.invariant.1 w.1.ensures)
-      (λ w. ap (λ (s : Scope). s.slots) w.1 ∙ slot_kept c.args.words.now c.loop-left.scope.slots c.loop-left.at c.loop-left.left c.loop-left-test.true c.loop-left.invariant.1 (slot-absent c.args.words.now c.loop-left.at (sym c.says_absent.ensures ∙ not-false c.says_absent.result w.0.left)))
-      c.if-not-says_absent.branch,
+  elim c.if-not-says_absent.branch [
+    | then-not-says_absent w ↦ ap (λ (s : Scope). s.slots) w.scope-is ∙ slot-stored c.args.words.now c.loop-left.scope.slots w.slot_in.result c.loop-left.at c.loop-left.left c.loop-left-test.true c.loop-left.invariant.1 w.slot_in.ensures
+    | else-not-says_absent w ↦ ap (λ (s : Scope). s.slots) w.scope-is ∙ slot_kept c.args.words.now c.loop-left.scope.slots c.loop-left.at c.loop-left.left c.loop-left-test.true c.loop-left.invariant.1 (slot-absent c.args.words.now c.loop-left.at (sym c.says_absent.ensures ∙ w.if-not-says_absent.false))
+  ],
 )
 
 pub returns : goal.returns

@@ -1,10 +1,10 @@
 -- `overlay::lay`: the words laid so far, over those that were lent. Assumes nothing.
-use Prim.Native.Nat.{ℕ, ◌-◌}
+use Prim.Native.Nat.{ℕ}
 use mathlib.Core.Path.{refl, ap, ◌∙◌}
 use mathlib.Core.List.{List}
 use native.Mathlib.Omega.{arith}
-use lib.ListN.{length, set, get_or, length-set}
-use Rattle.board_words.proofs.OverlaySteps.{laid, lay-on, laid-all}
+use lib.ListN.{set, get_or, length-set}
+use Rattle.board_words.proofs.OverlaySteps.{lay-on, laid-all}
 use Rattle.board_words.proofs.overlay.lay.Goals as goal
 
 pub loop-at-init : goal.loop-at-init
