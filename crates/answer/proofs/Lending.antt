@@ -36,7 +36,7 @@ value-fits Value.OptionalNone vs h = tt
 value-fits (Value.OptionalOf d s a) vs h = (h.1.1.1.1.0.1, h.1.1.1.1.1.1.0.1)
 value-fits Value.Absent vs h = tt
 
-pub slots-fit : (ss : List Slot) (us : List Val) → shadow (each (Struct.field Slots.the_type).row.Denot (Struct.field Slots.the_type).row.own_val (map (Slots.the_type).to ss) us)
+pub slots-fit : (ss : List Slot) (us : List Val) → shadow (each (Slots.the_row).Denot (Slots.the_row).own_val ss us)
     → (n : ℕ) → Fits (get_or ss n absent).value
 slots-fit [] us h n = tt
 slots-fit (s ∷ ss) [] h n = absurd h
