@@ -12,7 +12,6 @@ use Rattle.meaning.specs.Value.{Value as Meant}
 use Rattle.meaning.specs.Bindings as Meaning
 use Rattle.meaning.specs.Bindings.{scope_of}
 use Rattle.rooms.specs.declared.value.Value.{Value}
-use Rattle.rooms.specs.declared.value.Value.TheVariants as Value
 use Rattle.rooms.specs.Cells.{bare_of, value_of, cell_of, cell_in}
 use Rattle.rooms.specs.Rooms.{Rooms, rooms}
 use Rattle.rooms.specs.Reading.{read_to, reading}

@@ -10,7 +10,6 @@ use Rattle.numbers.specs.declared.double.Double.TheVariants.{Plain, Nan}
 use Rattle.numbers.specs.Double.{bits_of, double_of}
 use Rattle.numbers.proofs.DoubleLaws.{bits_back}
 use Rattle.rooms.specs.declared.value.Value.{Value}
-use Rattle.rooms.specs.declared.value.Value.TheVariants as Value
 use Rattle.rooms.specs.declared.value.TextSpace.{TextSpace}
 use Rattle.rooms.specs.declared.value.TextSpace.TheVariants as Text
 use Rattle.rooms.specs.declared.value.CellSpace.{CellSpace}

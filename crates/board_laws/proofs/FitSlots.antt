@@ -16,7 +16,6 @@ use Rattle.meaning_laws.proofs.TableFormed.{table-formed}
 use Rattle.meaning_laws.proofs.Spelled.{SoundLiteral, literal-sound}
 use Rattle.table_check.specs.Records.{expr_of}
 use Rattle.rooms.specs.declared.value.Value.{Value}
-use Rattle.rooms.specs.declared.value.Value.TheVariants as Value
 use Rattle.rooms.specs.declared.scope.Slot.{Slot}
 use Rattle.rooms.specs.Cells as Cells
 use Rattle.rooms.specs.Cells.{cell_in}

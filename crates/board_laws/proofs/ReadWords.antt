@@ -9,11 +9,9 @@ use lib.Dec.{ltb}
 use lib.ListN.{get_or}
 use Rattle.meaning.specs.Value as Meaning
 use Rattle.rooms.specs.declared.value.Value.{Value}
-use Rattle.rooms.specs.declared.value.Value.TheVariants as Value
 use Rattle.rooms.specs.declared.value.CellSpace.{CellSpace}
 use Rattle.rooms.specs.declared.value.CellSpace.TheVariants as Cells
 use Rattle.rooms.specs.declared.value.Parts.{Parts}
-use Rattle.rooms.specs.declared.value.Parts.TheVariants as Parts
 use Rattle.rooms.specs.Value.{nesting_of}
 use Rattle.rooms.specs.Cells.{head_of, payload_of, bare_of, value_of, cell_of, has_cell, cell_in}
 use Rattle.rooms.specs.Rooms.{Rooms, words_of}

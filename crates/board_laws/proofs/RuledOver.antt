@@ -32,7 +32,6 @@ use Rattle.machine.specs.declared.outcome.Used.{Used}
 use Rattle.machine.specs.Refines.{used_of}
 use Rattle.answer.specs.Numbers.{error_meant, limit_meant, limit_number}
 use Rattle.answer.specs.declared.Answer.{Answer}
-use Rattle.answer.specs.declared.Answer.TheVariants as Answer
 use Rattle.answer.specs.Evaluated.{evaluated}
 use Rattle.answer.specs.Meant.{lent_by, Told, told, told_by, counts_used, meant, Evaluates}
 use Rattle.answer_laws.proofs.Carried.{meant-over}

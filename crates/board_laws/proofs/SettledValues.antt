@@ -14,7 +14,6 @@ use Rattle.numbers.specs.Double.{bits_of, double_of}
 use Rattle.numbers.proofs.DoubleLaws.{bits_back, proper, double-back}
 use Rattle.meaning.specs.Value.{scalar, double}
 use Rattle.rooms.specs.declared.value.Value.{Value}
-use Rattle.rooms.specs.declared.value.Value.TheVariants as Value
 use Rattle.rooms.specs.declared.scope.Slot.{Slot}
 use Rattle.rooms.specs.Value.{nesting_of, double_value}
 use Rattle.rooms.specs.Cells.{head_of, payload_of, Fits, settled}

@@ -12,7 +12,6 @@ use Rattle.meaning.specs.Answer as Answers
 use Rattle.meaning.specs.Answer.{Answer, ran, Answered}
 use Rattle.meaning.specs.WellFormed.{AllBytes}
 use Rattle.rooms.specs.declared.value.Value.{Value}
-use Rattle.rooms.specs.declared.value.Value.TheVariants as Value
 use Rattle.rooms.specs.Cells.{head_of, payload_of, cell_of}
 use Rattle.rooms.specs.Rooms.{Rooms}
 use Rattle.rooms.specs.Reading.{reading}
