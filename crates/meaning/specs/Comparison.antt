@@ -4,11 +4,9 @@ use Rattle.std.specs.Prelude.{ℕ, suc, ◌+◌, List, [], Bool, true, false, no
 use Rattle.std.proofs.Math.Option.{Option, none, some}
 use Rattle.std.specs.Bool.{beq}
 use Rattle.numbers.specs.declared.order.Order.{Order}
-use Rattle.numbers.specs.declared.order.Order.TheVariants as Order
 use Rattle.numbers.specs.Double.{Point, point_of}
 use Rattle.numbers.specs.Order.{int_point, uint_point, order_of, is_equal}
 use Rattle.text.specs.declared.bytes.TextOrder.{TextOrder}
-use Rattle.text.specs.declared.bytes.TextOrder.TheVariants as TextOrder
 use Rattle.text.specs.Bytes as Bytes
 use Rattle.meaning.specs.Errors.{NoOverload, Unordered}
 use Rattle.meaning.specs.Value.{Scalar, null, bool, int, uint, double, string, bytes, key_scalar, Value, scalar, list, map, optional_none, optional_of, Values, nil, cons, Entries, empty, entry, count, count_entries, scalar_of, elements_of, entries_of, is_none, part_of}

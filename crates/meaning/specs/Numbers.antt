@@ -3,9 +3,7 @@
 use Rattle.std.specs.Prelude.{ℕ, List, [], ◌∷◌, ◌++◌, not, ℤ}
 use Rattle.std.proofs.Math.Option.{Option, none, some}
 use Rattle.numbers.specs.declared.int.IntAnswer.{IntAnswer}
-use Rattle.numbers.specs.declared.int.IntAnswer.TheVariants as IntAnswer
 use Rattle.numbers.specs.declared.uint.UintAnswer.{UintAnswer}
-use Rattle.numbers.specs.declared.uint.UintAnswer.TheVariants as UintAnswer
 use Rattle.numbers.specs.Int as Int
 use Rattle.numbers.specs.Uint as Uint
 use Rattle.numbers.specs.Double.{add_bits, sub_bits, mul_bits, div_bits, neg_bits}

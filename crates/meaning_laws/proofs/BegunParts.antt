@@ -5,7 +5,7 @@ use mathlib.Core.List.{[], ◌∷◌, ◌++◌, append-nil}
 use mathlib.Core.Bool.{Bool, true, false}
 use Rattle.meaning.specs.Errors.{UnsupportedKeyType}
 use Rattle.meaning.specs.Value.{Value, list, map, Values, nil, Entries, empty}
-use Rattle.meaning.specs.Expr.{Expr, Elements, element, Pairs, count_elements, count_pairs}
+use Rattle.meaning.specs.Expr.{Expr, Elements, Pairs, count_elements, count_pairs}
 use Rattle.meaning.specs.Run.{Trace, Result, value, error, Raised, Eval, Rule, pure, charged, after, on_value, ◌>>=◌, or_fail, from_operand, operand}
 use Rattle.meaning.specs.Containers.{Making, having, keeping, element_rule, pair_rule, entry_rule, insert, kept, list_rule, map_rule, into}
 use Rattle.meaning.specs.Comprehension.{Scope}

@@ -7,11 +7,8 @@ use mathlib.Core.Bool.{Bool, not, beq}
 use native.Mathlib.Omega.{arith}
 use lib.ListN.{length}
 use Rattle.numbers.specs.declared.order.Order.{Order}
-use Rattle.numbers.specs.declared.order.Order.TheVariants as Order
 use Rattle.numbers.specs.declared.int.IntAnswer.{IntAnswer}
-use Rattle.numbers.specs.declared.int.IntAnswer.TheVariants as IntAnswer
 use Rattle.numbers.specs.declared.uint.UintAnswer.{UintAnswer}
-use Rattle.numbers.specs.declared.uint.UintAnswer.TheVariants as UintAnswer
 use Rattle.numbers.specs.Int as Int
 use Rattle.text.proofs.Utf8Laws.{joined-well-formed}
 use Rattle.meaning.specs.Limits.{most_bytes}

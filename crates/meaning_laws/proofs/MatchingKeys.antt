@@ -8,11 +8,9 @@ use native.Mathlib.Omega.{arith}
 use lib.Dec.{eqb}
 use borrow.Author.Tests.{eqb-true, eqb-false, eq-eqb, ne_eqb}
 use Rattle.numbers.specs.declared.order.Order.{Order}
-use Rattle.numbers.specs.declared.order.Order.TheVariants as Order
 use Rattle.numbers.specs.Order.{order_of, is_equal, flipped}
 use Rattle.numbers_laws.proofs.OrderLaws.{order-swap}
 use Rattle.text.specs.declared.bytes.TextOrder.{TextOrder}
-use Rattle.text.specs.declared.bytes.TextOrder.TheVariants as TextOrder
 use Rattle.text.specs.Bytes as Bytes
 use Rattle.text.proofs.BytesLaws.{order-flipped}
 use Rattle.meaning.specs.Value.{Scalar, Key, key_scalar, Value, Entries, empty, entry, add_entry}

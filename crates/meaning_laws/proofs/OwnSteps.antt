@@ -5,11 +5,8 @@ use mathlib.Core.List.{List, ◌++◌}
 use mathlib.Core.Option.{Option, none, some}
 use mathlib.Core.Bool.{Bool, true, false}
 use Rattle.numbers.specs.declared.int.IntAnswer.{IntAnswer}
-use Rattle.numbers.specs.declared.int.IntAnswer.TheVariants as IntAnswer
 use Rattle.numbers.specs.declared.uint.UintAnswer.{UintAnswer}
-use Rattle.numbers.specs.declared.uint.UintAnswer.TheVariants as UintAnswer
 use Rattle.numbers.specs.declared.order.Order.{Order}
-use Rattle.numbers.specs.declared.order.Order.TheVariants as Order
 use Rattle.numbers.specs.Int as Int
 use Rattle.meaning.specs.Errors.{Error, NoOverload, IndexOutOfBounds, NoSuchKey, FunctionError}
 use Rattle.meaning.specs.Value.{Scalar, null, bool, int, uint, double, string, bytes, Key, Value, scalar, list, map, optional_none, optional_of, Values, Entries, join, scalar_of, elements_of, bool_of, string_in, string_of, key_scalar}

@@ -11,9 +11,7 @@ use borrow.Author.Tests.{ltb-true}
 use Rattle.numbers.specs.declared.error.ArithmeticError.{ArithmeticError}
 use Rattle.numbers.specs.declared.error.ArithmeticError.TheVariants as Failed
 use Rattle.numbers.specs.declared.int.IntAnswer.{IntAnswer}
-use Rattle.numbers.specs.declared.int.IntAnswer.TheVariants as IntAnswer
 use Rattle.numbers.specs.declared.uint.UintAnswer.{UintAnswer}
-use Rattle.numbers.specs.declared.uint.UintAnswer.TheVariants as UintAnswer
 use Rattle.numbers.specs.Int as Int
 use Rattle.numbers.specs.Int.{in_range, is_zero}
 use Rattle.numbers.specs.Uint as Uint

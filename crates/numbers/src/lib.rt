@@ -1,4 +1,5 @@
 // The numbers of CEL: Int, Uint and Double, their arithmetic, and what their order is. Two numbers are compared in numbers_order.
+#![tactic(auto)]
 
 // Double: its 64 bits, and arithmetic.
 pub mod double;

@@ -1,5 +1,7 @@
 // Numbers of all three kinds on the exact number line: `compare`, and equality from it.
 // An Int or a Uint is a whole size with a sign; a Double is compared through its bits, as whole numbers. Nothing is rounded.
+#![tactic(auto)]
+
 ghost use Rattle.std.specs.Prelude.{◌≡◌, not, ◌*◌, ◌^◌};
 ghost use Rattle.numbers.specs.Double.{size_of, point_of};
 ghost use Rattle.numbers.specs.Order.{size_order, signed_order, order_of, whole_point, number_point, is_equal, flipped};

@@ -14,9 +14,7 @@ use Rattle.numbers.specs.Double.{double_of, Proper}
 use Rattle.numbers.proofs.DoubleLaws.{proper, double-back}
 use Rattle.rooms.specs.declared.value.Value.{Value}
 use Rattle.rooms.specs.declared.places.TextPlace.{TextPlace}
-use Rattle.rooms.specs.declared.places.TextPlace.TheVariants as TextPlace
 use Rattle.rooms.specs.declared.places.CellPlace.{CellPlace}
-use Rattle.rooms.specs.declared.places.CellPlace.TheVariants as CellPlace
 use Rattle.rooms.specs.Value.{double_value}
 use Rattle.rooms.specs.Cells.{signed_of, text_place, cell_place, bare_of, text_of, container_of, value_of, cell_of, has_cell, cell_in, written_in, settled}
 use Rattle.rooms.proofs.Words.{signed_below, signed_above}

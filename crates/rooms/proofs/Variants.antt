@@ -10,7 +10,6 @@ use mir.Val.{has_key}
 use types.Run.{OneOf}
 use denote.Enum.Declared.{tag_of}
 use Rattle.rooms.specs.declared.value.Value.{Value}
-use Rattle.rooms.specs.declared.value.Value.TheVariants as Value
 use Rattle.rooms.specs.declared.value.Parts.TheVariants as Parts
 use Rattle.rooms.specs.declared.value.Plain.TheVariants as Plain
 use Rattle.rooms.specs.Value.{nesting_of, parts_of, plain_of}

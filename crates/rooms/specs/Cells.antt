@@ -7,15 +7,12 @@ use Rattle.std.specs.Int.Signed.{mag}
 use Rattle.numbers.specs.declared.double.Double.TheVariants.{Plain}
 use Rattle.numbers.specs.Double.{bits_of, double_of}
 use Rattle.rooms.specs.declared.value.Value.{Value}
-use Rattle.rooms.specs.declared.value.Value.TheVariants as Value
 use Rattle.rooms.specs.declared.value.TextSpace.{TextSpace}
 use Rattle.rooms.specs.declared.value.TextSpace.TheVariants as Text
 use Rattle.rooms.specs.declared.value.CellSpace.{CellSpace}
 use Rattle.rooms.specs.declared.value.CellSpace.TheVariants as Cells
 use Rattle.rooms.specs.declared.places.TextPlace.{TextPlace}
-use Rattle.rooms.specs.declared.places.TextPlace.TheVariants as TextPlace
 use Rattle.rooms.specs.declared.places.CellPlace.{CellPlace}
-use Rattle.rooms.specs.declared.places.CellPlace.TheVariants as CellPlace
 use Rattle.rooms.specs.Value.{double_value}
 
 -- ---- numbers and spaces

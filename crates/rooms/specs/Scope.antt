@@ -5,7 +5,6 @@ use Rattle.meaning.specs.Limits.{names}
 use Rattle.meaning.specs.Value as Meaning
 use Rattle.meaning.specs.Comprehension as Scopes
 use Rattle.rooms.specs.declared.value.Value.{Value}
-use Rattle.rooms.specs.declared.value.Value.TheVariants as Value
 use Rattle.rooms.specs.declared.scope.Slot.{Slot}
 use Rattle.rooms.specs.declared.scope.Scope.{Scope}
 use Rattle.rooms.specs.Rooms.{Rooms}

@@ -7,7 +7,6 @@ use Rattle.meaning.specs.Limits.{deepest_value}
 use Rattle.meaning.specs.Value as Meaning
 use Rattle.meaning.specs.Value.{null, bool, int, uint, double, string, bytes, scalar, list, map, optional_none, optional_of, nil, cons, empty, entry, nesting, nesting_in, nesting_over, count, count_entries, key_scalar}
 use Rattle.rooms.specs.declared.value.Value.{Value}
-use Rattle.rooms.specs.declared.value.Value.TheVariants as Value
 use Rattle.rooms.specs.declared.value.TextSpace.{TextSpace}
 use Rattle.rooms.specs.declared.value.TextSpace.TheVariants as Text
 use Rattle.rooms.specs.declared.value.CellSpace.{CellSpace}

@@ -3,12 +3,9 @@ use Rattle.std.specs.Prelude.{ℕ, Bool, true, false}
 use Rattle.numbers.specs.declared.double.Double as Numbers
 use Rattle.numbers.specs.declared.double.Double.TheVariants as Bits
 use Rattle.rooms.specs.declared.value.Value.{Value}
-use Rattle.rooms.specs.declared.value.Value.TheVariants as Value
 use Rattle.numbers.specs.declared.order.Number.TheVariants as Number
 use Rattle.rooms.specs.declared.value.Plain.{Plain}
-use Rattle.rooms.specs.declared.value.Plain.TheVariants as Plain
 use Rattle.rooms.specs.declared.value.Parts.{Parts}
-use Rattle.rooms.specs.declared.value.Parts.TheVariants as Parts
 
 abbrev pub nesting_of : Value → ℕ
 nesting_of Value.Null = 0

@@ -1,4 +1,6 @@
 // Values in lent memory: what a value is, where its parts may lie, and what the names stand for. Cells are read and written in rooms_cells.
+#![tactic(auto)]
+
 pub mod places;
 pub mod scope;
 pub mod value;

@@ -1,6 +1,8 @@
 // A cell is two words of a lent slice: a head, with the kind, space, nesting and length, and a payload. Values are written and read here alone.
 // For every pair of words there is a value, or none: `Value::Absent`. Two zeros are Null, so cells are cleared to Null.
 // `packing` makes the two words of a value, and takes them apart.
+#![tactic(auto)]
+
 pub mod packing;
 
 ghost use Rattle.std.specs.Prelude.{◌≡◌};

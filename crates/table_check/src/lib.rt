@@ -2,6 +2,8 @@
 // specs/Records.
 // Here: the whole table. `records` reads records one inside another, `heads` reads their heads, `field_tests` tests their fields, `faults` finds
 // the first fault of one, and `refusals` has the numbers of the reasons.
+#![tactic(auto)]
+
 pub mod faults;
 pub mod field_tests;
 pub mod heads;

@@ -1,4 +1,5 @@
 // Where things stand in a node table, and readers for them. All that depends on the width of a word stands in `words`.
+#![tactic(auto)]
 
 // The fields of a record, a reader for each shape of body.
 pub mod fields;

@@ -1,4 +1,5 @@
 // Texts as bytes: their order and equality, and UTF-8. A text is a slice of bytes, of which nothing is asked.
+#![tactic(auto)]
 
 // Two texts compared.
 pub mod bytes;

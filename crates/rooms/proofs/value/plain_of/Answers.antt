@@ -1,5 +1,4 @@
 -- `value::plain_of` meets its contract. Assumes nothing.
-use borrow.Enum.Refused.{opened}
 use mir.Syntax.{w64}
 use mir.ValLaws.{to_z-of_z}
 use Rattle.rooms.proofs.Variants.{not_plain}

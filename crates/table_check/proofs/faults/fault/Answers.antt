@@ -1,6 +1,5 @@
 -- `faults::fault` meets its contract: a law of `FaultLaws` for each answer. Assumes nothing.
 use mathlib.Core.Path.{sym, ◌∙◌}
-use borrow.Author.Tests.{not-true, not-false}
 use Rattle.table_check.proofs.FaultLaws.{fault-deep, fault-field, fault-mark, fault-none}
 use Rattle.table_check.proofs.faults.fault.Goals as goal
 

@@ -1,6 +1,5 @@
 -- `heads::head_at` meets its contract: a law of `HeadLaws` for each answer. Assumes nothing.
 use mathlib.Core.Path.{sym, ◌∙◌}
-use borrow.Author.Tests.{not-true, not-false}
 use Rattle.table_check.proofs.HeadLaws.{head-none, head-unknown, head-short, head-outside, head-unfit, head-whole}
 use Rattle.table_check.proofs.heads.head_at.Goals as goal
 

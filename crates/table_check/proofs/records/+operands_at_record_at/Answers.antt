@@ -1,5 +1,4 @@
 -- `records::record_at` and `records::operands_at` meet their contracts: the proofs of the two, joined. The levels left fall. Assumes nothing.
-use borrow.Fn.PlainCycle.{is, and}
 use mathlib.Core.Path.{refl, ◌∙◌, sym}
 use native.Mathlib.Omega.{arith}
 use Rattle.table_check.specs.Reading.{read_of}

@@ -1,6 +1,5 @@
 -- `records::record_at` and `records::operands_at` meet their contracts: the proofs of the two, joined. The levels left fall. Assumes nothing.
 use Prim.Native.Nat.{◌+◌, ◌*◌}
-use borrow.Fn.PlainCycle.{and}
 use mathlib.Core.Path.{◌≡◌}
 use Rattle.table_check.specs.Reading.{read_of, operands_of}
 use Rattle.table_check.proofs.records.+operands_at_record_at.Given as goal

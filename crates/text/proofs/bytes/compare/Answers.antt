@@ -1,5 +1,4 @@
 -- `bytes::compare` meets its contract: what is left of the texts from the loop's place on is ordered as they are.
-use Prim.Native.Nat.{◌-◌}
 use native.Mathlib.Omega.{arith}
 use Rattle.text.proofs.BytesSteps.{order-start, both-ended, left_ended, right-ended, less-here, same_here, greater-here}
 use Rattle.text.proofs.bytes.compare.Goals as goal

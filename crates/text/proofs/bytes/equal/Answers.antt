@@ -1,7 +1,5 @@
 -- `bytes::equal` meets its contract: what is left of the texts from the loop's place on is equal as they are.
-use Prim.Native.Nat.{◌-◌}
 use native.Mathlib.Omega.{arith}
-use lib.ListN.{length}
 use Rattle.text.proofs.BytesSteps.{equal-start, equal-ended, unlike-here, alike-here, unlike-lengths}
 use Rattle.text.proofs.bytes.equal.Goals as goal
 

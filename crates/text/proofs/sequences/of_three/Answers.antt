@@ -3,7 +3,6 @@ use Prim.Native.Nat.{◌+◌}
 use Rattle.text.proofs.SequenceLaws.{three-opens, breaks-off, two-more}
 use Rattle.text.specs.Sequence.{low_of, high_of}
 use Rattle.text.specs.Utf8.{◌to◌, inside}
-use borrow.Author.Tests.{not-true, not-false}
 use lib.ListN.{get_or}
 use mathlib.Core.Bool.{true, false}
 use mathlib.Core.List.{[], ◌∷◌}

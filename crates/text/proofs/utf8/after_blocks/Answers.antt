@@ -1,8 +1,7 @@
 -- `utf8::after_blocks` meets its contract: each block that is passed is ASCII. Assumes nothing.
 use mathlib.Core.Path.{sym, ◌∙◌}
-use Prim.Native.Nat.{◌-◌}
 use native.Mathlib.Omega.{arith}
-use borrow.Author.Tests.{not-false, ltb-true}
+use borrow.Author.Tests.{ltb-true}
 use Rattle.text.proofs.Utf8Steps.{passes-start, passes-block}
 use Rattle.text.proofs.utf8.after_blocks.Goals as goal
 

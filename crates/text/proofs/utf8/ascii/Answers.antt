@@ -1,5 +1,4 @@
 -- `utf8::ascii` meets its contract: the bytes seen so far are joined. Assumes nothing.
-use Prim.Native.Nat.{◌-◌}
 use mathlib.Core.Path.{◌≡◌, refl}
 use native.Mathlib.Numerals.{add-one}
 use native.Mathlib.Omega.{arith}

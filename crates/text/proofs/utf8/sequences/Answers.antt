@@ -1,6 +1,5 @@
 -- `utf8::sequences` meets its contract: what is left is well formed as the text from the first place on. Assumes nothing.
 use mathlib.Core.Path.{sym, ◌∙◌}
-use Prim.Native.Nat.{◌-◌}
 use Rattle.text.proofs.Utf8Steps.{passes-start, passes-sequence, passes-nowhere}
 use native.Mathlib.Omega.{arith}
 use Rattle.text.proofs.utf8.sequences.Goals as goal

@@ -1,5 +1,4 @@
 -- `utf8::well_formed` meets its contract: what is left is well formed as the text is. Assumes nothing.
-use Prim.Native.Nat.{◌-◌}
 use native.Mathlib.Omega.{arith}
 use Rattle.text.proofs.Utf8Steps.{passes-start, passes_on, passes-never, passes-to, passed-all}
 use Rattle.text.proofs.utf8.well_formed.Goals as goal
