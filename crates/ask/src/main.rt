@@ -1,5 +1,7 @@
 // Evaluates one rule from standard input, with no bindings and the largest limits, and writes the answer as one line.
 // The input: the length of the literal text (two bytes, the lower first), the text, and the table to the end.
+#![tactic(auto)]
+
 ghost use Rattle.std.specs.Prelude.{◌≡◌, ◌<◌, length};
 
 use line_answers::{LONGEST_LINE, put_answer};

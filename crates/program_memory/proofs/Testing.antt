@@ -14,7 +14,6 @@ use Rattle.machine.specs.declared.outcome.Used.{Used}
 use Rattle.machine.specs.declared.outcome.Error.{Error}
 use Rattle.machine.specs.declared.outcome.Limit.{Limit}
 use Rattle.answer.specs.declared.Answer.{Answer}
-use Rattle.answer.specs.declared.Answer.TheVariants as Answer
 use Rattle.program_memory.specs.BeforeRun.{all_are}
 use Rattle.program_memory.specs.AfterRun.{as_lent, cleared, kept}
 

@@ -2,7 +2,6 @@
 use Rattle.std.specs.Prelude.{ℕ, ◌*◌, Bool, ◌&&◌, List, take, drop}
 use Rattle.machine.specs.declared.outcome.Used.{Used}
 use Rattle.answer.specs.declared.Answer.{Answer}
-use Rattle.answer.specs.declared.Answer.TheVariants as Answer
 use Rattle.program_memory.specs.BeforeRun.{lent_word, lent_byte, all_are}
 
 -- above the counts; a cell is two words

@@ -1,4 +1,6 @@
 // Binds and evaluates by lines from standard input, and writes a line for each `bind` and each `eval`.
+#![tactic(auto)]
+
 ghost use Rattle.std.specs.Prelude.{◌≡◌, length};
 
 use crate::commands::answer_line;

@@ -1,4 +1,6 @@
 // What a line of `replay` spells and binds: here the binding room that stands between two lines, taken anew and emptied.
+#![tactic(auto)]
+
 use crate::line::is_over;
 use crate::spelled::{Spelled, number_from};
 use bindings::admission::Answer;

@@ -1,5 +1,7 @@
 // Runs a list of binding rooms from standard input, a room and what is done to it on each line, by `bindings_sound` and `bindings`.
 // Of each call the answer is written, the used counts, and a digest each of the lent cells, the lent text and the slots.
+#![tactic(auto)]
+
 ghost use Rattle.std.specs.Prelude.{◌≡◌, ◌≤◌, length};
 
 use crate::case::Case;

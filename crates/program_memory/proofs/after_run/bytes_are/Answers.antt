@@ -1,5 +1,4 @@
 -- `after_run::bytes_are` meets its contract: what is left from the loop's place on decides. Assumes nothing.
-use Prim.Native.Nat.{◌-◌}
 use native.Mathlib.Omega.{arith}
 use Rattle.program_memory.proofs.Testing.{all_start, all-ended, other-here, same_here}
 use Rattle.program_memory.proofs.after_run.bytes_are.Goals as goal

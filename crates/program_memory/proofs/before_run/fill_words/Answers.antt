@@ -1,5 +1,4 @@
 -- `before_run::fill_words` meets its contract. Assumes nothing.
-use Prim.Native.Nat.{◌-◌}
 use native.Mathlib.Omega.{arith}
 use Rattle.program_memory.proofs.Filling.{fill_start, fill_on, fill-ended}
 use Rattle.program_memory.proofs.before_run.fill_words.Goals as goal
