@@ -1,5 +1,7 @@
 // The evaluator for callers in C and Rust: numbers and slices only. Whatever is lent, there is an answer. The crate `board_c` exports these
 // functions, and include/ombravelik.h says how they are called.
+#![tactic(auto)]
+
 ghost use Rattle.std.specs.Prelude.{◌≡◌, List, ℕ};
 ghost use Rattle.rooms.specs.Rooms.{rooms};
 ghost use Rattle.rooms.specs.Cells.{cell_of};
