@@ -5,7 +5,6 @@ use native.Mathlib.Numerals.{add-one}
 use Rattle.rooms.specs.declared.value.Value.{Value}
 use Rattle.rooms.specs.declared.value.CellSpace.{CellSpace}
 use Rattle.rooms_comparison.specs.declared.pairs.Pairs.{Pairs}
-use Rattle.rooms_comparison.specs.declared.pairs.Pairs.TheVariants as Pairs
 use Rattle.rooms.specs.Rooms.{Rooms, cell_at}
 use Rattle.rooms_comparison.specs.Equality.{or_else, equal_pairs, among_in}
 use Rattle.rooms_comparison.proofs.LookUpSteps.{one_more, no_more}

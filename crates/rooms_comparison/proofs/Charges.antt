@@ -7,7 +7,6 @@ use lib.Dec.{ltb}
 use borrow.Author.Tests.{lt-ltb, ltb-true, ltb-false}
 use Rattle.meaning.specs.Comparison.{Tally, tick, both, either}
 use Rattle.rooms_comparison.specs.declared.pairs.Pairs.{Pairs}
-use Rattle.rooms_comparison.specs.declared.pairs.Pairs.TheVariants as Pairs
 use Rattle.rooms_comparison.specs.declared.lookup.Found.{Found}
 use Rattle.rooms_comparison.specs.LookUp.{pair_found}
 use Rattle.rooms_comparison.specs.Equality.{pair, decided, and_then, where_found, or_else, pays, paid, pays_found}

@@ -11,7 +11,6 @@ use Rattle.numbers.specs.declared.order.Number.{Number}
 use Rattle.meaning.specs.Value.{Scalar, null, bool, string, bytes}
 use Rattle.meaning.specs.Comparison.{rank}
 use Rattle.rooms.specs.declared.value.Plain.{Plain}
-use Rattle.rooms.specs.declared.value.Plain.TheVariants as Plain
 use Rattle.rooms.specs.contracts.value.Plain as PlainType
 use Rattle.rooms.specs.Rooms.{part, text_of}
 use Rattle.rooms_comparison.specs.Seen.{number_scalar, seen_scalar, seen_none, seen_of, same_seen}

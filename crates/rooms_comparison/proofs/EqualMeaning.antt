@@ -11,18 +11,14 @@ use Rattle.meaning.specs.Value.{scalar, list, map, optional_none, optional_of, n
 use Rattle.meaning.specs.Comparison as Comparison
 use Rattle.meaning.specs.Comparison.{scalar_equal, Tally, tick, both, find, against, elements_against, found_against, equal, equal_elements, equal_entries, among}
 use Rattle.rooms.specs.declared.value.Value.{Value}
-use Rattle.rooms.specs.declared.value.Value.TheVariants as Value
 use Rattle.rooms.specs.declared.value.Parts.{Parts}
-use Rattle.rooms.specs.declared.value.Parts.TheVariants as Parts
 use Rattle.rooms.specs.declared.value.CellSpace.{CellSpace}
 use Rattle.rooms.specs.Value.{parts_of, nesting_of}
 use Rattle.rooms.specs.Rooms.{Rooms, cell_at}
 use Rattle.rooms.specs.Stands.{Alive, StandsScalar, Stands, StandsCells, StandsEntries}
 use Rattle.rooms.proofs.Depths.{deeper-list, deeper-map, deeper-part, first-less, others-less, first-value, other-values, stands-nesting}
 use Rattle.rooms_comparison.specs.declared.pairs.Pairs.{Pairs}
-use Rattle.rooms_comparison.specs.declared.pairs.Pairs.TheVariants as Pairs
 use Rattle.rooms_comparison.specs.declared.lookup.Found.{Found}
-use Rattle.rooms_comparison.specs.declared.lookup.Found.TheVariants as Found
 use Rattle.rooms_comparison.specs.Equality as Machine
 use Rattle.rooms_comparison.specs.Seen.{same_seen, seen_in}
 use Rattle.rooms_comparison.specs.LookUp.{pair_found, find_in}

@@ -4,9 +4,7 @@ use mathlib.Core.Path.{◌≡◌, sym, ap, ◌∙◌}
 use native.Mathlib.Numerals.{add-one}
 use Rattle.rooms.specs.declared.value.CellSpace.{CellSpace}
 use Rattle.rooms_comparison.specs.declared.pairs.Pairs.{Pairs}
-use Rattle.rooms_comparison.specs.declared.pairs.Pairs.TheVariants as Pairs
 use Rattle.rooms_comparison.specs.declared.lookup.Found.{Found}
-use Rattle.rooms_comparison.specs.declared.lookup.Found.TheVariants as Found
 use Rattle.rooms.specs.Rooms.{Rooms, cell_at}
 use Rattle.rooms_comparison.specs.LookUp.{find_in}
 use Rattle.rooms_comparison.specs.Equality.{and_then, where_found, Compare, elements_equal, entries_equal}

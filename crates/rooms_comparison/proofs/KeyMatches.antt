@@ -5,14 +5,12 @@ use mathlib.Core.Bool.{Bool, true, false, not, cond, true≢false}
 use lib.Dec.{eqb}
 use lib.IntN.{ℤ, nat_abs}
 use Rattle.numbers.specs.declared.order.Order.{Order}
-use Rattle.numbers.specs.declared.order.Order.TheVariants as Order
 use Rattle.numbers.specs.declared.order.Number.TheVariants as Number
 use Rattle.numbers.specs.Order.{order_of, is_equal, flipped, below_zero, whole_point, int_point, uint_point}
 use Rattle.numbers_laws.proofs.OrderLaws.{order-swap}
 use Rattle.numbers_laws.proofs.SignedOrder.{signed_is}
 use Rattle.numbers_laws.proofs.WholeLaws.{whole-order, int-uint-equal, int-uint-only, int-only, uint-only}
 use Rattle.text.specs.declared.bytes.TextOrder.{TextOrder}
-use Rattle.text.specs.declared.bytes.TextOrder.TheVariants as TextOrder
 use Rattle.text.specs.Bytes as Bytes
 use Rattle.text.proofs.BytesLaws.{order-equal}
 use Rattle.meaning.specs.Value.{Scalar, int, uint, bool, string, Key, int_key, uint_key, bool_key, string_key, key_scalar}

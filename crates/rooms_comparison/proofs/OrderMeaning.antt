@@ -7,9 +7,7 @@ use mathlib.Core.List.{List}
 use native.Mathlib.Omega.{arith}
 use lib.Dec.{eqb}
 use Rattle.numbers.specs.declared.order.Order.{Order}
-use Rattle.numbers.specs.declared.order.Order.TheVariants as Order
 use Rattle.numbers.specs.declared.order.Number.{Number}
-use Rattle.numbers.specs.declared.order.Number.TheVariants as Number
 use Rattle.numbers.specs.Order.{order_of, number_point}
 use Rattle.numbers_laws.proofs.WholeLaws.{int-uint-equal, uint-less, uint-greater}
 use Rattle.text.specs.Bytes as Bytes
@@ -20,7 +18,6 @@ use Rattle.meaning.specs.Value.{Scalar, null, bool, string, bytes, scalar, list,
 use Rattle.meaning.specs.Comparison.{rank, text_order, then_text, rank_order, same_class, scalar_order, ordered, compare_values}
 use Rattle.rooms_comparison.specs.declared.ordering.Compared.TheVariants as Compared
 use Rattle.rooms.specs.declared.value.Plain.{Plain}
-use Rattle.rooms.specs.declared.value.Plain.TheVariants as Plain
 use Rattle.rooms.specs.declared.value.Value.{Value}
 use Rattle.rooms.specs.Rooms.{Rooms, part, text_of}
 use Rattle.rooms.specs.Stands.{Alive, Stands}

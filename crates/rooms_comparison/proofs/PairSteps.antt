@@ -9,9 +9,7 @@ use borrow.Author.Tests.{lt-ltb, le-ltb, eq-eqb, ne_eqb}
 use Rattle.rooms.specs.declared.value.Value.{Value}
 use Rattle.rooms.specs.declared.value.CellSpace.{CellSpace}
 use Rattle.rooms.specs.declared.value.Parts.{Parts}
-use Rattle.rooms.specs.declared.value.Parts.TheVariants as Parts
 use Rattle.rooms_comparison.specs.declared.pairs.Pairs.{Pairs}
-use Rattle.rooms_comparison.specs.declared.pairs.Pairs.TheVariants as Pairs
 use Rattle.rooms.specs.Value.{parts_of}
 use Rattle.rooms.specs.Rooms.{Rooms, cell_at}
 use Rattle.rooms_comparison.specs.Seen.{same_seen, seen_in}

@@ -6,9 +6,7 @@ use mathlib.Core.List.{List}
 use native.Mathlib.Omega.{arith}
 use lib.Dec.{eqb}
 use Rattle.numbers.specs.declared.order.Order.{Order}
-use Rattle.numbers.specs.declared.order.Order.TheVariants as Order
 use Rattle.numbers.specs.declared.order.Number.{Number}
-use Rattle.numbers.specs.declared.order.Number.TheVariants as Number
 use Rattle.numbers.specs.Order.{order_of, is_equal, number_point}
 use Rattle.numbers_laws.proofs.WholeLaws.{int-uint-equal, uint-less, uint-greater}
 use Rattle.text.specs.declared.bytes.TextOrder.TheVariants as TextOrder

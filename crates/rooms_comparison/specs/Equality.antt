@@ -4,12 +4,9 @@ use Rattle.std.specs.Prelude.{ℕ, zero, suc, Bool, true, false, cond, ltb, eqb}
 use Rattle.meaning.specs.Comparison.{Tally}
 use Rattle.rooms.specs.declared.value.Value.{Value}
 use Rattle.rooms.specs.declared.value.Parts.{Parts}
-use Rattle.rooms.specs.declared.value.Parts.TheVariants as Parts
 use Rattle.rooms.specs.declared.value.CellSpace.{CellSpace}
 use Rattle.rooms_comparison.specs.declared.pairs.Pairs.{Pairs}
-use Rattle.rooms_comparison.specs.declared.pairs.Pairs.TheVariants as Pairs
 use Rattle.rooms_comparison.specs.declared.lookup.Found.{Found}
-use Rattle.rooms_comparison.specs.declared.lookup.Found.TheVariants as Found
 use Rattle.rooms.specs.Value.{parts_of, nesting_of}
 use Rattle.rooms.specs.Rooms.{Rooms, cell_at}
 use Rattle.rooms_comparison.specs.Seen.{same_seen, seen_in}

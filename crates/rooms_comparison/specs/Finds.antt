@@ -7,7 +7,6 @@ use Rattle.rooms.specs.declared.value.CellSpace.{CellSpace}
 use Rattle.rooms.specs.Rooms.{Rooms, cell_at}
 use Rattle.rooms.specs.Stands.{Alive, Stands}
 use Rattle.rooms_comparison.specs.declared.lookup.Found.{Found}
-use Rattle.rooms_comparison.specs.declared.lookup.Found.TheVariants as Found
 use Rattle.rooms_comparison.specs.Equality.{pays_found}
 
 -- what a look-up that ends answers: no entry, or the cell where the value of the entry found lies

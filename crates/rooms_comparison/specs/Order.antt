@@ -2,12 +2,10 @@
 use Rattle.std.specs.Prelude.{Bool, true, false}
 use Rattle.std.proofs.Math.Option.{Option, none, some}
 use Rattle.numbers.specs.declared.order.Order.{Order}
-use Rattle.numbers.specs.declared.order.Order.TheVariants as Order
 use Rattle.meaning.specs.Errors.{NoOverload}
 use Rattle.meaning.specs.Run.{Rule, fail}
 use Rattle.meaning.specs.Comparison.{rank, scalar_order, ordered}
 use Rattle.rooms_comparison.specs.declared.ordering.Compared.{Compared}
-use Rattle.rooms_comparison.specs.declared.ordering.Compared.TheVariants as Compared
 use Rattle.rooms_comparison.specs.Seen.{Seen, seen_scalar, seen_none, seen_other}
 
 abbrev pub bool_order : Bool → Bool → Order

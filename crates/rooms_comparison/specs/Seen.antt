@@ -2,12 +2,10 @@
 use Rattle.std.specs.Prelude.{ℕ, List, Bool, true, false}
 use Rattle.numbers.specs.Double.{bits_of}
 use Rattle.numbers.specs.declared.order.Number.{Number}
-use Rattle.numbers.specs.declared.order.Number.TheVariants as Number
 use Rattle.meaning.specs.Value.{Scalar, null, bool, int, uint, double, string, bytes}
 use Rattle.meaning.specs.Comparison.{scalar_equal}
 use Rattle.rooms.specs.declared.value.Value.{Value}
 use Rattle.rooms.specs.declared.value.Plain.{Plain}
-use Rattle.rooms.specs.declared.value.Plain.TheVariants as Plain
 use Rattle.rooms.specs.Value.{plain_of}
 use Rattle.rooms.specs.Rooms.{Rooms, part, text_of}
 

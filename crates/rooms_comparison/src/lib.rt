@@ -1,4 +1,5 @@
 // Values compared where they lie. Equality, `in` and the look-up of a key count the pairs that they compare, and stop at a limit.
+#![tactic(auto)]
 
 // Two values with their parts.
 pub mod equality;

@@ -1,6 +1,8 @@
 // Room for the cells and the text of a run.
 // Here: how much is lent, room taken of it, and all that was taken cleared after an error or exhaustion. `copying` copies the parts of a value to
 // where room was taken for them.
+#![tactic(auto)]
+
 pub mod copying;
 
 ghost use Rattle.std.specs.Prelude.{◌≡◌, ◌+◌, ◌≤◌, length};

@@ -5,7 +5,6 @@ use mathlib.Core.List.{List, [], ◌∷◌}
 use types.Run.{OneOf}
 use denote.Enum.Declared.{tag_of}
 use Rattle.rooms.specs.declared.value.Value.{Value}
-use Rattle.rooms.specs.declared.value.Value.TheVariants as Value
 use Rattle.rooms.specs.contracts.value.Value as ValueType
 use Rattle.rooms_text.specs.declared.sizes.Size.TheVariants as Size
 use Rattle.rooms_text.specs.declared.sizes.Position.TheVariants as Position

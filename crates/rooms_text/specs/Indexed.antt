@@ -9,7 +9,6 @@ use Rattle.rooms.specs.declared.value.CellSpace.{CellSpace}
 use Rattle.rooms.specs.Rooms.{Rooms, cell_at}
 use Rattle.rooms.specs.Stands.{Alive, Stands}
 use Rattle.rooms_text.specs.declared.sizes.Position.{Position}
-use Rattle.rooms_text.specs.declared.sizes.Position.TheVariants as Position
 use Rattle.rooms_text.specs.Sizes.{size_of, sized_rule}
 
 -- what `sizes::size_in` answers, as a rule

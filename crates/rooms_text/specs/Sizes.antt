@@ -6,11 +6,8 @@ use Rattle.meaning.specs.Run.{Rule, fail}
 use Rattle.meaning.specs.Value as Meaning
 use Rattle.meaning.specs.Calls.{counted}
 use Rattle.rooms.specs.declared.value.Value.{Value}
-use Rattle.rooms.specs.declared.value.Value.TheVariants as Value
 use Rattle.rooms_text.specs.declared.sizes.Size.{Size}
-use Rattle.rooms_text.specs.declared.sizes.Size.TheVariants as Size
 use Rattle.rooms_text.specs.declared.sizes.Position.{Position}
-use Rattle.rooms_text.specs.declared.sizes.Position.TheVariants as Position
 use Rattle.rooms.specs.Rooms.{part, text_of}
 
 -- ---- size

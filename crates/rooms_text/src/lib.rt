@@ -1,5 +1,7 @@
 // Text where it lies, and the sizes of values.
 // Here: a part of a space, two parts compared, and the code points of one. `sizes` has the size of a value, and where an index falls in a list.
+#![tactic(auto)]
+
 pub mod sizes;
 
 ghost use Rattle.std.specs.Prelude.{◌≡◌};

@@ -1,7 +1,7 @@
 -- `clear_words` meets its contract. Assumes nothing.
 use mathlib.Core.Path.{refl, ◌∙◌}
 use native.Mathlib.Omega.{arith}
-use lib.ListN.{length, length-set}
+use lib.ListN.{length-set}
 use Rattle.rooms_taking.proofs.TakingSteps.{zero-on, zero-none}
 use Rattle.rooms_taking.proofs.clear_words.Goals as goal
 

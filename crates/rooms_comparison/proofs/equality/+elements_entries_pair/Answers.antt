@@ -1,5 +1,5 @@
 -- `equality::pair`, `elements` and `entries`, which call one another, meet their contracts: the depth falls. Assumes nothing.
-use Prim.Native.Nat.{◌+◌, ℕ, ◌<◌, ◌-◌}
+use Prim.Native.Nat.{◌+◌, ℕ, ◌-◌}
 use mathlib.Core.Path.{refl, ◌∙◌, sym}
 use native.Mathlib.Omega.{arith}
 use Rattle.rooms.specs.declared.value.Value.{Value}
@@ -7,7 +7,6 @@ use Rattle.rooms.specs.Rooms.{rooms, cell_at}
 use Rattle.rooms_comparison.specs.Equality.{equal_in}
 use Rattle.rooms_comparison.proofs.EqualitySteps.{elements-none, elements-on, elements-unlike, elements-out, entries_none, entries-on, entries-unlike, entries-out, entries-missing, entries-unfound}
 use Rattle.rooms_comparison.specs.LookUp.{find_in}
-use borrow.Fn.PlainCycle.{is, falls, and}
 use Rattle.rooms_comparison.specs.Seen.{seen_in}
 use Rattle.rooms_comparison.proofs.PairSteps.{pair-bottom, pair-out, lists-unlike, lists-uneven, lists-even, maps-unlike, maps-uneven, maps-even, presents-unlike, presents-parts, plains}
 use Rattle.rooms_comparison.proofs.equality.+elements_entries_pair.Goals as goal

@@ -1,5 +1,5 @@
 -- `equality::pair`, `elements` and `entries`, which call one another, meet their contracts: the depth falls. Assumes nothing.
-use Prim.Native.Nat.{◌+◌, ◌≤◌, ◌*◌, ◌-◌}
+use Prim.Native.Nat.{◌+◌, ◌≤◌, ◌*◌}
 use mathlib.Core.Path.{◌≡◌}
 use Rattle.rooms.specs.Rooms.{rooms}
 use Rattle.rooms_comparison.specs.Equality.{elements_equal, equal_in, entries_equal}

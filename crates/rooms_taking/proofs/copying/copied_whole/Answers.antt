@@ -1,5 +1,4 @@
 -- `copying::copied_whole` meets its contract: what is left of the bytes is still to be copied. Assumes nothing.
-use Prim.Native.Nat.{◌-◌}
 use mathlib.Core.Path.{refl, ◌∙◌}
 use native.Mathlib.Omega.{arith}
 use lib.ListN.{length-set}
