@@ -7,7 +7,6 @@ use borrow.Author.Tests.{lt-ltb}
 use Rattle.meaning.specs.Value as Meaning
 use Rattle.meaning.specs.Value.{count, count_entries, key_of}
 use Rattle.rooms.specs.declared.value.Value.{Value}
-use Rattle.rooms.specs.declared.value.Value.TheVariants as Value
 use Rattle.rooms.specs.declared.value.CellSpace.{CellSpace}
 use Rattle.rooms.specs.Rooms.{Rooms, cell_at, words_of}
 use Rattle.rooms.specs.Reading.{elements_in, entries_in, read_to}

@@ -1,9 +1,7 @@
 -- The parts of a List and of an Optional, by their index.
 use Rattle.std.specs.Prelude.{ℕ, ◌+◌, List, cond, ltb}
 use Rattle.rooms.specs.declared.value.Value.{Value}
-use Rattle.rooms.specs.declared.value.Value.TheVariants as Value
 use Rattle.rooms.specs.declared.value.Parts.{Parts}
-use Rattle.rooms.specs.declared.value.Parts.TheVariants as Parts
 use Rattle.rooms.specs.Cells.{cell_in}
 use Rattle.rooms.specs.Rooms.{words_of}
 

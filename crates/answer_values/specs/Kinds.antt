@@ -1,11 +1,8 @@
 -- What is read off a value of the code: its kind, and a Bool.
 use Rattle.std.specs.Prelude.{ℕ}
 use Rattle.rooms.specs.declared.value.Value.{Value}
-use Rattle.rooms.specs.declared.value.Value.TheVariants as Value
 use Rattle.rooms.specs.declared.value.Plain.{Plain}
-use Rattle.rooms.specs.declared.value.Plain.TheVariants as Plain
 use Rattle.answer_values.specs.declared.kinds.Truth.{Truth}
-use Rattle.answer_values.specs.declared.kinds.Truth.TheVariants as Truth
 
 -- the numbers that the kinds have in a cell
 abbrev pub kind_of : Value → ℕ

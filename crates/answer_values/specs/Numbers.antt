@@ -2,9 +2,7 @@
 use Rattle.numbers.specs.declared.order.Number.TheVariants as Number
 use Rattle.numbers.specs.Double.{bits_of}
 use Rattle.rooms.specs.declared.value.Plain.{Plain}
-use Rattle.rooms.specs.declared.value.Plain.TheVariants as Plain
 use Rattle.answer_values.specs.declared.numeric.Numeric.{Numeric}
-use Rattle.answer_values.specs.declared.numeric.Numeric.TheVariants as Numeric
 
 abbrev pub number_in : Plain → Numeric
 number_in Plain.Null = Numeric.NoNumber

@@ -1,11 +1,8 @@
 -- What is read off a value: where its text lies, and how many parts it has.
 use Rattle.std.specs.Prelude.{ℕ}
 use Rattle.rooms.specs.declared.value.Plain.{Plain}
-use Rattle.rooms.specs.declared.value.Plain.TheVariants as Plain
 use Rattle.rooms.specs.declared.value.Parts.{Parts}
-use Rattle.rooms.specs.declared.value.Parts.TheVariants as Parts
 use Rattle.answer_values.specs.declared.spans_and_counts.Span.{Span}
-use Rattle.answer_values.specs.declared.spans_and_counts.Span.TheVariants as Span
 
 abbrev pub span_in : Plain → Span
 span_in Plain.Null = Span.NoText

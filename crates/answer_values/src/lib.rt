@@ -1,4 +1,5 @@
 // What a caller reads off a value. Every reader takes any value; that the readers show all of it is proved in proofs/Showing.
+#![tactic(auto)]
 
 // The elements of a List, and what an Optional holds.
 pub mod elements;

@@ -5,13 +5,11 @@ use mathlib.Core.List.{List}
 use Rattle.rooms.specs.declared.value.Value.{Value}
 use Rattle.rooms.specs.declared.value.TextSpace.{TextSpace}
 use Rattle.rooms_taking.specs.declared.Taken.{Taken}
-use Rattle.rooms_taking.specs.declared.Taken.TheVariants as Taken
 use Rattle.rooms.specs.Rooms.{rooms}
 use Rattle.rooms_taking.specs.Taking.{text_room, taken_of}
 use Rattle.machine.specs.declared.outcome.Used.{Used}
 use Rattle.machine.specs.declared.outcome.Limit.TheVariants as Limit
 use Rattle.machine.specs.declared.outcome.Outcome.{Outcome}
-use Rattle.machine.specs.declared.outcome.Outcome.TheVariants as Outcome
 use Rattle.machine.specs.Outcomes.{Res, with_bytes, with_text, on_taken}
 use Rattle.machine.specs.Numbers.{both_texts, text_sum}
 use Rattle.eval_arithmetic.specs.declared.text_sum.Joined.{Joined}

@@ -7,9 +7,7 @@ use denote.Enum.Declared.{tag_of}
 use Rattle.meaning.specs.Expr.{Arith, add, sub, div, mul, rem}
 use Rattle.rooms.specs.declared.value.Value.{Value}
 use Rattle.rooms.specs.declared.value.Plain.{Plain}
-use Rattle.rooms.specs.declared.value.Plain.TheVariants as Plain
 use Rattle.rooms.specs.declared.value.Parts.{Parts}
-use Rattle.rooms.specs.declared.value.Parts.TheVariants as Parts
 use Rattle.rooms.specs.Value.{plain_of, parts_of}
 use Rattle.rooms.specs.contracts.value.Plain.{the_type}
 use Rattle.rooms.specs.Rooms.{Rooms}

@@ -2,7 +2,6 @@
 use Rattle.std.specs.Prelude.{ℕ, max}
 use Rattle.rooms.specs.declared.value.Value.{Value}
 use Rattle.rooms.specs.declared.value.Parts.{Parts}
-use Rattle.rooms.specs.declared.value.Parts.TheVariants as Parts
 use Rattle.rooms.specs.Value.{parts_of, nesting_of}
 use Rattle.rooms.specs.Rooms.{Rooms}
 use Rattle.machine.specs.declared.outcome.Used.{Used}

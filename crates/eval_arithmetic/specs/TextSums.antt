@@ -3,15 +3,12 @@ use Rattle.std.specs.Prelude.{ℕ, ◌+◌, ◌≡◌, List}
 use Rattle.rooms.specs.declared.value.Value.{Value}
 use Rattle.rooms.specs.declared.value.TextSpace.{TextSpace}
 use Rattle.rooms_taking.specs.declared.Taken.{Taken}
-use Rattle.rooms_taking.specs.declared.Taken.TheVariants as Taken
 use Rattle.rooms_taking.specs.Taking.{text_room, taken_of, pasted}
 use Rattle.machine.specs.declared.outcome.Used.{Used}
 use Rattle.machine.specs.declared.outcome.Limit.TheVariants as Limit
 use Rattle.machine.specs.declared.outcome.Outcome.{Outcome}
-use Rattle.machine.specs.declared.outcome.Outcome.TheVariants as Outcome
 use Rattle.machine.specs.Outcomes.{with_bytes}
 use Rattle.eval_arithmetic.specs.declared.text_sum.Joined.{Joined}
-use Rattle.eval_arithmetic.specs.declared.text_sum.Joined.TheVariants as Joined
 
 abbrev pub joined_to : Taken → (l b t : List ℕ) → TextSpace → (a n : ℕ) → TextSpace → (c m : ℕ) → Used → Joined × List ℕ
 joined_to (Taken.To end) l b t s a n o c m u = (Joined.At u.bytes (n + m) (with_bytes u end), pasted l b o (pasted l b s t a u.bytes n) c (u.bytes + n) m)

@@ -1,4 +1,5 @@
 // The arithmetic operators on values: `+`, `-`, `*`, `/` and `%`, and unary minus.
+#![tactic(auto)]
 
 // `+` on lists.
 pub mod list_sum;

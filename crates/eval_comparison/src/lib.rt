@@ -1,5 +1,7 @@
 // `==`, `!=`, the orderings and `in`, by the rules of the crate rooms_comparison.
 // Here: all of these but `in`, which is in `membership`.
+#![tactic(auto)]
+
 pub mod membership;
 
 ghost use Rattle.std.specs.Prelude.{◌≡◌, List, ℕ};

@@ -5,9 +5,7 @@ use mathlib.Core.List.{List}
 use Rattle.rooms.specs.declared.value.Value.{Value}
 use Rattle.rooms.specs.declared.value.CellSpace.{CellSpace}
 use Rattle.rooms.specs.declared.value.Parts.{Parts}
-use Rattle.rooms.specs.declared.value.Parts.TheVariants as Parts
 use Rattle.rooms_taking.specs.declared.Taken.{Taken}
-use Rattle.rooms_taking.specs.declared.Taken.TheVariants as Taken
 use Rattle.rooms.specs.Rooms.{rooms}
 use Rattle.rooms.specs.Value.{parts_of, nesting_of}
 use Rattle.rooms_taking.specs.Taking.{cell_room, taken_of, cells_taken, copied}
@@ -15,7 +13,6 @@ use lib.Dec.{eqb}
 use Rattle.machine.specs.declared.outcome.Used.{Used}
 use Rattle.machine.specs.declared.outcome.Limit.TheVariants as Limit
 use Rattle.machine.specs.declared.outcome.Outcome.{Outcome}
-use Rattle.machine.specs.declared.outcome.Outcome.TheVariants as Outcome
 use Rattle.machine.specs.Outcomes.{Res, with_cells, with_value, on_taken}
 use Rattle.machine.specs.Comprehension as Machine
 use Rattle.machine.specs.Comprehension.{Gathered, Gathering, add_run}

@@ -8,12 +8,10 @@ use Rattle.rooms.specs.declared.value.Value.{Value}
 use Rattle.rooms.specs.Rooms.{Rooms}
 use Rattle.machine.specs.declared.outcome.Used.{Used}
 use Rattle.machine.specs.declared.outcome.Outcome.{Outcome}
-use Rattle.machine.specs.declared.outcome.Outcome.TheVariants as Outcome
 use Rattle.machine.specs.Views.{bool_in}
 use Rattle.machine.specs.Comprehension as Machine
 use Rattle.machine.specs.Comprehension.{Binds, Holds, after_step}
 use Rattle.eval_comprehension.specs.declared.steps.Pending.{Pending}
-use Rattle.eval_comprehension.specs.declared.steps.Pending.TheVariants as Pending
 use Rattle.eval_comprehension.specs.declared.steps.Step.{Step}
 use Rattle.eval_comprehension.specs.Steps.{pending_seen, cleared_step, step_of, on_step}
 

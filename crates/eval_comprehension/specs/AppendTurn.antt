@@ -3,21 +3,17 @@ use Rattle.std.specs.Prelude.{ℕ, ◌≡◌, List, eqb}
 use Rattle.rooms.specs.declared.value.Value.{Value}
 use Rattle.rooms.specs.declared.value.CellSpace.{CellSpace}
 use Rattle.rooms.specs.declared.value.Parts.{Parts}
-use Rattle.rooms.specs.declared.value.Parts.TheVariants as Parts
 use Rattle.rooms_taking.specs.declared.Taken.{Taken}
-use Rattle.rooms_taking.specs.declared.Taken.TheVariants as Taken
 use Rattle.rooms.specs.Rooms.{Rooms}
 use Rattle.rooms.specs.Value.{parts_of, nesting_of}
 use Rattle.rooms_taking.specs.Taking.{cell_room, taken_of, cells_taken, copied}
 use Rattle.machine.specs.declared.outcome.Used.{Used}
 use Rattle.machine.specs.declared.outcome.Limit.TheVariants as Limit
 use Rattle.machine.specs.declared.outcome.Outcome.{Outcome}
-use Rattle.machine.specs.declared.outcome.Outcome.TheVariants as Outcome
 use Rattle.machine.specs.Outcomes.{Res, with_cells}
 use Rattle.machine.specs.Comprehension as Machine
 use Rattle.machine.specs.Comprehension.{Gathered}
 use Rattle.eval_comprehension.specs.declared.append_turn.Gather.{Gather}
-use Rattle.eval_comprehension.specs.declared.append_turn.Gather.TheVariants as Gather
 
 abbrev pub gather_to : Taken → (base n d : ℕ) → Used → Gather
 gather_to (Taken.To end) base n d u = Gather.Run base n d (with_cells u end)

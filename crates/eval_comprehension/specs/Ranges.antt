@@ -2,7 +2,6 @@
 use Rattle.std.proofs.Math.Option.{Option, none, some}
 use Rattle.machine.specs.Comprehension.{Items}
 use Rattle.eval_comprehension.specs.declared.ranges.Range.{Range}
-use Rattle.eval_comprehension.specs.declared.ranges.Range.TheVariants as Range
 
 abbrev pub range_seen : Range → Option Items
 range_seen (Range.Over s a n k) = some (record { space = s; first = a; count = n; stride = k })

@@ -7,16 +7,12 @@ use Rattle.rooms.specs.declared.value.Value.{Value}
 use Rattle.rooms.specs.Rooms.{Rooms}
 use Rattle.machine.specs.declared.outcome.Used.{Used}
 use Rattle.machine.specs.declared.outcome.Outcome.{Outcome}
-use Rattle.machine.specs.declared.outcome.Outcome.TheVariants as Outcome
 use Rattle.machine.specs.Outcomes.{Res}
 use Rattle.machine.specs.Views.{bool_in}
 use Rattle.machine.specs.Comprehension as Machine
 use Rattle.eval_comprehension.specs.declared.steps.Folds.{Folds}
-use Rattle.eval_comprehension.specs.declared.steps.Folds.TheVariants as Folds
 use Rattle.eval_comprehension.specs.declared.steps.Pending.{Pending}
-use Rattle.eval_comprehension.specs.declared.steps.Pending.TheVariants as Pending
 use Rattle.eval_comprehension.specs.declared.steps.Step.{Step}
-use Rattle.eval_comprehension.specs.declared.steps.Step.TheVariants as Step
 use Rattle.eval_outcomes.specs.Seen.{fold_seen}
 
 abbrev pub folds_seen : Folds → Option LogicalFold

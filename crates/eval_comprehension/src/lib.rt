@@ -1,4 +1,5 @@
 // What a comprehension makes of its parts' outcomes. The loop that evaluates the parts is in eval_record.
+#![tactic(auto)]
 
 // On the append path: what was collected, and the list of it.
 pub mod append_result;

@@ -8,9 +8,7 @@ use mathlib.Core.Option.{Option, none, some}
 use native.Mathlib.Omega.{arith}
 use Rattle.rooms.specs.declared.value.Value.{Value}
 use Rattle.rooms_taking.specs.declared.Taken.{Taken}
-use Rattle.rooms_taking.specs.declared.Taken.TheVariants as Taken
 use Rattle.rooms_comparison.specs.declared.lookup.Found.{Found}
-use Rattle.rooms_comparison.specs.declared.lookup.Found.TheVariants as Found
 use Rattle.rooms.specs.Rooms.{Rooms, rooms}
 use Rattle.rooms.specs.Value.{nesting_of, is_key}
 use Rattle.rooms_taking.specs.Taking.{cell_room, taken_of, cells_taken}
@@ -19,12 +17,10 @@ use Rattle.rooms.specs.declared.value.CellSpace.TheVariants as Cells
 use Rattle.machine.specs.declared.outcome.Used.{Used}
 use Rattle.machine.specs.declared.outcome.Limit.TheVariants as Limit
 use Rattle.machine.specs.declared.outcome.Outcome.{Outcome}
-use Rattle.machine.specs.declared.outcome.Outcome.TheVariants as Outcome
 use Rattle.machine.specs.Outcomes.{Res, with_cells, written, with_value, on_taken, taking}
 use Rattle.machine.specs.Containers.{Filling, add_element, if_key, if_new, add_entry}
 use Rattle.eval_outcomes.proofs.Taking.{cells-within}
 use Rattle.eval_containers.specs.declared.Begun.{Begun}
-use Rattle.eval_containers.specs.declared.Begun.TheVariants as Begun
 use Rattle.eval_containers.specs.declared.Ready.{Ready}
 use Rattle.eval_containers.specs.declared.Key.{Key}
 use Rattle.eval_containers.specs.declared.Entry.{Entry}

@@ -4,9 +4,7 @@ use Rattle.std.proofs.Math.Option.{Option, none, some}
 use Rattle.rooms.specs.declared.value.Value.{Value}
 use Rattle.rooms.specs.declared.value.CellSpace.TheVariants as Cells
 use Rattle.rooms_taking.specs.declared.Taken.{Taken}
-use Rattle.rooms_taking.specs.declared.Taken.TheVariants as Taken
 use Rattle.rooms_comparison.specs.declared.lookup.Found.{Found}
-use Rattle.rooms_comparison.specs.declared.lookup.Found.TheVariants as Found
 use Rattle.rooms.specs.Value.{nesting_of, is_key}
 use Rattle.rooms.specs.Cells.{written_in}
 use Rattle.rooms.specs.Rooms.{Rooms}
@@ -16,18 +14,13 @@ use Rattle.machine.specs.declared.outcome.Used.{Used}
 use Rattle.machine.specs.declared.outcome.Error.TheVariants as Error
 use Rattle.machine.specs.declared.outcome.Limit.TheVariants as Limit
 use Rattle.machine.specs.declared.outcome.Outcome.{Outcome}
-use Rattle.machine.specs.declared.outcome.Outcome.TheVariants as Outcome
 use Rattle.machine.specs.Outcomes.{Res, with_steps, with_cells}
 use Rattle.machine.specs.Containers as Machine
 use Rattle.eval_containers.specs.declared.Part.{Part}
-use Rattle.eval_containers.specs.declared.Part.TheVariants as Part
 use Rattle.eval_containers.specs.declared.Begun.{Begun}
-use Rattle.eval_containers.specs.declared.Begun.TheVariants as Begun
 use Rattle.eval_containers.specs.declared.Ready.{Ready}
 use Rattle.eval_containers.specs.declared.Key.{Key}
-use Rattle.eval_containers.specs.declared.Key.TheVariants as Key
 use Rattle.eval_containers.specs.declared.Entry.{Entry}
-use Rattle.eval_containers.specs.declared.Entry.TheVariants as Entry
 
 -- what an element or an entry's value adds
 abbrev pub part_seen : Part → Option Value

@@ -1,5 +1,7 @@
 // List and Map records in the making. Both take their cells as they begin.
 // Here: those cells, a key, and the whole. `elements` stores an element of a List, and `entries` tests and stores an entry of a Map.
+#![tactic(auto)]
+
 pub mod elements;
 pub mod entries;
 

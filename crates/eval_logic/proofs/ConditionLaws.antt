@@ -6,7 +6,6 @@ use mathlib.Core.Option.{Option, none, some}
 use Rattle.rooms.specs.Rooms.{Rooms}
 use Rattle.machine.specs.declared.outcome.Used.{Used}
 use Rattle.machine.specs.declared.outcome.Outcome.{Outcome}
-use Rattle.machine.specs.declared.outcome.Outcome.TheVariants as Outcome
 use Rattle.machine.specs.Outcomes.{Res, with_value}
 use Rattle.machine.specs.Views.{bool_in}
 use Rattle.machine.specs.Logic.{branch}

@@ -7,7 +7,6 @@ use denote.Enum.Declared.{tag_of}
 use Rattle.rooms.proofs.Variants.{no-tag}
 use Rattle.machine.specs.declared.outcome.Used.{Used}
 use Rattle.machine.specs.declared.outcome.Error.{Error}
-use Rattle.machine.specs.declared.outcome.Error.TheVariants as Error
 use Rattle.machine.specs.declared.outcome.Outcome.TheVariants as Outcome
 use Rattle.machine.specs.Logic.{left_error}
 use Rattle.machine.specs.contracts.outcome.Error as ErrorType

@@ -5,11 +5,9 @@ use Rattle.rooms.specs.Rooms.{Rooms}
 use Rattle.machine.specs.declared.outcome.Used.{Used}
 use Rattle.machine.specs.declared.outcome.Error.TheVariants as Error
 use Rattle.machine.specs.declared.outcome.Outcome.{Outcome}
-use Rattle.machine.specs.declared.outcome.Outcome.TheVariants as Outcome
 use Rattle.machine.specs.Outcomes.{Res}
 use Rattle.machine.specs.Views.{bool_in}
 use Rattle.eval_logic.specs.declared.conditions.Asked.{Asked}
-use Rattle.eval_logic.specs.declared.conditions.Asked.TheVariants as Asked
 
 abbrev pub asked_bool : ℕ → Used → Option Bool → Asked
 asked_bool p u none = Asked.Ends (Outcome.Error Error.BoolWanted p u)

@@ -2,7 +2,6 @@
 use Rattle.std.proofs.Math.Option.{Option, none, some}
 use Rattle.machine.specs.declared.outcome.Used.{Used}
 use Rattle.eval_logic.specs.declared.deciding.Go.{Go}
-use Rattle.eval_logic.specs.declared.deciding.Go.TheVariants as Go
 
 -- the right operand is begun from these counts, or not
 abbrev pub go_seen : Go → Option Used

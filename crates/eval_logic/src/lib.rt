@@ -1,6 +1,8 @@
 // Logic on what operands gave: `||`, `&&`, `!`, not-strictly-false, conditions and guards.
 // Here: `||` and `&&` from the left operand's outcome and a right value. A right error is the answer already in `after_both` of `eval_operands`.
 // `deciding` says whether one operand decides by itself, `conditions` what a condition or a guard says, and `negation` has `!` and not-strictly-false.
+#![tactic(auto)]
+
 pub mod conditions;
 pub mod deciding;
 pub mod negation;

@@ -5,21 +5,13 @@ use Rattle.meaning.specs.Expr as Expr
 use Rattle.meaning.specs.Expr.{LogicalFold}
 use Rattle.machine.specs.Views as Views
 use Rattle.eval_outcomes.specs.declared.outcomes.Truth.{Truth}
-use Rattle.eval_outcomes.specs.declared.outcomes.Truth.TheVariants as Truth
 use Rattle.eval_outcomes.specs.declared.outcomes.Optional.{Optional}
-use Rattle.eval_outcomes.specs.declared.outcomes.Optional.TheVariants as Optional
 use Rattle.eval_outcomes.specs.declared.operators.Fold.{Fold}
-use Rattle.eval_outcomes.specs.declared.operators.Fold.TheVariants as Fold
 use Rattle.eval_outcomes.specs.declared.operators.Arith.{Arith}
-use Rattle.eval_outcomes.specs.declared.operators.Arith.TheVariants as Arith
 use Rattle.eval_outcomes.specs.declared.operators.Comparison.{Comparison}
-use Rattle.eval_outcomes.specs.declared.operators.Comparison.TheVariants as Comparison
 use Rattle.eval_outcomes.specs.declared.operators.Unary.{Unary}
-use Rattle.eval_outcomes.specs.declared.operators.Unary.TheVariants as Unary
 use Rattle.eval_outcomes.specs.declared.operators.Binary.{Binary}
-use Rattle.eval_outcomes.specs.declared.operators.Binary.TheVariants as Binary
 use Rattle.eval_outcomes.specs.declared.operators.Function.{Function}
-use Rattle.eval_outcomes.specs.declared.operators.Function.TheVariants as Function
 
 -- ---- of values
 

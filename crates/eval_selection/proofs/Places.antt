@@ -7,7 +7,6 @@ use lib.Dec.{ltb}
 use lib.IntN.{ℤ, pos, negsuc}
 use borrow.Author.Tests.{ltb-true}
 use Rattle.rooms.specs.declared.value.Value.{Value}
-use Rattle.rooms.specs.declared.value.Value.TheVariants as Value
 use Rattle.rooms_text.specs.declared.sizes.Position.TheVariants as Position
 use Rattle.rooms_text.specs.Sizes.{position_of, inside, inside_int}
 

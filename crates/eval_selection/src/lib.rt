@@ -1,4 +1,5 @@
 // Look-ups in lists and maps: `e.field`, has(e.field), `e[i]`, `e[?i]` and `e.?field`.
+#![tactic(auto)]
 
 // What becomes of a look-up: an Optional, a test, or what was found.
 pub mod after_lookup;

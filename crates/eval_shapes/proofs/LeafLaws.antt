@@ -14,7 +14,6 @@ use denote.Enum.Declared.{tag_of}
 use Rattle.meaning.specs.Expr.{Expr, literal, name, unary, binary, conditional, select, list_of, map_of, comprehension, call, none_call, or_value}
 use Rattle.meaning.specs.Kinds.{name_kind}
 use Rattle.rooms.specs.declared.value.Value.{Value}
-use Rattle.rooms.specs.declared.value.Value.TheVariants as Value
 use Rattle.rooms.specs.contracts.value.Value.{the_type}
 use Rattle.rooms.specs.declared.scope.Scope.{Scope}
 use Rattle.rooms.specs.Rooms.{Rooms}
@@ -26,7 +25,6 @@ use Rattle.table_check.proofs.FieldLaws.{name_below}
 use Rattle.machine.specs.declared.outcome.Used.{Used}
 use Rattle.machine.specs.declared.outcome.Limit.TheVariants as Limit
 use Rattle.machine.specs.declared.outcome.Outcome.{Outcome}
-use Rattle.machine.specs.declared.outcome.Outcome.TheVariants as Outcome
 use Rattle.machine.specs.Outcomes.{Res, stepped, after_step}
 use Rattle.machine.specs.Literals.{name_out}
 use Rattle.machine.specs.Machine.{body, machine}

@@ -23,9 +23,7 @@ use Rattle.eval_outcomes.specs.declared.operators.Function.{Function}
 use Rattle.eval_outcomes.specs.Seen.{unary_seen, binary_seen, function_seen}
 use Rattle.eval_logic.specs.Conditions.{asked_of}
 use Rattle.eval_shapes.specs.declared.next.Fixed.{Fixed}
-use Rattle.eval_shapes.specs.declared.next.Fixed.TheVariants as Fixed
 use Rattle.eval_shapes.specs.declared.next.Next.{Next}
-use Rattle.eval_shapes.specs.declared.next.Next.TheVariants as Next
 use Rattle.eval_shapes.specs.contracts.next.Fixed.{the_type}
 use Rattle.eval_shapes.specs.Next.{go_next, ask_next, value_next}
 use Rattle.eval_shapes.specs.declared.Shape.TheVariants as Shape

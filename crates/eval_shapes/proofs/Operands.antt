@@ -18,7 +18,6 @@ use Rattle.table_check.specs.Records.{expr_of, Sound, Row, unary_of, binary_of, 
 use Rattle.table_check.proofs.Opened.{opened}
 use Rattle.machine.specs.declared.outcome.Used.{Used}
 use Rattle.machine.specs.declared.outcome.Outcome.{Outcome}
-use Rattle.machine.specs.declared.outcome.Outcome.TheVariants as Outcome
 use Rattle.machine.specs.Outcomes.{Res, with_value}
 use Rattle.machine.specs.Views.{optional_in}
 use Rattle.machine.specs.Calls.{or_value_out}
@@ -29,13 +28,10 @@ use Rattle.eval_outcomes.specs.declared.operators.Unary.{Unary}
 use Rattle.eval_outcomes.specs.declared.operators.Binary.{Binary}
 use Rattle.eval_outcomes.specs.declared.operators.Function.{Function}
 use Rattle.eval_logic.specs.declared.conditions.Asked.{Asked}
-use Rattle.eval_logic.specs.declared.conditions.Asked.TheVariants as Asked
 use Rattle.eval_logic.specs.Conditions.{asked_of, on_asked}
 use Rattle.eval_logic.proofs.ConditionLaws.{asked}
 use Rattle.eval_shapes.specs.declared.next.Fixed.{Fixed}
-use Rattle.eval_shapes.specs.declared.next.Fixed.TheVariants as Fixed
 use Rattle.eval_shapes.specs.declared.next.Next.{Next}
-use Rattle.eval_shapes.specs.declared.next.Next.TheVariants as Next
 use Rattle.eval_shapes.specs.Next.{go_next, ask_next, value_next, join_of}
 use Rattle.eval_shapes.specs.declared.Shape.TheVariants as Shape
 use Rattle.eval_shapes.specs.Shapes.{unary_shape, binary_shape, function_shape, shape_of, first_at, next_of}

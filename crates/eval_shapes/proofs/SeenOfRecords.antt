@@ -19,10 +19,9 @@ use Rattle.machine.specs.Outcomes.{Does}
 use Rattle.machine.specs.Comprehension.{empty_parts}
 use Rattle.rooms.specs.declared.value.Value.{Value}
 use Rattle.rooms.specs.Value.{parts_of}
-use Rattle.machine.specs.Machine.{body, machine, appending, sum_to, append_step, append_sum, items_list}
+use Rattle.machine.specs.Machine.{machine, appending, sum_to, append_step, append_sum, items_list}
 use Rattle.eval_shapes.specs.declared.comprehensions.Path.TheVariants as Path
 use Rattle.eval_shapes.specs.declared.comprehensions.Listed.{Listed}
-use Rattle.eval_shapes.specs.declared.comprehensions.Listed.TheVariants as Listed
 use Rattle.eval_shapes.specs.declared.comprehensions.Places.{Places}
 use Rattle.eval_shapes.specs.Comprehensions.{fold_in, path_seen, PathIn, items_seen, ItemsIn, path_of}
 use Rattle.eval_shapes.proofs.KindLaws.{kind_in, KindOf, kind-here, here-is}

@@ -16,19 +16,13 @@ use Rattle.machine.specs.declared.outcome.Outcome.TheVariants as Outcome
 use Rattle.machine.specs.Machine.{body}
 use Rattle.table_check.specs.Records.{expr_of, Sound, or_else, unary_of, binary_of, call_of}
 use Rattle.eval_outcomes.specs.declared.operators.Unary.{Unary}
-use Rattle.eval_outcomes.specs.declared.operators.Unary.TheVariants as Unary
 use Rattle.eval_outcomes.specs.declared.operators.Fold.{Fold}
-use Rattle.eval_outcomes.specs.declared.operators.Fold.TheVariants as Fold
 use Rattle.eval_outcomes.specs.declared.operators.Arith.{Arith}
-use Rattle.eval_outcomes.specs.declared.operators.Arith.TheVariants as Arith
 use Rattle.eval_outcomes.specs.declared.operators.Comparison.{Comparison}
-use Rattle.eval_outcomes.specs.declared.operators.Comparison.TheVariants as Comparison
 use Rattle.eval_outcomes.specs.declared.operators.Binary.{Binary}
-use Rattle.eval_outcomes.specs.declared.operators.Binary.TheVariants as Binary
 use Rattle.eval_outcomes.specs.Seen.{fold_seen, arith_seen, comparison_seen, unary_seen, binary_seen, function_seen}
 use Rattle.eval_shapes.specs.declared.next.Fixed.TheVariants as Fixed
 use Rattle.eval_shapes.specs.declared.Shape.{Shape}
-use Rattle.eval_shapes.specs.declared.Shape.TheVariants as Shape
 use Rattle.eval_shapes.specs.Shapes.{unary_shape, fold_shape, arith_shape, comparison_shape, binary_shape, function_shape, called_shape, call_shape, shape_of}
 use Rattle.eval_shapes.proofs.Numbered.{by_number}
 use Rattle.eval_shapes.proofs.KindLaws.{kind_in, kind-here, here-is}

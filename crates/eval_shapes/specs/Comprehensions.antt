@@ -13,9 +13,7 @@ use Rattle.machine.specs.Comprehension as Machine
 use Rattle.machine.specs.Comprehension.{AppendStep, empty_parts}
 use Rattle.machine.specs.Machine.{machine, append_step}
 use Rattle.eval_shapes.specs.declared.comprehensions.Path.{Path}
-use Rattle.eval_shapes.specs.declared.comprehensions.Path.TheVariants as Path
 use Rattle.eval_shapes.specs.declared.comprehensions.Listed.{Listed}
-use Rattle.eval_shapes.specs.declared.comprehensions.Listed.TheVariants as Listed
 use Rattle.eval_shapes.specs.declared.comprehensions.Places.{Places}
 
 -- ---- the operands

@@ -5,17 +5,13 @@ use Rattle.rooms.specs.declared.value.Value.{Value}
 use Rattle.rooms.specs.Rooms.{Rooms}
 use Rattle.machine.specs.declared.outcome.Used.{Used}
 use Rattle.machine.specs.declared.outcome.Outcome.{Outcome}
-use Rattle.machine.specs.declared.outcome.Outcome.TheVariants as Outcome
 use Rattle.machine.specs.Outcomes.{Res, with_value}
 use Rattle.machine.specs.Views.{optional_in}
 use Rattle.machine.specs.Calls.{or_value_out}
 use Rattle.machine.specs.Machine.{right_of}
 use Rattle.eval_logic.specs.declared.conditions.Asked.{Asked}
-use Rattle.eval_logic.specs.declared.conditions.Asked.TheVariants as Asked
 use Rattle.eval_shapes.specs.declared.next.Fixed.{Fixed}
-use Rattle.eval_shapes.specs.declared.next.Fixed.TheVariants as Fixed
 use Rattle.eval_shapes.specs.declared.next.Next.{Next}
-use Rattle.eval_shapes.specs.declared.next.Next.TheVariants as Next
 use Rattle.eval_outcomes.specs.Seen.{binary_seen}
 
 abbrev pub go_next : Option Used → ℕ → Outcome → Next

@@ -13,23 +13,14 @@ use Rattle.machine.specs.Selection.{select_field}
 use Rattle.machine.specs.Calls.{called}
 use Rattle.machine.specs.Machine.{unary_out, left_of}
 use Rattle.eval_outcomes.specs.declared.operators.Unary.{Unary}
-use Rattle.eval_outcomes.specs.declared.operators.Unary.TheVariants as Unary
 use Rattle.eval_outcomes.specs.declared.operators.Fold.{Fold}
-use Rattle.eval_outcomes.specs.declared.operators.Fold.TheVariants as Fold
 use Rattle.eval_outcomes.specs.declared.operators.Arith.{Arith}
-use Rattle.eval_outcomes.specs.declared.operators.Arith.TheVariants as Arith
 use Rattle.eval_outcomes.specs.declared.operators.Comparison.{Comparison}
-use Rattle.eval_outcomes.specs.declared.operators.Comparison.TheVariants as Comparison
 use Rattle.eval_outcomes.specs.declared.operators.Binary.{Binary}
-use Rattle.eval_outcomes.specs.declared.operators.Binary.TheVariants as Binary
 use Rattle.eval_outcomes.specs.declared.operators.Function.{Function}
-use Rattle.eval_outcomes.specs.declared.operators.Function.TheVariants as Function
 use Rattle.eval_shapes.specs.declared.next.Fixed.{Fixed}
-use Rattle.eval_shapes.specs.declared.next.Fixed.TheVariants as Fixed
 use Rattle.eval_shapes.specs.declared.Shape.{Shape}
-use Rattle.eval_shapes.specs.declared.Shape.TheVariants as Shape
 use Rattle.eval_shapes.specs.declared.next.Next.{Next}
-use Rattle.eval_shapes.specs.declared.next.Next.TheVariants as Next
 use Rattle.eval_outcomes.specs.Seen.{unary_seen, binary_seen, function_seen}
 use Rattle.eval_logic.specs.Conditions.{asked_of}
 use Rattle.eval_shapes.specs.Next.{go_next, ask_next, value_next}

@@ -1,6 +1,8 @@
 // What the evaluator reads off the records of an accepted table.
 // Here: which record stands at a place, and which of its operands is begun first. `leaves` evaluates literals and names, `next` says what follows a
 // condition or a default, and `comprehensions` what a comprehension sees of its operands' records.
+#![tactic(auto)]
+
 pub mod comprehensions;
 pub mod leaves;
 pub mod next;

@@ -1,5 +1,7 @@
 // Pieces of text, put into lent memory one behind the other. A byte that finds no room is left out, so a line that grows too long just ends.
 // Here: bytes and words. `decimals` and `hexadecimal` put numbers, and `quoting` puts quoted text.
+#![tactic(auto)]
+
 pub mod decimals;
 pub mod hexadecimal;
 pub mod quoting;

@@ -28,7 +28,6 @@ use Rattle.rooms_taking.specs.Taking.{cells_cleared, bytes_cleared}
 use Rattle.rooms.proofs.ReadBack.{reads}
 use Rattle.rooms_taking.proofs.Zeroed.{zeroed-length, cleared-words, cleared-bytes}
 use Rattle.machine.specs.declared.outcome.Outcome.{Outcome}
-use Rattle.machine.specs.declared.outcome.Outcome.TheVariants as Outcome
 use Rattle.machine.specs.Machine.{machine}
 use Rattle.meaning_laws.specs.Charges.{counts_of}
 use Rattle.meaning_laws.proofs.Filled.{length-values}

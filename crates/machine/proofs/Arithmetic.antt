@@ -10,9 +10,7 @@ use lib.Signed.{mag}
 use lib.ListN.{length}
 use Rattle.numbers.specs.declared.double.Double.{Double}
 use Rattle.numbers.specs.declared.int.IntAnswer.{IntAnswer}
-use Rattle.numbers.specs.declared.int.IntAnswer.TheVariants as IntAnswer
 use Rattle.numbers.specs.declared.uint.UintAnswer.{UintAnswer}
-use Rattle.numbers.specs.declared.uint.UintAnswer.TheVariants as UintAnswer
 use Rattle.numbers.specs.declared.order.Number.TheVariants as Number
 use Rattle.numbers.specs.Int.{in_range}
 use Rattle.numbers.specs.Int as Int
@@ -31,7 +29,6 @@ use Rattle.numbers.proofs.DoubleLaws.{add_is, sub_is, mul_is, div_is, neg_is}
 use Rattle.numbers.proofs.RangeLaws.{IntInRange, UintInRange, int-neg}
 use Rattle.meaning_laws.proofs.SoundNumbers.{int-in-range, uint-in-range, double-in-range, negated-double-in-range}
 use Rattle.rooms.specs.declared.value.Value.{Value}
-use Rattle.rooms.specs.declared.value.Value.TheVariants as Value
 use Rattle.rooms.specs.declared.value.TextSpace.{TextSpace}
 use Rattle.rooms.specs.declared.value.TextSpace.TheVariants as Text
 use Rattle.rooms.specs.declared.value.CellSpace.{CellSpace}

@@ -16,7 +16,6 @@ use Rattle.meaning.specs.Numbers.{built_text}
 use Rattle.meaning.specs.Comprehension as Comprehension
 use Rattle.meaning.specs.Limited.{spend, outcome, ended, cells_built, text_built}
 use Rattle.rooms.specs.declared.value.Value.{Value}
-use Rattle.rooms.specs.declared.value.Value.TheVariants as Value
 use Rattle.rooms.specs.declared.value.CellSpace.{CellSpace}
 use Rattle.rooms.specs.declared.value.CellSpace.TheVariants as Cells
 use Rattle.rooms.specs.declared.value.TextSpace.{TextSpace}

@@ -20,7 +20,6 @@ use Rattle.meaning.specs.Optionals.{Unwrapped, NotOptional, Some, None, unwrap_o
 use Rattle.meaning.specs.Calls.{counted, scalar_size, size_rule, call_rule, or_value_call}
 use Rattle.meaning.specs.Comprehension as Comprehension
 use Rattle.rooms.specs.declared.value.Value.{Value}
-use Rattle.rooms.specs.declared.value.Value.TheVariants as Value
 use Rattle.rooms_text.specs.declared.sizes.Size.TheVariants as Size
 use Rattle.rooms.specs.declared.scope.Scope.{Scope}
 use Rattle.rooms.specs.Value.{double_value}

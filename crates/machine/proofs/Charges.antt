@@ -27,7 +27,6 @@ use Rattle.rooms_taking.proofs.TakingSteps.{cells-kept}
 use Rattle.machine.specs.declared.outcome.Used.{Used}
 use Rattle.machine.specs.declared.outcome.Limit.TheVariants as Limit
 use Rattle.machine.specs.declared.outcome.Outcome.{Outcome}
-use Rattle.machine.specs.declared.outcome.Outcome.TheVariants as Outcome
 use Rattle.machine.specs.Outcomes.{Res, Does, with_cells, with_words, after_step, recorded, on_taken, taking, whole}
 use Rattle.meaning_laws.specs.Charges.{counts_of}
 use Rattle.machine.specs.Refines.{used_of, Live, Roomy, Keeps, Logged, Good, Matches, Start, Meets}

@@ -6,7 +6,6 @@ use mathlib.Core.List.{List}
 use mathlib.Core.Option.{Option, none, some}
 use mathlib.Core.Bool.{Bool, beq}
 use Rattle.numbers.specs.declared.order.Order.{Order}
-use Rattle.numbers.specs.declared.order.Order.TheVariants as Order
 use Rattle.meaning.specs.Limits.{Counts}
 use Rattle.meaning.specs.Errors.{NoOverload, Unordered}
 use Rattle.meaning.specs.Value as Meaning

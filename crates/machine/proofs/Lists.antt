@@ -15,7 +15,6 @@ use Rattle.meaning.specs.Optionals.{Unwrapped, NotOptional, Some, None, unwrap_o
 use Rattle.meaning.specs.Comprehension as Comprehension
 use Rattle.meaning.specs.Limited.{spend, outcome}
 use Rattle.rooms.specs.declared.value.Value.{Value}
-use Rattle.rooms.specs.declared.value.Value.TheVariants as Value
 use Rattle.rooms.specs.declared.value.CellSpace.TheVariants as Cells
 use Rattle.rooms.specs.declared.scope.Scope.{Scope}
 use Rattle.rooms.specs.Value.{nesting_of}

@@ -13,7 +13,6 @@ use Rattle.meaning.specs.Value.{Scalar, null, bool, int, uint, double, string, b
 use Rattle.meaning.specs.Run.{pure, fail, or_fail}
 use Rattle.meaning.specs.Comprehension as Comprehension
 use Rattle.rooms.specs.declared.value.Value.{Value}
-use Rattle.rooms.specs.declared.value.Value.TheVariants as Value
 use Rattle.rooms.specs.declared.value.TextSpace.TheVariants as Text
 use Rattle.rooms.specs.declared.scope.Scope.{Scope}
 use Rattle.rooms.specs.Value.{double_value}

@@ -17,13 +17,11 @@ use Rattle.meaning.specs.Logic.{absorbing, absorbs, raised_error, bool_wanted, r
 use Rattle.meaning.specs.Numbers.{not_rule}
 use Rattle.meaning.specs.Comprehension as Comprehension
 use Rattle.rooms.specs.declared.value.Value.{Value}
-use Rattle.rooms.specs.declared.value.Value.TheVariants as Value
 use Rattle.rooms.specs.declared.scope.Scope.{Scope}
 use Rattle.rooms.specs.Rooms.{Rooms}
 use Rattle.rooms.specs.Stands.{Alive, Holds}
 use Rattle.machine.specs.declared.outcome.Used.{Used}
 use Rattle.machine.specs.declared.outcome.Outcome.{Outcome}
-use Rattle.machine.specs.declared.outcome.Outcome.TheVariants as Outcome
 use Rattle.machine.specs.Outcomes.{Res, Does, truth_out, no_overload, with_value}
 use Rattle.machine.specs.Views.{bool_in}
 use Rattle.machine.specs.Logic as Machine

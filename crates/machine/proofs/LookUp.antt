@@ -20,7 +20,6 @@ use Rattle.meaning.specs.Maps.{probe_of, position_of, position_in, element_at, i
 use Rattle.meaning.specs.Selection as Rules2
 use Rattle.meaning.specs.Comprehension as Comprehension
 use Rattle.rooms.specs.declared.value.Value.{Value}
-use Rattle.rooms.specs.declared.value.Value.TheVariants as Value
 use Rattle.rooms.specs.declared.value.CellSpace.{CellSpace}
 use Rattle.rooms.specs.declared.value.Parts.TheVariants as Parts
 use Rattle.rooms_text.specs.declared.sizes.Position.TheVariants as Position
@@ -33,7 +32,6 @@ use Rattle.rooms_text.specs.Sizes.{inside_int}
 use Rattle.rooms_text.specs.Sizes as Positions
 use Rattle.rooms_comparison.proofs.EqualMeaning.{find-ok, among-ok}
 use Rattle.machine.specs.declared.outcome.Outcome.{Outcome}
-use Rattle.machine.specs.declared.outcome.Outcome.TheVariants as Outcome
 use Rattle.machine.specs.declared.outcome.Error.TheVariants as Error
 use Rattle.machine.specs.Outcomes.{truth_out, no_overload}
 use Rattle.machine.specs.Comparison.{on_found}

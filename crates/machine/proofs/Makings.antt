@@ -18,7 +18,6 @@ use Rattle.rooms.specs.declared.scope.Scope.{Scope}
 use Rattle.rooms.specs.Rooms.{Rooms}
 use Rattle.rooms.specs.Stands.{Alive, Stands, Agrees, Holds}
 use Rattle.machine.specs.declared.outcome.Outcome.{Outcome}
-use Rattle.machine.specs.declared.outcome.Outcome.TheVariants as Outcome
 use Rattle.machine.specs.Outcomes.{Res, Does, whole}
 use Rattle.meaning_laws.specs.Charges.{counts_of}
 use Rattle.machine.specs.Refines.{used_of, error_of, limit_of, Live, Upto, Keeps, Logged, Matches, Refines}

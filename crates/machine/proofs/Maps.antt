@@ -19,11 +19,9 @@ use Rattle.meaning.specs.Comprehension as Comprehension
 use Rattle.meaning.specs.Logic.{raised_error}
 use Rattle.meaning.specs.Limited.{spend, outcome}
 use Rattle.rooms.specs.declared.value.Value.{Value}
-use Rattle.rooms.specs.declared.value.Value.TheVariants as Value
 use Rattle.rooms.specs.declared.value.CellSpace.{CellSpace}
 use Rattle.rooms.specs.declared.value.CellSpace.TheVariants as Cells
 use Rattle.rooms_comparison.specs.declared.lookup.Found.{Found}
-use Rattle.rooms_comparison.specs.declared.lookup.Found.TheVariants as Found
 use Rattle.rooms.specs.declared.scope.Scope.{Scope}
 use Rattle.rooms.specs.Value.{nesting_of, is_key}
 use Rattle.rooms.specs.Rooms.{Rooms, cell_at}

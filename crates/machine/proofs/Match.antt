@@ -11,7 +11,7 @@ use Rattle.meaning.specs.Errors as Errors
 use Rattle.meaning.specs.Errors.{ErrorAt}
 use Rattle.meaning.specs.Value as Meaning
 use Rattle.meaning.specs.Value.{count}
-use Rattle.meaning.specs.Run.{cells, Trace, Result, value, error, Raised, by_rule, by_operand, Rule, pure, charged, after, fail, from_operand, placed}
+use Rattle.meaning.specs.Run.{Trace, Result, value, error, Raised, by_rule, by_operand, Rule, pure, charged, after, fail, from_operand, placed}
 use Rattle.meaning.specs.Comprehension as Comprehension
 use Rattle.meaning.specs.Logic.{raised_error}
 use Rattle.meaning.specs.Limited as Limited
@@ -26,7 +26,6 @@ use Rattle.rooms.proofs.Frame.{frame-cells, part_same, holds_frame}
 use Rattle.machine.specs.declared.outcome.Used.{Used}
 use Rattle.machine.specs.declared.outcome.Limit.{Limit}
 use Rattle.machine.specs.declared.outcome.Outcome.{Outcome}
-use Rattle.machine.specs.declared.outcome.Outcome.TheVariants as Outcome
 use Rattle.machine.specs.Outcomes.{Res}
 use Rattle.meaning_laws.specs.Charges.{counts_of}
 use Rattle.machine.specs.Refines.{used_of, error_of, limit_of, Live, Upto, Keeps, Logged, Good, Matches, Below, Start}

@@ -20,12 +20,10 @@ use Rattle.meaning.specs.Expr.{Arith}
 use Rattle.meaning.specs.Run.{Rule, pure, charged, after, on_value, ◌>>=◌, fail, or_fail}
 use Rattle.meaning.specs.Numbers.{int_in, uint_in, double_in, bytes_in, int_arith, uint_arith}
 use Rattle.rooms.specs.declared.value.Value.{Value}
-use Rattle.rooms.specs.declared.value.Value.TheVariants as Value
 use Rattle.rooms.specs.declared.value.TextSpace.{TextSpace}
 use Rattle.rooms.specs.declared.value.TextSpace.TheVariants as Text
 use Rattle.rooms.specs.declared.value.CellSpace.{CellSpace}
 use Rattle.rooms.specs.declared.value.Plain.{Plain}
-use Rattle.rooms.specs.declared.value.Plain.TheVariants as Plain
 use Rattle.rooms.specs.declared.value.Parts.TheVariants as Parts
 use Rattle.rooms.specs.Value.{plain_of, parts_of, nesting_of, double_value}
 use Rattle.rooms.specs.Rooms.{Rooms}

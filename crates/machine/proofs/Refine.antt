@@ -20,7 +20,6 @@ use Rattle.meaning.specs.Look.{Look, of_name, named}
 use Rattle.meaning.specs.Look as Look
 use Rattle.meaning.specs.Meaning.{of_one, unary_rule, binary_rule, run, run_elements, run_pairs, look}
 use Rattle.rooms.specs.declared.value.Value.{Value}
-use Rattle.rooms.specs.declared.value.Value.TheVariants as Value
 use Rattle.rooms.specs.declared.scope.Scope.{Scope}
 use Rattle.rooms.specs.Rooms.{Rooms}
 use Rattle.rooms.specs.Value.{parts_of}

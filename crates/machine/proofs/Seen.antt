@@ -11,7 +11,6 @@ use Rattle.meaning.specs.Value as Meaning
 use Rattle.meaning.specs.Value.{null, bool, int, uint, double, string, bytes, scalar, list, map, optional_none, optional_of, scalar_of, string_of, string_in, key_in, key_of, key_scalar, nesting}
 use Rattle.meaning.specs.Maps.{probe_of, probe_in}
 use Rattle.rooms.specs.declared.value.Value.{Value}
-use Rattle.rooms.specs.declared.value.Value.TheVariants as Value
 use Rattle.rooms.specs.Value.{double_value, is_key}
 use Rattle.rooms.specs.Rooms.{Rooms}
 use Rattle.rooms.specs.Stands.{Alive, StandsScalar, Stands, Holds}

@@ -17,7 +17,6 @@ use Rattle.meaning.specs.Maps as Maps
 use Rattle.meaning.specs.Meaning.{of_one}
 use Rattle.meaning.specs.Comprehension as Comprehension
 use Rattle.rooms.specs.declared.value.Value.{Value}
-use Rattle.rooms.specs.declared.value.Value.TheVariants as Value
 use Rattle.rooms.specs.declared.value.CellSpace.{CellSpace}
 use Rattle.rooms.specs.declared.value.Parts.{Parts}
 use Rattle.rooms.specs.declared.scope.Scope.{Scope}
@@ -25,7 +24,6 @@ use Rattle.rooms.specs.Value.{parts_of}
 use Rattle.rooms.specs.Rooms.{Rooms, cell_at}
 use Rattle.rooms.specs.Stands.{Alive, Stands, Holds}
 use Rattle.machine.specs.declared.outcome.Outcome.{Outcome}
-use Rattle.machine.specs.declared.outcome.Outcome.TheVariants as Outcome
 use Rattle.machine.specs.Outcomes.{Res, Does, with_value}
 use Rattle.machine.specs.Views.{not_optional, optional_in}
 use Rattle.machine.specs.Views as Views

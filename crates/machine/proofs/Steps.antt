@@ -17,9 +17,7 @@ use Rattle.meaning.specs.Limited as Limited
 use Rattle.meaning.specs.Limited.{spend, outcome, charge, fits}
 use Rattle.rooms.specs.declared.value.CellSpace.{CellSpace}
 use Rattle.rooms_comparison.specs.declared.pairs.Pairs.{Pairs}
-use Rattle.rooms_comparison.specs.declared.pairs.Pairs.TheVariants as Pairs
 use Rattle.rooms_comparison.specs.declared.lookup.Found.{Found}
-use Rattle.rooms_comparison.specs.declared.lookup.Found.TheVariants as Found
 use Rattle.rooms.specs.declared.scope.Scope.{Scope}
 use Rattle.rooms.specs.Rooms.{Rooms, cell_at}
 use Rattle.rooms.specs.Stands.{Alive, Stands}
@@ -29,7 +27,6 @@ use Rattle.rooms_comparison.specs.Finds.{FoundIs, Finds}
 use Rattle.machine.specs.declared.outcome.Used.{Used}
 use Rattle.machine.specs.declared.outcome.Limit.TheVariants as Limit
 use Rattle.machine.specs.declared.outcome.Outcome.{Outcome}
-use Rattle.machine.specs.declared.outcome.Outcome.TheVariants as Outcome
 use Rattle.machine.specs.Outcomes.{Res}
 use Rattle.machine.specs.Comparison.{on_pairs}
 use Rattle.machine.specs.Refines.{used_of, Keeps, Matches, Start}

@@ -16,7 +16,6 @@ use Rattle.numbers.specs.Double.{bits_of, double_of}
 use Rattle.numbers.proofs.DoubleLaws.{double-either}
 use Rattle.meaning.specs.Limits.{Counts}
 use Rattle.rooms.specs.declared.value.Value.{Value}
-use Rattle.rooms.specs.declared.value.Value.TheVariants as Value
 use Rattle.rooms.specs.declared.value.CellSpace.TheVariants as Cells
 use Rattle.rooms.specs.Value.{double_value}
 use Rattle.rooms.specs.Cells.{Fits, payload_of, settled, head_of, cell_of, has_cell, cell_in, written_in}

@@ -14,7 +14,6 @@ use Rattle.rooms.specs.Rooms.{Rooms, cell_at}
 use Rattle.rooms.specs.Reading.{reading}
 use Rattle.rooms_taking.specs.Taking.{cells_cleared, bytes_cleared}
 use Rattle.machine.specs.declared.outcome.Outcome.{Outcome}
-use Rattle.machine.specs.declared.outcome.Outcome.TheVariants as Outcome
 use Rattle.machine.specs.Outcomes.{Res}
 use Rattle.machine.specs.Machine.{machine}
 use Rattle.meaning_laws.specs.Charges.{counts_of}

@@ -2,15 +2,12 @@
 use Rattle.std.specs.Prelude.{ℕ, true, false, pos}
 use Rattle.meaning.specs.Expr.{Function, size_call, of_call, has_value_call, value_call}
 use Rattle.rooms.specs.declared.value.Value.{Value}
-use Rattle.rooms.specs.declared.value.Value.TheVariants as Value
 use Rattle.rooms_text.specs.declared.sizes.Size.{Size}
-use Rattle.rooms_text.specs.declared.sizes.Size.TheVariants as Size
 use Rattle.rooms.specs.Rooms.{Rooms, cell_at}
 use Rattle.rooms_text.specs.Sizes.{size_of}
 use Rattle.machine.specs.declared.outcome.Used.{Used}
 use Rattle.machine.specs.declared.outcome.Error.TheVariants as Error
 use Rattle.machine.specs.declared.outcome.Outcome.{Outcome}
-use Rattle.machine.specs.declared.outcome.Outcome.TheVariants as Outcome
 use Rattle.machine.specs.Outcomes.{Res, truth_out, no_overload, present}
 use Rattle.machine.specs.Views.{Optional, not_optional, none_present, optional_in}
 use Rattle.machine.specs.Views as Views

@@ -2,16 +2,12 @@
 use Rattle.std.specs.Prelude.{ℕ, Bool, true, false}
 use Rattle.std.specs.Bool.{beq}
 use Rattle.numbers.specs.declared.order.Order.{Order}
-use Rattle.numbers.specs.declared.order.Order.TheVariants as Order
 use Rattle.meaning.specs.Expr.{Comparison}
 use Rattle.meaning.specs.Comparison.{holds}
 use Rattle.rooms.specs.declared.value.Value.{Value}
 use Rattle.rooms_comparison.specs.declared.pairs.Pairs.{Pairs}
-use Rattle.rooms_comparison.specs.declared.pairs.Pairs.TheVariants as Pairs
 use Rattle.rooms_comparison.specs.declared.lookup.Found.{Found}
-use Rattle.rooms_comparison.specs.declared.lookup.Found.TheVariants as Found
 use Rattle.rooms_comparison.specs.declared.ordering.Compared.{Compared}
-use Rattle.rooms_comparison.specs.declared.ordering.Compared.TheVariants as Compared
 use Rattle.rooms.specs.Rooms.{Rooms}
 use Rattle.rooms_comparison.specs.Seen.{seen_in}
 use Rattle.rooms_comparison.specs.Equality.{equal_pairs}
@@ -20,7 +16,6 @@ use Rattle.machine.specs.declared.outcome.Used.{Used}
 use Rattle.machine.specs.declared.outcome.Error.TheVariants as Error
 use Rattle.machine.specs.declared.outcome.Limit.TheVariants as Limit
 use Rattle.machine.specs.declared.outcome.Outcome.{Outcome}
-use Rattle.machine.specs.declared.outcome.Outcome.TheVariants as Outcome
 use Rattle.machine.specs.Outcomes.{with_steps, truth_out, no_overload}
 
 -- the steps are those up to the pair that decided

@@ -4,11 +4,9 @@ use Rattle.std.proofs.Math.Option.{Option, none, some}
 use Rattle.meaning.specs.Expr.{LogicalFold}
 use Rattle.meaning.specs.Logic.{absorbs}
 use Rattle.rooms.specs.declared.value.Value.{Value}
-use Rattle.rooms.specs.declared.value.Value.TheVariants as Value
 use Rattle.rooms.specs.declared.value.CellSpace.{CellSpace}
 use Rattle.rooms.specs.declared.value.CellSpace.TheVariants as Cells
 use Rattle.rooms.specs.declared.value.Parts.{Parts}
-use Rattle.rooms.specs.declared.value.Parts.TheVariants as Parts
 use Rattle.rooms.specs.declared.scope.Scope.{Scope}
 use Rattle.rooms.specs.Value.{parts_of, nesting_of}
 use Rattle.rooms.specs.Rooms.{Rooms, cell_at}
@@ -16,9 +14,7 @@ use Rattle.rooms.specs.Scope.{stored}
 use Rattle.rooms_taking.specs.Taking.{copied}
 use Rattle.machine.specs.declared.outcome.Used.{Used}
 use Rattle.machine.specs.declared.outcome.Error.{Error}
-use Rattle.machine.specs.declared.outcome.Error.TheVariants as Error
 use Rattle.machine.specs.declared.outcome.Outcome.{Outcome}
-use Rattle.machine.specs.declared.outcome.Outcome.TheVariants as Outcome
 use Rattle.machine.specs.Outcomes.{Res, Does, with_words, with_value, taking}
 use Rattle.machine.specs.Views.{bool_in}
 use Rattle.machine.specs.Logic.{branch}

@@ -6,14 +6,12 @@ use Rattle.meaning.specs.Containers.{cells_an_entry}
 use Rattle.meaning.specs.Look.{of_name, named}
 use Rattle.meaning.specs.Meaning.{look}
 use Rattle.rooms.specs.declared.value.Value.{Value}
-use Rattle.rooms.specs.declared.value.Value.TheVariants as Value
 use Rattle.rooms.specs.declared.scope.Scope.{Scope}
 use Rattle.rooms.specs.Value.{plain_of, parts_of}
 use Rattle.rooms.specs.Rooms.{Rooms}
 use Rattle.rooms.specs.Scope.{slot_of}
 use Rattle.machine.specs.declared.outcome.Used.{Used}
 use Rattle.machine.specs.declared.outcome.Outcome.{Outcome}
-use Rattle.machine.specs.declared.outcome.Outcome.TheVariants as Outcome
 use Rattle.machine.specs.Outcomes.{Res, Does, on_value, with_value, recorded, taking}
 use Rattle.machine.specs.Views.{bool_in, Optional, not_optional, none_present, optional_in}
 use Rattle.machine.specs.Views as Views

@@ -1,26 +1,20 @@
 -- Module 1 on rooms: arithmetic, and `+` on texts and lists, which copies both operands to the end of what is used.
 use Rattle.std.specs.Prelude.{ℕ, ◌+◌, max, List}
 use Rattle.numbers.specs.declared.int.IntAnswer.{IntAnswer}
-use Rattle.numbers.specs.declared.int.IntAnswer.TheVariants as IntAnswer
 use Rattle.numbers.specs.declared.uint.UintAnswer.{UintAnswer}
-use Rattle.numbers.specs.declared.uint.UintAnswer.TheVariants as UintAnswer
 use Rattle.numbers.specs.declared.double.Double.{Double}
 use Rattle.numbers.specs.declared.order.Number.{Number}
-use Rattle.numbers.specs.declared.order.Number.TheVariants as Number
 use Rattle.numbers.specs.Int as Int
 use Rattle.numbers.specs.Double as Double
 use Rattle.meaning.specs.Expr.{Arith, add, sub, div, mul, rem}
 use Rattle.meaning.specs.Numbers.{int_arith, uint_arith}
 use Rattle.rooms.specs.declared.value.Value.{Value}
-use Rattle.rooms.specs.declared.value.Value.TheVariants as Value
 use Rattle.rooms.specs.declared.value.TextSpace.{TextSpace}
 use Rattle.rooms.specs.declared.value.TextSpace.TheVariants as Text
 use Rattle.rooms.specs.declared.value.CellSpace.{CellSpace}
 use Rattle.rooms.specs.declared.value.CellSpace.TheVariants as Cells
 use Rattle.rooms.specs.declared.value.Plain.{Plain}
-use Rattle.rooms.specs.declared.value.Plain.TheVariants as Plain
 use Rattle.rooms.specs.declared.value.Parts.{Parts}
-use Rattle.rooms.specs.declared.value.Parts.TheVariants as Parts
 use Rattle.rooms.specs.Value.{plain_of, parts_of, nesting_of, double_value}
 use Rattle.rooms.specs.Rooms.{Rooms}
 use Rattle.rooms_taking.specs.Taking.{text_room, taken_of, copied, pasted}
@@ -28,7 +22,6 @@ use Rattle.machine.specs.declared.outcome.Used.{Used}
 use Rattle.machine.specs.declared.outcome.Error.TheVariants as Error
 use Rattle.machine.specs.declared.outcome.Limit.TheVariants as Limit
 use Rattle.machine.specs.declared.outcome.Outcome.{Outcome}
-use Rattle.machine.specs.declared.outcome.Outcome.TheVariants as Outcome
 use Rattle.machine.specs.Outcomes.{Res, with_bytes, with_words, with_text, no_overload, on_taken, taking}
 
 -- ---- numbers

@@ -21,11 +21,8 @@ use Rattle.rooms.specs.Stands.{Alive, StandsCells, Holds}
 use Rattle.rooms_taking.specs.Taking.{cell_room, text_room}
 use Rattle.machine.specs.declared.outcome.Used.{Used}
 use Rattle.machine.specs.declared.outcome.Error.{Error}
-use Rattle.machine.specs.declared.outcome.Error.TheVariants as Error
 use Rattle.machine.specs.declared.outcome.Limit.{Limit}
-use Rattle.machine.specs.declared.outcome.Limit.TheVariants as Limit
 use Rattle.machine.specs.declared.outcome.Outcome.{Outcome}
-use Rattle.machine.specs.declared.outcome.Outcome.TheVariants as Outcome
 use Rattle.machine.specs.Outcomes.{Res, Does}
 
 -- ---- outcomes

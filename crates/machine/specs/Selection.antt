@@ -1,12 +1,9 @@
 -- Modules 3 and 5 on rooms: look-up, `in`, select, index and optional select.
 use Rattle.std.specs.Prelude.{ℕ, ◌+◌, Bool, true, false, cond}
 use Rattle.rooms.specs.declared.value.Value.{Value}
-use Rattle.rooms.specs.declared.value.Value.TheVariants as Value
 use Rattle.rooms.specs.declared.value.CellSpace.{CellSpace}
 use Rattle.rooms.specs.declared.value.Parts.{Parts}
-use Rattle.rooms.specs.declared.value.Parts.TheVariants as Parts
 use Rattle.rooms_text.specs.declared.sizes.Position.{Position}
-use Rattle.rooms_text.specs.declared.sizes.Position.TheVariants as Position
 use Rattle.rooms.specs.Value.{parts_of, is_key}
 use Rattle.rooms.specs.Rooms.{Rooms, cell_at}
 use Rattle.rooms_comparison.specs.LookUp.{find_in}
@@ -15,7 +12,6 @@ use Rattle.rooms_text.specs.Sizes.{position_of}
 use Rattle.machine.specs.declared.outcome.Used.{Used}
 use Rattle.machine.specs.declared.outcome.Error.TheVariants as Error
 use Rattle.machine.specs.declared.outcome.Outcome.{Outcome}
-use Rattle.machine.specs.declared.outcome.Outcome.TheVariants as Outcome
 use Rattle.machine.specs.Outcomes.{Res, truth_out, no_overload, present}
 use Rattle.machine.specs.Views.{is_string, Optional, not_optional, none_present, optional_in}
 use Rattle.machine.specs.Views as Views

@@ -1,6 +1,5 @@
 -- `put_word` meets its contract. Assumes nothing.
 use borrow.Author.Rules.{rules}
-use Prim.Native.Nat.{◌-◌}
 use mathlib.Core.Path.{refl, ◌∙◌}
 use native.Mathlib.Omega.{arith}
 use Rattle.line_pieces.proofs.Putting.{word_on, word_over}

@@ -1,8 +1,7 @@
 -- `append_result::copy_runs` meets its contract. Assumes nothing.
-use Prim.Native.Nat.{◌+◌, ◌-◌, ◌*◌, ◌≤◌, ◌<◌}
+use Prim.Native.Nat.{◌+◌, ◌*◌, ◌≤◌, ◌<◌}
 use mathlib.Core.Path.{◌≡◌}
 use lib.ListN as Lists
-use Rattle.rooms_taking.specs.Taking.{copied}
 use Rattle.machine.specs.Comprehension.{runs_copied}
 use Rattle.eval_comprehension.proofs.append_result.copy_runs.Given as goal
 

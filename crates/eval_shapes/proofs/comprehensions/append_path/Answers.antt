@@ -1,6 +1,5 @@
 -- `comprehensions::append_path` meets its contract. Assumes nothing.
 use mathlib.Core.Path.{sym, ◌∙◌}
-use borrow.Author.Tests.{not-true, not-false}
 use Rattle.eval_shapes.proofs.SeenOfRecords.{path-not-empty, path-no-literal, path-other-result, path-open}
 use Rattle.eval_shapes.proofs.comprehensions.append_path.Goals as goal
 

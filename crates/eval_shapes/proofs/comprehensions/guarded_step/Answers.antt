@@ -1,7 +1,6 @@
 -- `comprehensions::guarded_step` meets its contract. Assumes nothing.
 use Prim.Native.Nat.{◌+◌}
 use mathlib.Core.Path.{sym, ◌∙◌}
-use borrow.Author.Tests.{not-true, not-false}
 use Rattle.eval_shapes.proofs.KindLaws.{sound-stands}
 use Rattle.eval_shapes.proofs.SeenOfRecords.{conditional-at, then-sound, guard-sound, guard-missing, guard-unlisted, guard-found}
 use Rattle.eval_shapes.proofs.comprehensions.guarded_step.Goals as goal

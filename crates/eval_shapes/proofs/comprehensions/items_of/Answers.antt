@@ -1,7 +1,6 @@
 -- `comprehensions::items_of` meets its contract. Assumes nothing.
 use Prim.Native.Nat.{ℕ, ◌+◌}
 use mathlib.Core.Path.{sym, ◌∙◌, ap}
-use borrow.Author.Tests.{not-true, not-false}
 use Rattle.table_layout.specs.Layout.{after}
 use Rattle.eval_shapes.proofs.KindLaws.{sound-stands}
 use Rattle.eval_shapes.proofs.SeenOfRecords.{binary-at, no-sum-here, other-sum, sum-to-another, items-found, items-missing}

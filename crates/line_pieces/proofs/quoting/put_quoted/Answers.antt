@@ -1,6 +1,5 @@
 -- `quoting::put_quoted` meets its contract. Assumes nothing.
 use borrow.Author.Rules.{rules}
-use Prim.Native.Nat.{◌-◌}
 use mathlib.Core.Path.{refl, ◌∙◌}
 use native.Mathlib.Omega.{arith}
 use Rattle.line_pieces.proofs.QuotedText.{escapes-on, escapes-over, quoted-whole}
