@@ -6,10 +6,8 @@ use Rattle.machine.specs.declared.outcome.Used.{Used}
 use Rattle.machine.specs.declared.outcome.Error.{Error}
 use Rattle.machine.specs.declared.outcome.Limit.{Limit}
 use Rattle.machine.specs.declared.outcome.Outcome.{Outcome}
-use Rattle.machine.specs.declared.outcome.Outcome.TheVariants as Outcome
 use Rattle.machine.specs.Outcomes.{Res}
 use Rattle.eval_shapes.specs.declared.next.Fixed.{Fixed}
-use Rattle.eval_shapes.specs.declared.next.Fixed.TheVariants as Fixed
 use Rattle.eval_shapes.specs.Next.{join_of}
 
 pub error-joined : (limit p : ℕ) (f : Fixed) (x : Outcome) (e : Error) (q : ℕ) (u : Used) (r : Rooms) →

@@ -11,7 +11,6 @@ use Rattle.machine.specs.declared.outcome.Used.{Used}
 use Rattle.machine.specs.declared.outcome.Outcome.{Outcome}
 use Rattle.machine.specs.Machine.{both, values_out, right_of}
 use Rattle.eval_outcomes.specs.declared.operators.Binary.{Binary as Operator}
-use Rattle.eval_outcomes.specs.declared.operators.Binary.TheVariants as Operator
 use Rattle.eval_outcomes.specs.contracts.operators.Binary.{the_type}
 use Rattle.eval_outcomes.specs.Seen.{binary_seen}
 

@@ -1,6 +1,8 @@
 // Records with a fixed number of operands: what is done once an operand is evaluated.
 // Here: what follows the operand that is begun first, with what the record has beside its operands. `unary` and `select_and_calls` end records of
 // one operand; `left_operand` says whether the right one is begun; `both_operands` and `two_values` end records of two.
+#![tactic(auto)]
+
 pub mod both_operands;
 pub mod left_operand;
 mod select_and_calls;

@@ -18,18 +18,15 @@ use Rattle.table_check.specs.Records.{expr_of, Sound}
 use Rattle.machine.specs.declared.outcome.Used.{Used}
 use Rattle.machine.specs.declared.outcome.Limit.TheVariants as Limit
 use Rattle.machine.specs.declared.outcome.Outcome.{Outcome}
-use Rattle.machine.specs.declared.outcome.Outcome.TheVariants as Outcome
 use Rattle.machine.specs.Outcomes.{Res, Does, with_words, stepped}
 use Rattle.machine.specs.Machine.{machine}
 use Rattle.eval_shapes.specs.Leaves.{slot_in, leaf_step}
 use Rattle.eval_shapes.proofs.LeafLaws.{literal-gives, leaf-machine}
 use Rattle.machine.specs.Comprehension.{Loop, AppendStep, Gathered, Gathering, asks, add_run, gathered, guarded, append_items, append_turns, nothing_gathered}
 use Rattle.eval_logic.specs.declared.conditions.Asked.{Asked}
-use Rattle.eval_logic.specs.declared.conditions.Asked.TheVariants as Asked
 use Rattle.eval_logic.specs.Conditions.{asked_of, on_asked}
 use Rattle.eval_comprehension.specs.declared.append_result.Collected.{Collected}
 use Rattle.eval_comprehension.specs.declared.append_turn.Gather.{Gather}
-use Rattle.eval_comprehension.specs.declared.append_turn.Gather.TheVariants as Gather
 use Rattle.eval_comprehension.specs.AppendResult.{gathered_in}
 use Rattle.eval_comprehension.specs.AppendTurn.{gather_of, GatherIn, on_gather}
 use Rattle.eval_comprehension.proofs.AppendTurnLaws.{items_as}

@@ -21,15 +21,12 @@ use Rattle.table_check.proofs.Opened.{both_of}
 use Rattle.machine.specs.declared.outcome.Used.{Used}
 use Rattle.machine.specs.declared.outcome.Error.TheVariants as Error
 use Rattle.machine.specs.declared.outcome.Outcome.{Outcome}
-use Rattle.machine.specs.declared.outcome.Outcome.TheVariants as Outcome
 use Rattle.machine.specs.Outcomes.{Res}
 use Rattle.machine.specs.Comprehension.{Items, AppendStep, items_parts, on_items, empty_parts, turns, append_turns, nothing_gathered, loop_from}
 use Rattle.machine.specs.Machine.{body, machine, append_step}
 use Rattle.eval_comprehension.specs.declared.ranges.Range.{Range}
-use Rattle.eval_comprehension.specs.declared.ranges.Range.TheVariants as Range
 use Rattle.eval_comprehension.specs.Ranges.{range_seen}
 use Rattle.eval_shapes.specs.declared.comprehensions.Path.{Path}
-use Rattle.eval_shapes.specs.declared.comprehensions.Path.TheVariants as Path
 use Rattle.eval_shapes.specs.declared.comprehensions.Places.{Places}
 use Rattle.eval_shapes.specs.Comprehensions.{places_at, loop_at, path_of, path_seen, append_at, PathIn}
 use Rattle.eval_shapes.proofs.SeenOfRecords.{literal-seen}

@@ -13,14 +13,11 @@ use Rattle.table_check.specs.Records.{expr_of, Sound, pairs_of}
 use Rattle.machine.specs.declared.outcome.Used.{Used}
 use Rattle.machine.specs.declared.outcome.Limit.TheVariants as Limit
 use Rattle.machine.specs.declared.outcome.Outcome.{Outcome}
-use Rattle.machine.specs.declared.outcome.Outcome.TheVariants as Outcome
 use Rattle.machine.specs.Outcomes.{Res, with_words, taking}
 use Rattle.machine.specs.Machine.{body, entries}
 use Rattle.eval_containers.specs.declared.Begun.{Begun}
-use Rattle.eval_containers.specs.declared.Begun.TheVariants as Begun
 use Rattle.eval_containers.specs.Filling.{begun_of, BegunIn}
 use Rattle.eval_shapes.specs.declared.Shape.{Shape}
-use Rattle.eval_shapes.specs.declared.Shape.TheVariants as Shape
 use Rattle.eval_shapes.specs.Leaves.{leaf_kinds, slot_in, leaf_out}
 use Rattle.eval_shapes.specs.Shapes.{shape_of}
 use Rattle.eval_shapes.proofs.LeafLaws.{leaf-body}

@@ -12,7 +12,6 @@ use Rattle.rooms.specs.declared.value.CellSpace.TheVariants as Cells
 use Rattle.rooms.specs.declared.scope.Scope.{Scope}
 use Rattle.rooms.specs.Rooms.{Rooms, rooms}
 use Rattle.rooms_comparison.specs.declared.lookup.Found.{Found}
-use Rattle.rooms_comparison.specs.declared.lookup.Found.TheVariants as Found
 use Rattle.rooms_comparison.specs.LookUp.{find_in}
 use Rattle.meaning.specs.Kinds.{map_kind}
 use Rattle.table_layout.specs.Layout.{head_bytes, word_at, after}
@@ -20,16 +19,13 @@ use Rattle.table_check.specs.Records.{Sound, SoundPart, expr_of, pairs_of}
 use Rattle.table_check.proofs.Opened.{opened}
 use Rattle.machine.specs.declared.outcome.Used.{Used}
 use Rattle.machine.specs.declared.outcome.Outcome.{Outcome}
-use Rattle.machine.specs.declared.outcome.Outcome.TheVariants as Outcome
 use Rattle.machine.specs.Outcomes.{Res, with_words, with_value}
 use Rattle.machine.specs.Views.{part_in}
 use Rattle.machine.specs.Containers.{Filling, add_entry, map_done}
 use Rattle.machine.specs.Machine.{entries, machine}
 use Rattle.eval_containers.specs.declared.Ready.{Ready}
 use Rattle.eval_containers.specs.declared.Key.{Key}
-use Rattle.eval_containers.specs.declared.Key.TheVariants as Key
 use Rattle.eval_containers.specs.declared.Entry.{Entry}
-use Rattle.eval_containers.specs.declared.Entry.TheVariants as Entry
 use Rattle.eval_containers.specs.Filling.{keyed_of, on_key, inserted_if, entered_of, EntryIn, on_entry}
 use Rattle.eval_containers.proofs.FillingLaws.{keyed, entered}
 use Rattle.eval_shapes.specs.Leaves.{unmarked_at}

@@ -5,7 +5,6 @@ use mathlib.Core.Path.{◌≡◌, sym, ◌∙◌, ap}
 use mathlib.Core.List.{List}
 use lib.ListN.{length, get_or}
 use Rattle.rooms.specs.declared.value.Value.{Value}
-use Rattle.rooms.specs.declared.value.Value.TheVariants as Value
 use Rattle.rooms.specs.declared.scope.Slot.{Slot}
 use Rattle.rooms.specs.declared.scope.Scope.{Scope}
 use Rattle.rooms.specs.Rooms.{Rooms, rooms}
@@ -17,7 +16,6 @@ use Rattle.machine.specs.declared.outcome.Outcome.{Outcome}
 use Rattle.machine.specs.Machine.{machine}
 use Rattle.eval_shapes.specs.Leaves.{leaf_kinds, slot_in, leaf_step}
 use Rattle.eval_shallow.specs.declared.slots.Quad.{Quad}
-use Rattle.eval_shallow.specs.declared.slots.Quad.TheVariants as Quad
 use Rattle.eval_shallow.specs.Slots.{IsQuad, QuadBelow, QuadHolds}
 use Rattle.eval_shallow.proofs.Stops.{Is}
 use Rattle.eval_shallow.proofs.SlotLaws as Slots

@@ -21,17 +21,13 @@ use Rattle.rooms.specs.Scope.{stored}
 use Rattle.machine.specs.declared.outcome.Used.{Used}
 use Rattle.machine.specs.declared.outcome.Error.{Error}
 use Rattle.machine.specs.declared.outcome.Outcome.{Outcome}
-use Rattle.machine.specs.declared.outcome.Outcome.TheVariants as Outcome
 use Rattle.machine.specs.Outcomes.{Res, Does}
 use Rattle.machine.specs.Comprehension.{Loop, Binds, Holds, asks, finish, after_step, turn, turns}
 use Rattle.eval_logic.specs.declared.conditions.Asked.{Asked}
-use Rattle.eval_logic.specs.declared.conditions.Asked.TheVariants as Asked
 use Rattle.eval_logic.specs.Conditions.{asked_of, on_asked}
 use Rattle.eval_logic.proofs.ConditionLaws.{asked-as}
 use Rattle.eval_comprehension.specs.declared.steps.Pending.{Pending}
-use Rattle.eval_comprehension.specs.declared.steps.Pending.TheVariants as Pending
 use Rattle.eval_comprehension.specs.declared.steps.Step.{Step}
-use Rattle.eval_comprehension.specs.declared.steps.Step.TheVariants as Step
 use Rattle.eval_comprehension.specs.Steps.{pending_seen, step_of, on_step}
 use Rattle.eval_comprehension.proofs.StepLaws.{step-as}
 use Rattle.eval_shapes.specs.declared.comprehensions.Places.{Places}

@@ -1,4 +1,6 @@
 // The record evaluator and the comprehension loop, which call each other.
+#![tactic(auto)]
+
 mod appending;
 mod comprehension;
 pub mod eval;

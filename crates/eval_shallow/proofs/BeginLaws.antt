@@ -10,11 +10,9 @@ use Rattle.table_check.specs.Records.{expr_of, Sound, elements_of}
 use Rattle.machine.specs.declared.outcome.Used.{Used}
 use Rattle.machine.specs.declared.outcome.Limit.TheVariants as Limit
 use Rattle.machine.specs.declared.outcome.Outcome.{Outcome}
-use Rattle.machine.specs.declared.outcome.Outcome.TheVariants as Outcome
 use Rattle.machine.specs.Outcomes.{Res, with_words, taking}
 use Rattle.machine.specs.Machine.{body, elements}
 use Rattle.eval_containers.specs.declared.Begun.{Begun}
-use Rattle.eval_containers.specs.declared.Begun.TheVariants as Begun
 use Rattle.eval_containers.specs.Filling.{begun_of, BegunIn}
 use Rattle.eval_containers.proofs.FillingLaws.{on_begun, begun, begun-within}
 use Rattle.eval_shapes.proofs.Rows.{list_at}

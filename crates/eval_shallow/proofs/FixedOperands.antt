@@ -10,12 +10,10 @@ use Rattle.table_check.specs.Records.{expr_of, Sound}
 use Rattle.machine.specs.declared.outcome.Used.{Used}
 use Rattle.machine.specs.declared.outcome.Limit.TheVariants as Limit
 use Rattle.machine.specs.declared.outcome.Outcome.{Outcome}
-use Rattle.machine.specs.declared.outcome.Outcome.TheVariants as Outcome
 use Rattle.machine.specs.Outcomes.{Res, stepped}
 use Rattle.machine.specs.Machine.{body, machine}
 use Rattle.eval_shapes.specs.declared.next.Fixed.{Fixed}
 use Rattle.eval_shapes.specs.declared.next.Next.{Next}
-use Rattle.eval_shapes.specs.declared.next.Next.TheVariants as Next
 use Rattle.eval_shapes.specs.Next.{join_of}
 use Rattle.eval_shapes.specs.Shapes.{first_at, next_of, NextIn}
 use Rattle.eval_shapes.proofs.Operands.{on_next, FixedAt}

@@ -14,7 +14,6 @@ use Rattle.table_layout.specs.Layout.{after}
 use Rattle.table_check.specs.Records.{SoundPart, expr_of, elements_of}
 use Rattle.machine.specs.declared.outcome.Used.{Used}
 use Rattle.machine.specs.declared.outcome.Outcome.{Outcome}
-use Rattle.machine.specs.declared.outcome.Outcome.TheVariants as Outcome
 use Rattle.machine.specs.Outcomes.{Res, with_words}
 use Rattle.machine.specs.Views.{part_in}
 use Rattle.machine.specs.Containers as Containers

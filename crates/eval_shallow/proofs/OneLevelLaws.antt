@@ -17,9 +17,7 @@ use Rattle.machine.specs.declared.outcome.Outcome.{Outcome}
 use Rattle.machine.specs.Machine.{machine}
 use Rattle.eval_shapes.specs.declared.next.Fixed.{Fixed}
 use Rattle.eval_shapes.specs.declared.next.Next.{Next}
-use Rattle.eval_shapes.specs.declared.next.Next.TheVariants as Next
 use Rattle.eval_shapes.specs.declared.Shape.{Shape}
-use Rattle.eval_shapes.specs.declared.Shape.TheVariants as Shape
 use Rattle.eval_shapes.specs.Shapes.{shape_of, first_at, next_of, NextIn}
 use Rattle.eval_shapes.specs.contracts.Shape.{the_type}
 use Rattle.eval_shapes.proofs.Operands.{fixed-at}

@@ -16,14 +16,12 @@ use Rattle.machine.specs.declared.outcome.Outcome.{Outcome}
 use Rattle.machine.specs.Machine.{left_of}
 use Rattle.eval_outcomes.specs.Seen.{binary_seen}
 use Rattle.eval_shapes.specs.declared.next.Fixed.{Fixed}
-use Rattle.eval_shapes.specs.declared.next.Fixed.TheVariants as Fixed
 use Rattle.eval_shapes.specs.declared.next.Next.TheVariants as Next
 use Rattle.eval_shapes.specs.declared.Shape.TheVariants as Shape
 use Rattle.eval_shapes.specs.Shapes.{shape_of, first_at, next_of}
 use Rattle.eval_shapes.proofs.Operands.{go-at, no-next}
 use Rattle.eval_shapes.specs.Leaves.{slot_in}
 use Rattle.eval_shallow.specs.declared.slots.Pair.{Pair}
-use Rattle.eval_shallow.specs.declared.slots.Pair.TheVariants as Pair
 use Rattle.eval_shallow.specs.Slots.{Operands, neither, one, two, operands_of, is_leaf, flat_slots, small_of, beside, near_slots, IsPair, PairHolds, IsQuad, QuadHolds}
 use Rattle.eval_shallow.proofs.SideLaws.{sides_with, operands-at}
 

@@ -9,7 +9,6 @@ use Rattle.rooms.specs.declared.scope.Scope.{Scope}
 use Rattle.rooms.specs.Scope.{slot_of}
 use Rattle.eval_shapes.specs.Leaves.{slot_in}
 use Rattle.eval_shallow.specs.declared.slots.Quad.{Quad}
-use Rattle.eval_shallow.specs.declared.slots.Quad.TheVariants as Quad
 use Rattle.eval_shallow.specs.Slots.{is_leaf, near_of, IsQuad, QuadHolds}
 use Rattle.eval_shallow.specs.Shallow.{reach_of}
 

@@ -19,9 +19,7 @@ use Rattle.table_check.specs.Records.{expr_of, Sound, Row, call_of}
 use Rattle.table_check.proofs.Opened.{opened}
 use Rattle.eval_outcomes.specs.declared.operators.Function.{Function}
 use Rattle.eval_shapes.specs.declared.next.Fixed.{Fixed}
-use Rattle.eval_shapes.specs.declared.next.Fixed.TheVariants as Fixed
 use Rattle.eval_shapes.specs.declared.Shape.{Shape}
-use Rattle.eval_shapes.specs.declared.Shape.TheVariants as Shape
 use Rattle.eval_shapes.specs.Shapes.{shape_of}
 use Rattle.eval_shapes.specs.contracts.Shape.{the_type}
 use Rattle.eval_shapes.specs.Leaves.{leaf_kinds, slot_in}
@@ -30,11 +28,8 @@ use Rattle.eval_shapes.proofs.KindLaws.{sound-stands, kind_in, kind-here, here-i
 use Rattle.eval_shapes.proofs.ShapeLaws.{shape-byte, leaf-shape-here, leaf-byte}
 use Rattle.eval_shapes.proofs.SeenOfRecords.{binary-at}
 use Rattle.eval_shallow.specs.declared.slots.Sides.{Sides}
-use Rattle.eval_shallow.specs.declared.slots.Sides.TheVariants as Sides
 use Rattle.eval_shallow.specs.declared.slots.Pair.{Pair}
-use Rattle.eval_shallow.specs.declared.slots.Pair.TheVariants as Pair
 use Rattle.eval_shallow.specs.declared.slots.Quad.{Quad}
-use Rattle.eval_shallow.specs.declared.slots.Quad.TheVariants as Quad
 use Rattle.eval_shallow.specs.Slots.{Operands, neither, one, two, operands_of, sides_seen, SoundSides, called_sides, call_sides, leaf_shape, is_leaf, flat_slots, flat_of, small_of, beside, near_slots, PairBelow, QuadBelow}
 
 -- ---- by the form

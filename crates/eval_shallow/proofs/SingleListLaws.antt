@@ -13,7 +13,6 @@ use Rattle.meaning.specs.Expr.{Expr, literal, name, unary, binary, conditional, 
 use Rattle.meaning.specs.Kinds.{list_kind}
 use Rattle.meaning.specs.Table.{Part, bare, marked, add_element}
 use Rattle.rooms.specs.declared.value.Value.{Value}
-use Rattle.rooms.specs.declared.value.Value.TheVariants as Value
 use Rattle.rooms.specs.declared.value.CellSpace.TheVariants as Cells
 use Rattle.rooms.specs.declared.scope.Scope.{Scope}
 use Rattle.rooms.specs.Rooms.{Rooms}
@@ -24,12 +23,10 @@ use Rattle.table_check.proofs.Parts.{part-marked, part-bare}
 use Rattle.machine.specs.declared.outcome.Used.{Used}
 use Rattle.machine.specs.declared.outcome.Limit.TheVariants as Limit
 use Rattle.machine.specs.declared.outcome.Outcome.{Outcome}
-use Rattle.machine.specs.declared.outcome.Outcome.TheVariants as Outcome
 use Rattle.machine.specs.Outcomes.{with_words, whole}
 use Rattle.machine.specs.Views.{part_in}
 use Rattle.machine.specs.Machine.{body, machine}
 use Rattle.eval_containers.specs.declared.Begun.{Begun}
-use Rattle.eval_containers.specs.declared.Begun.TheVariants as Begun
 use Rattle.eval_containers.specs.declared.Ready.{Ready}
 use Rattle.eval_containers.specs.Filling.{begun_of, BegunIn, added_of, AddedIn}
 use Rattle.eval_shapes.specs.Leaves.{unmarked_at}

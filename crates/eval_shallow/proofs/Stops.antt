@@ -7,7 +7,6 @@ use Rattle.rooms.specs.declared.value.Value.{Value}
 use Rattle.rooms.specs.Rooms.{Rooms}
 use Rattle.machine.specs.declared.outcome.Used.{Used}
 use Rattle.machine.specs.declared.outcome.Outcome.{Outcome}
-use Rattle.machine.specs.declared.outcome.Outcome.TheVariants as Outcome
 use Rattle.machine.specs.Outcomes.{Res, with_value}
 use Rattle.machine.specs.contracts.outcome.Outcome.{the_type}
 use Rattle.eval_outcomes.proofs.Stops.{goes-out}

@@ -3,7 +3,6 @@ use Rattle.std.specs.Prelude.{cond}
 use Rattle.meaning.specs.Expr.{Expr}
 use Rattle.eval_shapes.specs.Leaves.{slot_in}
 use Rattle.eval_shallow.specs.declared.slots.Quad.{Quad}
-use Rattle.eval_shallow.specs.declared.slots.Quad.TheVariants as Quad
 use Rattle.eval_shallow.specs.Slots.{is_leaf, near_of}
 
 abbrev pub reach_of : Expr → Quad

@@ -10,14 +10,10 @@ use Rattle.rooms.specs.Scope.{slot_of}
 use Rattle.table_check.specs.Records.{Sound, expr_of}
 use Rattle.eval_shapes.specs.Leaves.{slot_in}
 use Rattle.eval_shapes.specs.declared.Shape.{Shape}
-use Rattle.eval_shapes.specs.declared.Shape.TheVariants as Shape
 use Rattle.eval_shapes.specs.Shapes.{shape_of}
 use Rattle.eval_shallow.specs.declared.slots.Sides.{Sides}
-use Rattle.eval_shallow.specs.declared.slots.Sides.TheVariants as Sides
 use Rattle.eval_shallow.specs.declared.slots.Pair.{Pair}
-use Rattle.eval_shallow.specs.declared.slots.Pair.TheVariants as Pair
 use Rattle.eval_shallow.specs.declared.slots.Quad.{Quad}
-use Rattle.eval_shallow.specs.declared.slots.Quad.TheVariants as Quad
 
 -- ---- one operand or two
 

@@ -1,5 +1,6 @@
 // Shallow records: records of one operand or two whose literals and names stand at most two levels down. They are evaluated with the slots that
 // they read and without a scope, since a call that takes a scope copies it.
+#![tactic(auto)]
 
 // Records whose operands are all literals and names.
 mod one_level;

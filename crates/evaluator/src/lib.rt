@@ -1,4 +1,6 @@
 // The evaluator of rules: from a table, its literal text, bindings, lent rooms and a step limit to a value, an error, exhaustion or a refusal.
+#![tactic(auto)]
+
 ghost use Rattle.std.specs.Prelude.{◌≡◌, min};
 ghost use Rattle.meaning.specs.Limits.{most_steps};
 ghost use Rattle.table_check.specs.Records.{Sound, expr_of};

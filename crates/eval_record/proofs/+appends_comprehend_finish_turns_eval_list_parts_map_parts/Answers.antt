@@ -8,9 +8,7 @@ use Rattle.rooms.specs.Scope.{absent, stored}
 use Rattle.eval_shapes.specs.Comprehensions.{loop_at, append_at}
 use Rattle.eval_comprehension.specs.AppendResult.{gathered_in}
 use Prim.Native.Nat.{ℕ, ◌+◌, ◌*◌, ◌<◌}
-use Rattle.rooms.proofs.Scopes.{mapped-length}
 use lib.ListN.{length-set, get_or}
-use mathlib.Core.Logic.{⊎_elim}
 use Rattle.eval_record.proofs.Operands.{came-record, Came, came-slots, slots-asked, slots-below, leaf-does, came-leaf}
 use Rattle.table_layout.specs.Layout.{after}
 use Rattle.eval_shapes.proofs.KindLaws.{sound-stands}
@@ -27,7 +25,6 @@ use Rattle.eval_shallow.proofs.SlotLaws.{leaf-here}
 use Rattle.table_check.specs.Records.{expr_of}
 use Rattle.eval_record.proofs.Turns.{held-is, result-is, no-turn, turn-ends, turn-fails, step-ends, step-holds, step-binds, extent-least, turns-begin, turns-again, turns-over}
 use Rattle.machine.specs.Machine.{machine}
-use borrow.Fn.PlainCycle.{is, and}
 use Rattle.machine.specs.Views.{part_in}
 use Rattle.eval_record.proofs.Lists.{list-begins}
 use Rattle.eval_shallow.proofs.ListLaws.{added-count, no-element, element-stops, element-again}

@@ -1,10 +1,8 @@
 -- The cycle of `eval`: every member meets its contract. Assumes nothing.
-use mathlib.Core.Path.{ap}
 use Rattle.eval_record.proofs.Appends.{AppendsLoop}
 use Prim.Native.Nat.{◌+◌, ◌*◌}
 use Rattle.table_layout.specs.Layout.{word_at}
 use Rattle.eval_record.proofs.Turns.{TurnsLoop}
-use borrow.Fn.PlainCycle.{is}
 use Rattle.eval_record.proofs.Lists.{ListLoop}
 use Rattle.eval_record.proofs.Maps.{MapLoop}
 use Rattle.eval_record.proofs.+appends_comprehend_finish_turns_eval_list_parts_map_parts.Given as goal

@@ -1,5 +1,4 @@
 -- `slots::flat_at` meets its contract. Assumes nothing.
-use borrow.Author.Tests.{not-true, not-false}
 use native.Mathlib.Omega.{arith}
 use Rattle.eval_shapes.proofs.KindLaws.{sound-stands}
 use Rattle.eval_shallow.proofs.SideLaws.{none-flat, one-sound, one-far, one-flat, two-sound, two-far, second-far, two-flat}
