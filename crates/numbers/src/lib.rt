@@ -5,7 +5,7 @@
 pub mod double;
 // What arithmetic answers where it has no result.
 pub mod error;
-// Int, an `i64`: its size, its word, and checked arithmetic.
+// Int, an `i64`: its size, and checked arithmetic.
 pub mod int;
 // A number of any kind, and how two of them stand.
 pub mod order;
