@@ -4,8 +4,8 @@
 usage: python3 tools/port/turn_proofs.py NAMES CRATE..
 
 NAMES is the folder that `rt names NAMES` wrote at the top of the checkout: it has each goal's, step's and place's old name beside its new one.
-Each proofs/F/Proof.antt of a function that is in no cycle becomes proofs/F/Answers.antt, and proofs/F/Invariants.antt where it has loops. The kit's
-keep_names.py has to run before. An answer that is `search rules` alone goes, since the check tries that itself. A path such as
+Each proofs/F/Proof.antt becomes proofs/F/Answers.antt, and proofs/F/Invariants.antt where F has loops; the files of a cycle become one of each. The
+kit's keep_names.py has to run before. An answer that is `search rules` alone goes, since the check tries that itself. A path such as
 `c.before.before.size.given.0.0` becomes `c.in-Value.size`: today's records have every step as a field. What it cannot turn is printed as `left:`.
 """
 

@@ -1,4 +1,5 @@
--- The cycle of `eval`: every member meets its contract. Assumes nothing.
+-- The cycle of `eval`: every member meets its contract. Here is what the check leaves of each, member by member; all answers of a cycle stand in one
+-- file, since the check reads no other. Assumes nothing.
 use borrow.Enum.Refused.{opened}
 use mathlib.Core.Path.{refl, sym, ◌∙◌, ◌≡◌, ap}
 use native.Mathlib.Omega.{arith}
@@ -35,24 +36,7 @@ use Rattle.eval_shapes.specs.declared.Shape.TheVariants as Shape
 use Rattle.eval_record.proofs.+appends_comprehend_finish_turns_eval_list_parts_map_parts.Goals as goal
 use Rattle.eval_record.proofs.+appends_comprehend_finish_turns_eval_list_parts_map_parts.Goals.{appending::appends-Joined-guarded, appending::appends-Joined-reads-2, comprehension::turns-Joined-reads, comprehension::turns-Joined-reads-2, eval::eval-Joined-reach_at, eval::eval-Joined-reach_at-2, list_records::list_parts-Joined-is_leaf, map_records::map_parts-Joined-is_leaf, map_records::map_parts-Joined-is_leaf-2, appending::appends-in-Slots-reads, appending::appends-in-No-reads, eval::eval-in-Slots, eval::eval-in-No, eval::eval-in-Slots-reach_at, eval::eval-in-No-reach_at, comprehension::turns-in-Slots, comprehension::turns-in-No, comprehension::turns-in-Slots-reads, comprehension::turns-in-No-reads, list_records::list_parts-then-is_leaf, list_records::list_parts-else-is_leaf, map_records::map_parts-then-is_leaf, map_records::map_parts-else-is_leaf, map_records::map_parts-then-is_leaf-2, map_records::map_parts-else-is_leaf-2, appending::appends-then-guarded, appending::appends-in-Slots, appending::appends-in-No, appending::appends-else-guarded}
 
-pub guard-came : (t : ℕ) (c : appending::appends-Joined-guarded t) → Guarded c.args.table.now c.args.literal.now c.args.binding_cells.now c.args.binding_text.now c.args.limit c.args.at c.args.guarded c.args.guard (stored c.loop-left.inner c.args.places.item c.cell_at.result) c.in-Holds.more c.loop-left.cells c.loop-left.text c.if-guarded.passes c.if-guarded.cells c.if-guarded.text
-guard-came t c =
-    let long = (length-set c.loop-left.inner.slots c.args.places.item (record { value = c.cell_at.result })) ∙ c.loop-left.invariant.long in
-    elim c.if-guarded.branch [
-      | appending::appends-then-guarded w ↦ came-guarded c.args.table.now c.args.literal.now c.args.binding_cells.now c.args.binding_text.now c.args.limit c.args.at c.args.guarded c.args.guard (stored c.loop-left.inner c.args.places.item c.cell_at.result) c.in-Holds.more c.loop-left.cells c.loop-left.text w.if-guarded.true (elim w.match-reads.branch [
-        | appending::appends-in-Slots w' ↦ came-slots c.args.table.now c.args.literal.now c.args.binding_cells.now c.args.binding_text.now c.args.limit c.args.guard (stored c.loop-left.inner c.args.places.item c.cell_at.result) c.in-Holds.more c.loop-left.cells c.loop-left.text long c.reach_at-guard_slots.ensures w'.in-Slots.is w'.reach-test.ensures w'.reach-test.auto.cells w'.reach-test.auto.text w'.cells-is w'.text-is w'.test-is
-        | appending::appends-in-No w' ↦ came-record c.args.table.now c.args.literal.now c.args.binding_cells.now c.args.binding_text.now c.args.limit c.args.guard (stored c.loop-left.inner c.args.places.item c.cell_at.result) c.in-Holds.more c.loop-left.cells c.loop-left.text w'.eval-test.ensures w'.eval-test.auto.cells w'.eval-test.auto.text w'.cells-is w'.text-is w'.test-is
-      ]) w.asks-passes.ensures w.cells-is w.text-is w.passes-is
-      | appending::appends-else-guarded w ↦ came-unguarded c.args.table.now c.args.literal.now c.args.binding_cells.now c.args.binding_text.now c.args.limit c.args.at c.args.guarded c.args.guard (stored c.loop-left.inner c.args.places.item c.cell_at.result) c.in-Holds.more c.loop-left.cells c.loop-left.text w.if-guarded.false w.cells-is w.text-is w.passes-is
-    ]
-
-pub items-came : (t : ℕ) (c : appending::appends-Joined-reads-2 t) → Came c.args.table.now c.args.literal.now c.args.binding_cells.now c.args.binding_text.now c.args.limit c.args.list (stored c.loop-left.inner c.args.places.item c.cell_at.result) c.in-Holds-passes.after c.if-guarded.cells c.if-guarded.text c.match-reads-2.items c.match-reads-2.cells c.match-reads-2.text
-items-came t c =
-    let long = (length-set c.loop-left.inner.slots c.args.places.item (record { value = c.cell_at.result })) ∙ c.loop-left.invariant.long in
-    elim c.match-reads-2.branch [
-      | appending::appends-in-Slots-reads w ↦ came-slots c.args.table.now c.args.literal.now c.args.binding_cells.now c.args.binding_text.now c.args.limit c.args.list (stored c.loop-left.inner c.args.places.item c.cell_at.result) c.in-Holds-passes.after c.if-guarded.cells c.if-guarded.text long c.single_at-list_slots.ensures w.in-Slots-reads.is w.single-items.ensures w.single-items.auto.cells w.single-items.auto.text w.cells-is w.text-is w.items-is
-      | appending::appends-in-No-reads w ↦ came-record c.args.table.now c.args.literal.now c.args.binding_cells.now c.args.binding_text.now c.args.limit c.args.list (stored c.loop-left.inner c.args.places.item c.cell_at.result) c.in-Holds-passes.after c.if-guarded.cells c.if-guarded.text w.eval-items.ensures w.eval-items.auto.cells w.eval-items.auto.text w.cells-is w.text-is w.items-is
-    ]
+-- ---- `eval`: what a record does after its step, and what its operands came to
 
 pub left-came : (t : ℕ) (c : eval::eval-Joined-reach_at t) → Came c.args.table.now c.args.literal.now c.args.binding_cells.now c.args.binding_text.now c.args.limit (first_at c.args.table.now c.args.at c.in-Operands.fixed) c.args.scope c.stepped-begun.result c.args.cells.now c.args.text.now c.match-reach_at.left c.match-reach_at.cells c.match-reach_at.text
 left-came t c =
@@ -69,364 +53,6 @@ right-came t c =
       | eval::eval-in-Slots-reach_at w ↦ came-slots c.args.table.now c.args.literal.now c.args.binding_cells.now c.args.binding_text.now c.args.limit c.in-At-after_first.two c.args.scope c.in-At-after_first.more c.after_first.new.cells c.match-reach_at.text long c.reach_at-in-At-after_first.ensures w.in-Slots-reach_at.is w.reach-right.ensures w.reach-right.auto.cells w.reach-right.auto.text w.cells-is w.text-is w.right-is
       | eval::eval-in-No-reach_at w ↦ came-record c.args.table.now c.args.literal.now c.args.binding_cells.now c.args.binding_text.now c.args.limit c.in-At-after_first.two c.args.scope c.in-At-after_first.more c.after_first.new.cells c.match-reach_at.text w.eval-right.ensures w.eval-right.auto.cells w.eval-right.auto.text w.cells-is w.text-is w.right-is
     ]
-
-pub element-came : (t : ℕ) (c : list_records::list_parts-Joined-is_leaf t) → Came c.args.table.now c.args.literal.now c.args.binding_cells.now c.args.binding_text.now c.args.limit (unmarked_at c.args.table.now c.loop-left.place) c.args.scope c.loop-left.spent c.loop-left.cells c.loop-left.text c.if-is_leaf.part c.if-is_leaf.cells c.if-is_leaf.text
-element-came t c =
-    let f = element-next c.args.table.now c.args.literal.now c.args.at c.loop-left.left c.loop-left.place c.loop-left-test.true c.loop-left.invariant.row in
-    let s = rw (sym c.unmarked-element.ensures) at f.part.sound in
-    let long = (c.well_formed.1.1.1.1.1.1.1.1.0.1.1.0.1.0.1) in
-    rw (← c.unmarked-element.ensures) (elim c.if-is_leaf.branch [
-      | list_records::list_parts-then-is_leaf w ↦ came-leaf c.args.table.now c.args.literal.now c.args.binding_cells.now c.args.binding_text.now c.args.limit c.unmarked-element.result c.args.scope c.loop-left.spent c.loop-left.cells c.loop-left.text s long (leaf-here c.args.table.now c.unmarked-element.result c.is_leaf.ensures w.if-is_leaf.true) w.slot_at-slot.ensures w.leaf-part.ensures w.cells-is w.text-is w.part-is
-      | list_records::list_parts-else-is_leaf w ↦ came-record c.args.table.now c.args.literal.now c.args.binding_cells.now c.args.binding_text.now c.args.limit c.unmarked-element.result c.args.scope c.loop-left.spent c.loop-left.cells c.loop-left.text w.eval-part.ensures w.eval-part.auto.cells w.eval-part.auto.text w.cells-is w.text-is w.part-is
-    ])
-
-pub key-came : (t : ℕ) (c : map_records::map_parts-Joined-is_leaf t) → Came c.args.table.now c.args.literal.now c.args.binding_cells.now c.args.binding_text.now c.args.limit c.loop-left.place c.args.scope c.loop-left.spent c.loop-left.cells c.loop-left.text c.if-is_leaf.one c.if-is_leaf.cells c.if-is_leaf.text
-key-came t c =
-    let f = entry_next c.args.table.now c.args.literal.now c.args.at c.loop-left.left c.loop-left.place c.loop-left-test.true c.loop-left.invariant.row in
-    let long = (c.well_formed.1.1.1.1.1.1.1.1.0.1.1.0.1.0.1) in
-    elim c.if-is_leaf.branch [
-      | map_records::map_parts-then-is_leaf w ↦ came-leaf c.args.table.now c.args.literal.now c.args.binding_cells.now c.args.binding_text.now c.args.limit c.loop-left.place c.args.scope c.loop-left.spent c.loop-left.cells c.loop-left.text f.key long (leaf-here c.args.table.now c.loop-left.place c.is_leaf.ensures w.if-is_leaf.true) w.slot_at-slot.ensures w.leaf-one.ensures w.cells-is w.text-is w.one-is
-      | map_records::map_parts-else-is_leaf w ↦ came-record c.args.table.now c.args.literal.now c.args.binding_cells.now c.args.binding_text.now c.args.limit c.loop-left.place c.args.scope c.loop-left.spent c.loop-left.cells c.loop-left.text w.eval-one.ensures w.eval-one.auto.cells w.eval-one.auto.text w.cells-is w.text-is w.one-is
-    ]
-
-pub value-came : (t : ℕ) (c : map_records::map_parts-Joined-is_leaf-2 t) → Came c.args.table.now c.args.literal.now c.args.binding_cells.now c.args.binding_text.now c.args.limit (unmarked_at c.args.table.now (after c.args.table.now c.loop-left.place)) c.args.scope c.in-Is.going c.if-is_leaf.cells c.if-is_leaf.text c.if-is_leaf-2.part c.if-is_leaf-2.cells c.if-is_leaf-2.text
-value-came t c =
-    let f = entry_next c.args.table.now c.args.literal.now c.args.at c.loop-left.left c.loop-left.place c.loop-left-test.true c.loop-left.invariant.row in
-    let u2 : c.unmarked-element.result ≡ unmarked_at c.args.table.now (after c.args.table.now c.loop-left.place) = c.unmarked-element.ensures ∙ ap (λ (n : ℕ). unmarked_at c.args.table.now n) c.end_at-second.ensures in
-    let s = rw (sym u2) at f.part.sound in
-    let long = (c.well_formed.1.1.1.1.1.1.1.1.0.1.1.0.1.0.1) in
-    rw (← u2) (elim c.if-is_leaf-2.branch [
-      | map_records::map_parts-then-is_leaf-2 w ↦ came-leaf c.args.table.now c.args.literal.now c.args.binding_cells.now c.args.binding_text.now c.args.limit c.unmarked-element.result c.args.scope c.in-Is.going c.if-is_leaf.cells c.if-is_leaf.text s long (leaf-here c.args.table.now c.unmarked-element.result c.is_leaf-in-Is.ensures w.if-is_leaf-2.true) w.slot_at-slot-then-is_leaf-2.ensures w.leaf-part.ensures w.cells-is w.text-is w.part-is
-      | map_records::map_parts-else-is_leaf-2 w ↦ came-record c.args.table.now c.args.literal.now c.args.binding_cells.now c.args.binding_text.now c.args.limit c.unmarked-element.result c.args.scope c.in-Is.going c.if-is_leaf.cells c.if-is_leaf.text w.eval-part.ensures w.eval-part.auto.cells w.eval-part.auto.text w.cells-is w.text-is w.part-is
-    ])
-
-pub condition-came : (t : ℕ) (c : comprehension::turns-Joined-reads t) → Came c.args.table.now c.args.literal.now c.args.binding_cells.now c.args.binding_text.now c.args.limit c.args.places.condition c.loop-left.inner c.loop-left.spent c.loop-left.cells c.loop-left.text c.match-reads.test c.match-reads.cells c.match-reads.text
-condition-came t c =
-    elim c.match-reads.branch [
-      | comprehension::turns-in-Slots w ↦ came-slots c.args.table.now c.args.literal.now c.args.binding_cells.now c.args.binding_text.now c.args.limit c.args.places.condition c.loop-left.inner c.loop-left.spent c.loop-left.cells c.loop-left.text c.loop-left.invariant.long c.reach_at-condition_slots.ensures w.in-Slots.is w.reach-test.ensures w.reach-test.auto.cells w.reach-test.auto.text w.cells-is w.text-is w.test-is
-      | comprehension::turns-in-No w ↦ came-record c.args.table.now c.args.literal.now c.args.binding_cells.now c.args.binding_text.now c.args.limit c.args.places.condition c.loop-left.inner c.loop-left.spent c.loop-left.cells c.loop-left.text w.eval-test.ensures w.eval-test.auto.cells w.eval-test.auto.text w.cells-is w.text-is w.test-is
-    ]
-
-pub step-came : (t : ℕ) (c : comprehension::turns-Joined-reads-2 t) → Came c.args.table.now c.args.literal.now c.args.binding_cells.now c.args.binding_text.now c.args.limit c.args.places.step (stored c.loop-left.inner c.args.places.item c.cell_at.result) c.in-Holds.more c.match-reads.cells c.match-reads.text c.match-reads-2.gives c.match-reads-2.cells c.match-reads-2.text
-step-came t c =
-    let long = (length-set c.loop-left.inner.slots c.args.places.item (record { value = c.cell_at.result }) ∙ c.loop-left.invariant.long) in
-    elim c.match-reads-2.branch [
-      | comprehension::turns-in-Slots-reads w ↦ came-slots c.args.table.now c.args.literal.now c.args.binding_cells.now c.args.binding_text.now c.args.limit c.args.places.step (stored c.loop-left.inner c.args.places.item c.cell_at.result) c.in-Holds.more c.match-reads.cells c.match-reads.text long c.reach_at-step_slots.ensures w.in-Slots-reads.is w.reach-gives.ensures w.reach-gives.auto.cells w.reach-gives.auto.text w.cells-is w.text-is w.gives-is
-      | comprehension::turns-in-No-reads w ↦ came-record c.args.table.now c.args.literal.now c.args.binding_cells.now c.args.binding_text.now c.args.limit c.args.places.step (stored c.loop-left.inner c.args.places.item c.cell_at.result) c.in-Holds.more c.match-reads.cells c.match-reads.text w.eval-gives.ensures w.eval-gives.auto.cells w.eval-gives.auto.text w.cells-is w.text-is w.gives-is
-    ]
-
-pub appending::appends-loop-left-init : goal.appending::appends-loop-left-init
-appending::appends-loop-left-init t c =
-    appends-begin c.args.table.now c.args.literal.now c.args.binding_cells.now c.args.binding_text.now c.args.cells.now c.args.text.now c.args.limit c.args.at c.args.guarded c.args.guard c.args.list c.args.space c.args.first c.args.count c.args.each c.args.places.item c.args.places.condition c.args.scope c.args.used (c.well_formed.1.1.1.1.1.1.1.1.0.1.1.0.1.0.1) c.ranges.first.fits c.ranges.count.fits
-
-pub appending::appends-leaf-test-requires : goal.appending::appends-leaf-test-requires
-appending::appends-leaf-test-requires t c =
-    (c.requires.0, omega (arith, c.requires.1))
-
-pub appending::appends-shape_of-cells-in-Ends : goal.appending::appends-shape_of-cells-in-Ends
-appending::appends-shape_of-cells-in-Ends t c = c.loop-left.invariant.kept
-
-pub appending::appends-shape_of-text-in-Ends : goal.appending::appends-shape_of-text-in-Ends
-appending::appends-shape_of-text-in-Ends t c = c.loop-left.invariant.keptx
-
-pub appending::appends-returns-in-Ends : goal.appending::appends-returns-in-Ends
-appending::appends-returns-in-Ends t c =
-    append-ends (loop_at c.args.table.now c.args.literal.now c.args.limit c.args.at c.args.places) (append_at c.args.table.now c.args.literal.now c.args.limit c.args.guarded c.args.guard c.args.list) c.args.space c.args.each c.loop-left.left c.loop-left.cell c.loop-left-test.true (gathered_in c.loop-left.firsts c.loop-left.counts c.loop-left.collected) c.loop-left.inner c.loop-left.spent (rooms c.args.literal.now c.args.binding_cells.now c.args.binding_text.now c.loop-left.cells c.loop-left.text) (literal-does c.args.table.now c.args.literal.now c.args.limit c.args.places.condition c.requires.0 c.requires.1 absent.value c.loop-left.spent c.leaf-test.ensures c.loop-left.inner (rooms c.args.literal.now c.args.binding_cells.now c.args.binding_text.now c.loop-left.cells c.loop-left.text)) c.asks.ensures c.in-Ends.is ∙ c.loop-left.invariant.same c.args.places refl refl
-
-pub appending::appends-loop-left-preserved-in-Fails : goal.appending::appends-loop-left-preserved-in-Fails
-appending::appends-loop-left-preserved-in-Fails t c =
-    appends-over c.args.table.now c.args.literal.now c.args.binding_cells.now c.args.binding_text.now c.args.cells.now c.args.text.now c.args.limit c.args.at c.args.guarded c.args.guard c.args.list c.args.space c.args.first c.args.count c.args.each c.args.places.item c.args.places.condition c.args.scope c.args.used c.loop-left.invariant (none-again c.args.table.now c.args.literal.now c.args.limit c.args.at c.args.guarded c.args.guard c.args.list c.args.space c.args.each c.args.places.item c.args.places.condition c.loop-left.left c.loop-left.cell c.loop-left-test.true (gathered_in c.loop-left.firsts c.loop-left.counts c.loop-left.collected) c.loop-left.inner c.loop-left.spent (rooms c.args.literal.now c.args.binding_cells.now c.args.binding_text.now c.loop-left.cells c.loop-left.text) (literal-does c.args.table.now c.args.literal.now c.args.limit c.args.places.condition c.requires.0 c.requires.1 absent.value c.loop-left.spent c.leaf-test.ensures c.loop-left.inner (rooms c.args.literal.now c.args.binding_cells.now c.args.binding_text.now c.loop-left.cells c.loop-left.text)) c.asks.ensures c.in-Fails.is)
-
-pub appending::appends-bounds-inner-item : goal.appending::appends-bounds-inner-item
-appending::appends-bounds-inner-item t c =
-    c.requires.6
-
-pub appending::appends-overflow_add-cell : goal.appending::appends-overflow_add-cell
-appending::appends-overflow_add-cell t c =
-    omega (arith, c.loop-left.invariant.below, c.loop-left-test.true, c.ranges.each)
-
-pub appending::appends-shape_of-cells-in-Ends-passes : goal.appending::appends-shape_of-cells-in-Ends-passes
-appending::appends-shape_of-cells-in-Ends-passes t c =
-    (guard-came t (goal.at.appending::appends-shape_of-cells-in-Ends-passes t c).Joined-guarded).kept ∙ c.loop-left.invariant.kept
-
-pub appending::appends-shape_of-text-in-Ends-passes : goal.appending::appends-shape_of-text-in-Ends-passes
-appending::appends-shape_of-text-in-Ends-passes t c =
-    (guard-came t (goal.at.appending::appends-shape_of-text-in-Ends-passes t c).Joined-guarded).keptx ∙ c.loop-left.invariant.keptx
-
-pub appending::appends-returns-in-Ends-passes : goal.appending::appends-returns-in-Ends-passes
-appending::appends-returns-in-Ends-passes t c =
-    guard-ends (loop_at c.args.table.now c.args.literal.now c.args.limit c.args.at c.args.places) (append_at c.args.table.now c.args.literal.now c.args.limit c.args.guarded c.args.guard c.args.list) c.args.space c.args.each c.loop-left.left c.loop-left.cell c.loop-left-test.true (gathered_in c.loop-left.firsts c.loop-left.counts c.loop-left.collected) c.loop-left.inner c.loop-left.spent (rooms c.args.literal.now c.args.binding_cells.now c.args.binding_text.now c.loop-left.cells c.loop-left.text) (literal-does c.args.table.now c.args.literal.now c.args.limit c.args.places.condition c.requires.0 c.requires.1 absent.value c.loop-left.spent c.leaf-test.ensures c.loop-left.inner (rooms c.args.literal.now c.args.binding_cells.now c.args.binding_text.now c.loop-left.cells c.loop-left.text)) c.asks.ensures c.in-Holds.is c.cell_at.ensures (guard-came t (goal.at.appending::appends-returns-in-Ends-passes t c).Joined-guarded).passed c.in-Ends-passes.is ∙ c.loop-left.invariant.same c.args.places refl refl
-
-pub appending::appends-loop-left-preserved-in-Fails-passes : goal.appending::appends-loop-left-preserved-in-Fails-passes
-appending::appends-loop-left-preserved-in-Fails-passes t c =
-    let passed = guard-came t (goal.at.appending::appends-loop-left-preserved-in-Fails-passes t c).Joined-guarded in
-    appends-again c.args.table.now c.args.literal.now c.args.binding_cells.now c.args.binding_text.now c.args.cells.now c.args.text.now c.args.limit c.args.at c.args.guarded c.args.guard c.args.list c.args.space c.args.first c.args.count c.args.each c.args.places.item c.args.places.condition c.args.scope c.args.used c.loop-left.invariant c.loop-left-test.true c.ranges.each.fits passed.kept passed.keptx (length-set c.loop-left.inner.slots c.args.places.item (record { value = c.cell_at.result })) refl refl (omega arith, omega arith) (fails-again c.args.table.now c.args.literal.now c.args.limit c.args.at c.args.guarded c.args.guard c.args.list c.args.space c.args.each c.args.places.item c.args.places.condition c.loop-left.left c.loop-left.cell c.loop-left-test.true (gathered_in c.loop-left.firsts c.loop-left.counts c.loop-left.collected) c.loop-left.inner c.loop-left.spent (rooms c.args.literal.now c.args.binding_cells.now c.args.binding_text.now c.loop-left.cells c.loop-left.text) (literal-does c.args.table.now c.args.literal.now c.args.limit c.args.places.condition c.requires.0 c.requires.1 absent.value c.loop-left.spent c.leaf-test.ensures c.loop-left.inner (rooms c.args.literal.now c.args.binding_cells.now c.args.binding_text.now c.loop-left.cells c.loop-left.text)) c.asks.ensures c.in-Holds.is c.cell_at.ensures passed.passed c.in-Fails-passes.is)
-
-pub appending::appends-shape_of-cells-in-Ends-gather_items : goal.appending::appends-shape_of-cells-in-Ends-gather_items
-appending::appends-shape_of-cells-in-Ends-gather_items t c =
-    c.gather_items.auto.cells ∙ ((items-came t (goal.at.appending::appends-shape_of-cells-in-Ends-gather_items t c).Joined-reads-2).kept ∙ ((guard-came t (goal.at.appending::appends-shape_of-cells-in-Ends-gather_items t c).Joined-guarded).kept ∙ c.loop-left.invariant.kept))
-
-pub appending::appends-shape_of-text-in-Ends-gather_items : goal.appending::appends-shape_of-text-in-Ends-gather_items
-appending::appends-shape_of-text-in-Ends-gather_items t c =
-    (items-came t (goal.at.appending::appends-shape_of-text-in-Ends-gather_items t c).Joined-reads-2).keptx ∙ ((guard-came t (goal.at.appending::appends-shape_of-text-in-Ends-gather_items t c).Joined-guarded).keptx ∙ c.loop-left.invariant.keptx)
-
-pub appending::appends-returns-in-Ends-gather_items : goal.appending::appends-returns-in-Ends-gather_items
-appending::appends-returns-in-Ends-gather_items t c =
-    list-ends (loop_at c.args.table.now c.args.literal.now c.args.limit c.args.at c.args.places) (append_at c.args.table.now c.args.literal.now c.args.limit c.args.guarded c.args.guard c.args.list) c.args.space c.args.each c.loop-left.left c.loop-left.cell c.loop-left-test.true (gathered_in c.loop-left.firsts c.loop-left.counts c.loop-left.collected) c.loop-left.inner c.loop-left.spent (rooms c.args.literal.now c.args.binding_cells.now c.args.binding_text.now c.loop-left.cells c.loop-left.text) (literal-does c.args.table.now c.args.literal.now c.args.limit c.args.places.condition c.requires.0 c.requires.1 absent.value c.loop-left.spent c.leaf-test.ensures c.loop-left.inner (rooms c.args.literal.now c.args.binding_cells.now c.args.binding_text.now c.loop-left.cells c.loop-left.text)) c.asks.ensures c.in-Holds.is c.cell_at.ensures (guard-came t (goal.at.appending::appends-returns-in-Ends-gather_items t c).Joined-guarded).passed c.in-Holds-passes.is (items-came t (goal.at.appending::appends-returns-in-Ends-gather_items t c).Joined-reads-2).is c.gather_items.ensures c.in-Ends-gather_items.is ∙ c.loop-left.invariant.same c.args.places refl refl
-
-pub appending::appends-slice_bounds-add_run-end : goal.appending::appends-slice_bounds-add_run-end
-appending::appends-slice_bounds-add_run-end t c =
-    sym c.loop-left.invariant.firsts-long
-
-pub appending::appends-slice_bounds-add_run-end-in-Run : goal.appending::appends-slice_bounds-add_run-end-in-Run
-appending::appends-slice_bounds-add_run-end-in-Run t c =
-    sym c.loop-left.invariant.counts-long
-
-pub appending::appends-add_run-collected-requires : goal.appending::appends-add_run-collected-requires
-appending::appends-add_run-collected-requires t c =
-    (omega (arith, c.loop-left.invariant.runs), omega (arith, c.loop-left.invariant.elements))
-
-pub appending::appends-loop-left-smaller : goal.appending::appends-loop-left-smaller
-appending::appends-loop-left-smaller t c =
-    omega (arith, c.loop-left-test.true)
-
-pub appending::appends-loop-left-preserved : goal.appending::appends-loop-left-preserved
-appending::appends-loop-left-preserved t c =
-    let listed = items-came t (goal.at.appending::appends-loop-left-preserved t c).Joined-reads-2 in
-    let passed = guard-came t (goal.at.appending::appends-loop-left-preserved t c).Joined-guarded in
-    appends-again c.args.table.now c.args.literal.now c.args.binding_cells.now c.args.binding_text.now c.args.cells.now c.args.text.now c.args.limit c.args.at c.args.guarded c.args.guard c.args.list c.args.space c.args.first c.args.count c.args.each c.args.places.item c.args.places.condition c.args.scope c.args.used c.loop-left.invariant c.loop-left-test.true c.ranges.each.fits (c.gather_items.auto.cells ∙ (listed.kept ∙ passed.kept)) (listed.keptx ∙ passed.keptx) (length-set c.loop-left.inner.slots c.args.places.item (record { value = c.cell_at.result })) c.add_run-collected.auto.firsts c.add_run-collected.auto.counts (run-added c.loop-left.firsts c.loop-left.counts _ _ c.loop-left.collected c.add_run-collected.result _ c.in-Run.length _ c.add_run-collected.ensures (omega (arith, c.in-Run.known_told-in-Run-1-own.given.1.0))) (gathers-again c.args.table.now c.args.literal.now c.args.limit c.args.at c.args.guarded c.args.guard c.args.list c.args.space c.args.each c.args.places.item c.args.places.condition c.loop-left.left c.loop-left.cell c.loop-left-test.true (gathered_in c.loop-left.firsts c.loop-left.counts c.loop-left.collected) c.loop-left.inner c.loop-left.spent (rooms c.args.literal.now c.args.binding_cells.now c.args.binding_text.now c.loop-left.cells c.loop-left.text) (literal-does c.args.table.now c.args.literal.now c.args.limit c.args.places.condition c.requires.0 c.requires.1 absent.value c.loop-left.spent c.leaf-test.ensures c.loop-left.inner (rooms c.args.literal.now c.args.binding_cells.now c.args.binding_text.now c.loop-left.cells c.loop-left.text)) c.asks.ensures c.in-Holds.is c.cell_at.ensures passed.passed c.in-Holds-passes.is listed.is c.gather_items.ensures c.in-Run.is c.add_run-collected.ensures)
-
-pub appending::appends-slice_bounds-collected_list-end : goal.appending::appends-slice_bounds-collected_list-end
-appending::appends-slice_bounds-collected_list-end t c = sym c.loop-left.invariant.firsts-long
-
-pub appending::appends-slice_bounds-collected_list-end-2 : goal.appending::appends-slice_bounds-collected_list-end-2
-appending::appends-slice_bounds-collected_list-end-2 t c = sym c.loop-left.invariant.counts-long
-
-pub appending::appends-collected_list-requires : goal.appending::appends-collected_list-requires
-appending::appends-collected_list-requires t c = omega (arith, c.loop-left.invariant.runs)
-
-pub appending::appends-shape_of-cells : goal.appending::appends-shape_of-cells
-appending::appends-shape_of-cells t c =
-    c.collected_list.auto.cells ∙ c.loop-left.invariant.kept
-
-pub appending::appends-shape_of-text : goal.appending::appends-shape_of-text
-appending::appends-shape_of-text t c =
-    c.loop-left.invariant.keptx
-
-pub appending::appends-returns : goal.appending::appends-returns
-appending::appends-returns t c =
-    c.collected_list.ensures c.args.literal.now c.args.binding_text.now c.loop-left.text ∙ (sym (no-append (loop_at c.args.table.now c.args.literal.now c.args.limit c.args.at c.args.places) (append_at c.args.table.now c.args.literal.now c.args.limit c.args.guarded c.args.guard c.args.list) c.args.space c.args.each c.loop-left.left c.loop-left.cell (omega (arith, c.loop-left-test.false)) (gathered_in c.loop-left.firsts c.loop-left.counts c.loop-left.collected) c.loop-left.inner c.loop-left.spent (rooms c.args.literal.now c.args.binding_cells.now c.args.binding_text.now c.loop-left.cells c.loop-left.text)) ∙ c.loop-left.invariant.same c.args.places refl refl)
-
-pub appending::appends-reach_at-guard_slots-requires : goal.appending::appends-reach_at-guard_slots-requires
-appending::appends-reach_at-guard_slots-requires t c = c.requires.2
-
-pub appending::appends-single_at-list_slots-requires : goal.appending::appends-single_at-list_slots-requires
-appending::appends-single_at-list_slots-requires t c =
-    c.requires.3
-
-pub appending::appends-offset_bounds-inner-item : goal.appending::appends-offset_bounds-inner-item
-appending::appends-offset_bounds-inner-item t c =
-    omega (arith, c.requires.6)
-
-pub appending::appends-offset_bounds-inner-first_slot : goal.appending::appends-offset_bounds-inner-first_slot
-appending::appends-offset_bounds-inner-first_slot t c =
-    omega (arith, (slots-below c.reach_at-guard_slots.ensures c.in-Slots.is).0)
-
-pub appending::appends-bounds-inner-first_slot : goal.appending::appends-bounds-inner-first_slot
-appending::appends-bounds-inner-first_slot t c =
-    (slots-below c.reach_at-guard_slots.ensures c.in-Slots.is).0
-
-pub appending::appends-offset_bounds-inner-second_slot : goal.appending::appends-offset_bounds-inner-second_slot
-appending::appends-offset_bounds-inner-second_slot t c =
-    omega (arith, (slots-below c.reach_at-guard_slots.ensures c.in-Slots.is).1)
-
-pub appending::appends-bounds-inner-second_slot : goal.appending::appends-bounds-inner-second_slot
-appending::appends-bounds-inner-second_slot t c =
-    (slots-below c.reach_at-guard_slots.ensures c.in-Slots.is).1
-
-pub appending::appends-offset_bounds-inner-third_slot : goal.appending::appends-offset_bounds-inner-third_slot
-appending::appends-offset_bounds-inner-third_slot t c =
-    omega (arith, (slots-below c.reach_at-guard_slots.ensures c.in-Slots.is).2)
-
-pub appending::appends-bounds-inner-third_slot : goal.appending::appends-bounds-inner-third_slot
-appending::appends-bounds-inner-third_slot t c =
-    (slots-below c.reach_at-guard_slots.ensures c.in-Slots.is).2
-
-pub appending::appends-offset_bounds-inner-fourth_slot : goal.appending::appends-offset_bounds-inner-fourth_slot
-appending::appends-offset_bounds-inner-fourth_slot t c =
-    omega (arith, (slots-below c.reach_at-guard_slots.ensures c.in-Slots.is).3)
-
-pub appending::appends-bounds-inner-fourth_slot : goal.appending::appends-bounds-inner-fourth_slot
-appending::appends-bounds-inner-fourth_slot t c =
-    (slots-below c.reach_at-guard_slots.ensures c.in-Slots.is).3
-
-pub appending::appends-reach-test-requires : goal.appending::appends-reach-test-requires
-appending::appends-reach-test-requires t c =
-    (c.requires.2, slots-asked c.reach_at-guard_slots.ensures c.in-Slots.is)
-
-pub appending::appends-eval-test-requires : goal.appending::appends-eval-test-requires
-appending::appends-eval-test-requires t c =
-    (omega (arith, c.requires.4), c.requires.2)
-
-pub appending::appends-offset_bounds-inner-first_slot-in-Slots-reads : goal.appending::appends-offset_bounds-inner-first_slot-in-Slots-reads
-appending::appends-offset_bounds-inner-first_slot-in-Slots-reads t c =
-    omega (arith, (slots-below c.single_at-list_slots.ensures c.in-Slots-reads.is).0)
-
-pub appending::appends-bounds-inner-first_slot-in-Slots-reads : goal.appending::appends-bounds-inner-first_slot-in-Slots-reads
-appending::appends-bounds-inner-first_slot-in-Slots-reads t c =
-    (slots-below c.single_at-list_slots.ensures c.in-Slots-reads.is).0
-
-pub appending::appends-offset_bounds-inner-second_slot-in-Slots-reads : goal.appending::appends-offset_bounds-inner-second_slot-in-Slots-reads
-appending::appends-offset_bounds-inner-second_slot-in-Slots-reads t c =
-    omega (arith, (slots-below c.single_at-list_slots.ensures c.in-Slots-reads.is).1)
-
-pub appending::appends-bounds-inner-second_slot-in-Slots-reads : goal.appending::appends-bounds-inner-second_slot-in-Slots-reads
-appending::appends-bounds-inner-second_slot-in-Slots-reads t c =
-    (slots-below c.single_at-list_slots.ensures c.in-Slots-reads.is).1
-
-pub appending::appends-offset_bounds-inner-third_slot-in-Slots-reads : goal.appending::appends-offset_bounds-inner-third_slot-in-Slots-reads
-appending::appends-offset_bounds-inner-third_slot-in-Slots-reads t c =
-    omega (arith, (slots-below c.single_at-list_slots.ensures c.in-Slots-reads.is).2)
-
-pub appending::appends-bounds-inner-third_slot-in-Slots-reads : goal.appending::appends-bounds-inner-third_slot-in-Slots-reads
-appending::appends-bounds-inner-third_slot-in-Slots-reads t c =
-    (slots-below c.single_at-list_slots.ensures c.in-Slots-reads.is).2
-
-pub appending::appends-offset_bounds-inner-fourth_slot-in-Slots-reads : goal.appending::appends-offset_bounds-inner-fourth_slot-in-Slots-reads
-appending::appends-offset_bounds-inner-fourth_slot-in-Slots-reads t c =
-    omega (arith, (slots-below c.single_at-list_slots.ensures c.in-Slots-reads.is).3)
-
-pub appending::appends-bounds-inner-fourth_slot-in-Slots-reads : goal.appending::appends-bounds-inner-fourth_slot-in-Slots-reads
-appending::appends-bounds-inner-fourth_slot-in-Slots-reads t c =
-    (slots-below c.single_at-list_slots.ensures c.in-Slots-reads.is).3
-
-pub appending::appends-single-items-requires : goal.appending::appends-single-items-requires
-appending::appends-single-items-requires t c =
-    (c.requires.3, slots-asked c.single_at-list_slots.ensures c.in-Slots-reads.is)
-
-pub appending::appends-eval-items-requires : goal.appending::appends-eval-items-requires
-appending::appends-eval-items-requires t c =
-    (omega (arith, c.requires.5), c.requires.3)
-
-pub comprehension::comprehend-first_operand-over-requires : goal.comprehension::comprehend-first_operand-over-requires
-comprehension::comprehend-first_operand-over-requires t c =
-    let s = sound-stands c.args.table.now c.args.literal.now c.args.at c.requires.0 in (s.here, s.known)
-
-pub comprehension::comprehend-end_at-init-requires : goal.comprehension::comprehend-end_at-init-requires
-comprehension::comprehend-end_at-init-requires t c =
-    let z = comprehension-at c.args.table.now c.args.literal.now c.args.at c.requires.0 c.requires.1 in
-    let f : c.first_operand-over.result ≡ c.args.at + 5 = c.first_operand-over.ensures ∙ z.first in rw f (sound-stands c.args.table.now c.args.literal.now (c.args.at + 5) z.range).start
-
-pub comprehension::comprehend-eval-one-requires : goal.comprehension::comprehend-eval-one-requires
-comprehension::comprehend-eval-one-requires t c =
-    let z = comprehension-at c.args.table.now c.args.literal.now c.args.at c.requires.0 c.requires.1 in
-    let f : c.first_operand-over.result ≡ c.args.at + 5 = c.first_operand-over.ensures ∙ z.first in
-    let g : c.end_at-init.result ≡ after c.args.table.now (c.args.at + 5) = c.end_at-init.ensures ∙ ap (λ (n : ℕ). after c.args.table.now n) f in rw g (omega (arith, z.extents), z.init)
-
-pub comprehension::comprehend-shape_of-cells-in_default : goal.comprehension::comprehend-shape_of-cells-in_default
-comprehension::comprehend-shape_of-cells-in_default t c = c.eval-one.auto.cells
-
-pub comprehension::comprehend-shape_of-text-in_default : goal.comprehension::comprehend-shape_of-text-in_default
-comprehension::comprehend-shape_of-text-in_default t c = c.eval-one.auto.text
-
-pub comprehension::comprehend-returns-in_default : goal.comprehension::comprehend-returns-in_default
-comprehension::comprehend-returns-in_default t c =
-    let z = comprehension-at c.args.table.now c.args.literal.now c.args.at c.requires.0 c.requires.1 in
-    init-stops c.args.table.now c.args.literal.now c.args.limit c.args.at z c.first_operand-over.ensures c.end_at-init.ensures c.args.scope c.args.used (rooms c.args.literal.now c.args.binding_cells.now c.args.binding_text.now c.args.cells.now c.args.text.now) c.eval-one.ensures (opened c.in_default.in_default-own.keys2)
-
-pub comprehension::comprehend-eval-two-requires : goal.comprehension::comprehend-eval-two-requires
-comprehension::comprehend-eval-two-requires t c =
-    let z = comprehension-at c.args.table.now c.args.literal.now c.args.at c.requires.0 c.requires.1 in
-    let f : c.first_operand-over.result ≡ c.args.at + 5 = c.first_operand-over.ensures ∙ z.first in rw f (omega (arith, z.extents), z.range)
-
-pub comprehension::comprehend-shape_of-cells-in_default-two : goal.comprehension::comprehend-shape_of-cells-in_default-two
-comprehension::comprehend-shape_of-cells-in_default-two t c =
-    c.eval-two.auto.cells ∙ c.eval-one.auto.cells
-
-pub comprehension::comprehend-shape_of-text-in_default-two : goal.comprehension::comprehend-shape_of-text-in_default-two
-comprehension::comprehend-shape_of-text-in_default-two t c =
-    c.eval-two.auto.text ∙ c.eval-one.auto.text
-
-pub comprehension::comprehend-returns-in_default-two : goal.comprehension::comprehend-returns-in_default-two
-comprehension::comprehend-returns-in_default-two t c =
-    let z = comprehension-at c.args.table.now c.args.literal.now c.args.at c.requires.0 c.requires.1 in
-    range-stops c.args.table.now c.args.literal.now c.args.limit c.args.at z c.first_operand-over.ensures c.end_at-init.ensures c.args.scope c.args.used (rooms c.args.literal.now c.args.binding_cells.now c.args.binding_text.now c.args.cells.now c.args.text.now) c.eval-one.ensures c.in-Value.is c.eval-two.ensures (opened c.in_default-two.in_default-two-own.keys2)
-
-pub comprehension::comprehend-shape_of-cells-in_default-range_of : goal.comprehension::comprehend-shape_of-cells-in_default-range_of
-comprehension::comprehend-shape_of-cells-in_default-range_of t c =
-    c.eval-two.auto.cells ∙ c.eval-one.auto.cells
-
-pub comprehension::comprehend-shape_of-text-in_default-range_of : goal.comprehension::comprehend-shape_of-text-in_default-range_of
-comprehension::comprehend-shape_of-text-in_default-range_of t c =
-    c.eval-two.auto.text ∙ c.eval-one.auto.text
-
-pub comprehension::comprehend-returns-in_default-range_of : goal.comprehension::comprehend-returns-in_default-range_of
-comprehension::comprehend-returns-in_default-range_of t c =
-    let z = comprehension-at c.args.table.now c.args.literal.now c.args.at c.requires.0 c.requires.1 in
-    no-range c.args.table.now c.args.literal.now c.args.limit c.args.at z c.first_operand-over.ensures c.end_at-init.ensures c.args.scope c.args.used (rooms c.args.literal.now c.args.binding_cells.now c.args.binding_text.now c.args.cells.now c.args.text.now) c.eval-one.ensures c.in-Value.is c.eval-two.ensures c.in-Value-two.is c.range_of.result c.range_of.ensures c.in_default-range_of.is
-
-pub comprehension::comprehend-places_at-places-requires : goal.comprehension::comprehend-places_at-places-requires
-comprehension::comprehend-places_at-places-requires t c =
-    let z = comprehension-at c.args.table.now c.args.literal.now c.args.at c.requires.0 c.requires.1 in
-    let f : c.first_operand-over.result ≡ c.args.at + 5 = c.first_operand-over.ensures ∙ z.first in
-    let g : c.end_at-init.result ≡ after c.args.table.now (c.args.at + 5) = c.end_at-init.ensures ∙ ap (λ (n : ℕ). after c.args.table.now n) f in (c.requires.0, c.requires.1, g)
-
-pub comprehension::comprehend-append_path-requires : goal.comprehension::comprehend-append_path-requires
-comprehension::comprehend-append_path-requires t c =
-    let z = comprehension-at c.args.table.now c.args.literal.now c.args.at c.requires.0 c.requires.1 in (condition-sound c.args.table.now c.args.literal.now c.args.at z c.places_at-places.ensures, step-sound c.args.table.now c.args.literal.now c.args.at z c.places_at-places.ensures, result-sound c.args.table.now c.args.literal.now c.args.at z c.places_at-places.ensures)
-
-pub comprehension::comprehend-turns-requires : goal.comprehension::comprehend-turns-requires
-comprehension::comprehend-turns-requires t c =
-    let z = comprehension-at c.args.table.now c.args.literal.now c.args.at c.requires.0 c.requires.1 in (let q = operands-smaller c.args.table.now c.args.literal.now c.args.at z c.places_at-places.ensures in omega (arith, q), (condition-sound c.args.table.now c.args.literal.now c.args.at z c.places_at-places.ensures, step-sound c.args.table.now c.args.literal.now c.args.at z c.places_at-places.ensures, result-sound c.args.table.now c.args.literal.now c.args.at z c.places_at-places.ensures, accumulator-small c.args.table.now c.args.literal.now c.args.at z c.places_at-places.ensures, item-small c.args.table.now c.args.literal.now c.args.at z c.places_at-places.ensures))
-
-pub comprehension::comprehend-appends-requires : goal.comprehension::comprehend-appends-requires
-comprehension::comprehend-appends-requires t c =
-    let z = comprehension-at c.args.table.now c.args.literal.now c.args.at c.requires.0 c.requires.1 in
-    let q = plain-run c.args.table.now c.args.literal.now c.args.at z c.places_at-places.ensures c.in-Value.start c.append_path.result c.append_path.ensures.0 c.append_path.ensures.1 c.in-Plain.is in (omega arith, (condition-sound c.args.table.now c.args.literal.now c.args.at z c.places_at-places.ensures, q.literal, q.guard-sound, q.list-sound, q.guard-smaller, q.list-smaller, item-small c.args.table.now c.args.literal.now c.args.at z c.places_at-places.ensures))
-
-pub comprehension::comprehend-appends-requires-in-Guarded : goal.comprehension::comprehend-appends-requires-in-Guarded
-comprehension::comprehend-appends-requires-in-Guarded t c =
-    let z = comprehension-at c.args.table.now c.args.literal.now c.args.at c.requires.0 c.requires.1 in
-    let q = guarded-run c.args.table.now c.args.literal.now c.args.at z c.places_at-places.ensures c.in-Value.start c.append_path.result c.append_path.ensures.0 c.append_path.ensures.1 c.in-Guarded.is in (omega arith, (condition-sound c.args.table.now c.args.literal.now c.args.at z c.places_at-places.ensures, q.literal, q.guard-sound, q.list-sound, q.guard-smaller, q.list-smaller, item-small c.args.table.now c.args.literal.now c.args.at z c.places_at-places.ensures))
-
-pub comprehension::comprehend-shape_of-cells-in-No : goal.comprehension::comprehend-shape_of-cells-in-No
-comprehension::comprehend-shape_of-cells-in-No t c =
-    c.turns.auto.cells ∙ (c.eval-two.auto.cells ∙ c.eval-one.auto.cells)
-
-pub comprehension::comprehend-shape_of-text-in-No : goal.comprehension::comprehend-shape_of-text-in-No
-comprehension::comprehend-shape_of-text-in-No t c =
-    c.turns.auto.text ∙ (c.eval-two.auto.text ∙ c.eval-one.auto.text)
-
-pub comprehension::comprehend-returns-in-No : goal.comprehension::comprehend-returns-in-No
-comprehension::comprehend-returns-in-No t c =
-    let z = comprehension-at c.args.table.now c.args.literal.now c.args.at c.requires.0 c.requires.1 in
-    turns-are c.args.table.now c.args.literal.now c.args.limit c.args.at z c.first_operand-over.ensures c.end_at-init.ensures c.args.scope c.args.used (rooms c.args.literal.now c.args.binding_cells.now c.args.binding_text.now c.args.cells.now c.args.text.now) c.eval-one.ensures c.in-Value.is c.eval-two.ensures c.in-Value-two.is c.range_of.result c.range_of.ensures c.in-Over.is c.places_at-places.ensures c.append_path.result c.append_path.ensures.0 c.in-No.is c.turns.ensures
-
-pub comprehension::comprehend-shape_of-cells-in-Plain : goal.comprehension::comprehend-shape_of-cells-in-Plain
-comprehension::comprehend-shape_of-cells-in-Plain t c =
-    c.appends.auto.cells ∙ (c.eval-two.auto.cells ∙ c.eval-one.auto.cells)
-
-pub comprehension::comprehend-shape_of-text-in-Plain : goal.comprehension::comprehend-shape_of-text-in-Plain
-comprehension::comprehend-shape_of-text-in-Plain t c =
-    c.appends.auto.text ∙ (c.eval-two.auto.text ∙ c.eval-one.auto.text)
-
-pub comprehension::comprehend-returns-in-Plain : goal.comprehension::comprehend-returns-in-Plain
-comprehension::comprehend-returns-in-Plain t c =
-    let z = comprehension-at c.args.table.now c.args.literal.now c.args.at c.requires.0 c.requires.1 in
-    plain-are c.args.table.now c.args.literal.now c.args.limit c.args.at z c.first_operand-over.ensures c.end_at-init.ensures c.args.scope c.args.used (rooms c.args.literal.now c.args.binding_cells.now c.args.binding_text.now c.args.cells.now c.args.text.now) c.eval-one.ensures c.in-Value.is c.eval-two.ensures c.in-Value-two.is c.range_of.result c.range_of.ensures c.in-Over.is c.places_at-places.ensures c.append_path.result c.append_path.ensures.0 c.in-Plain.is c.appends.ensures
-
-pub comprehension::comprehend-shape_of-cells-in-Guarded : goal.comprehension::comprehend-shape_of-cells-in-Guarded
-comprehension::comprehend-shape_of-cells-in-Guarded t c =
-    c.appends-in-Guarded.auto.cells ∙ (c.eval-two.auto.cells ∙ c.eval-one.auto.cells)
-
-pub comprehension::comprehend-shape_of-text-in-Guarded : goal.comprehension::comprehend-shape_of-text-in-Guarded
-comprehension::comprehend-shape_of-text-in-Guarded t c =
-    c.appends-in-Guarded.auto.text ∙ (c.eval-two.auto.text ∙ c.eval-one.auto.text)
-
-pub comprehension::comprehend-returns-in-Guarded : goal.comprehension::comprehend-returns-in-Guarded
-comprehension::comprehend-returns-in-Guarded t c =
-    let z = comprehension-at c.args.table.now c.args.literal.now c.args.at c.requires.0 c.requires.1 in
-    guarded-are c.args.table.now c.args.literal.now c.args.limit c.args.at z c.first_operand-over.ensures c.end_at-init.ensures c.args.scope c.args.used (rooms c.args.literal.now c.args.binding_cells.now c.args.binding_text.now c.args.cells.now c.args.text.now) c.eval-one.ensures c.in-Value.is c.eval-two.ensures c.in-Value-two.is c.range_of.result c.range_of.ensures c.in-Over.is c.places_at-places.ensures c.append_path.result c.append_path.ensures.0 c.in-Guarded.is c.appends-in-Guarded.ensures
 
 pub eval::eval-returns-then-limit-used : goal.eval::eval-returns-then-limit-used
 eval::eval-returns-then-limit-used t c =
@@ -648,42 +274,17 @@ eval::eval-returns-after-reach_at-2 t c =
     let x = fixed-at c.args.table.now c.args.literal.now c.args.at c.requires c.in-Operands.fixed (sym c.shape_at.ensures ∙ c.in-Operands.is) in
     after-step c.args.table.now c.args.literal.now c.args.limit c.args.at c.args.scope c.args.used (rooms c.args.literal.now c.args.binding_cells.now c.args.binding_text.now c.args.cells.now c.args.text.now) c.if-limit-used.false c.stepped-begun.ensures (joins-both c.args.table.now c.args.literal.now c.args.limit c.args.at c.args.scope c.stepped-begun.result (rooms c.args.literal.now c.args.binding_cells.now c.args.binding_text.now c.args.cells.now c.args.text.now) x (left-came t (goal.at.eval::eval-returns-after-reach_at-2 t c).Joined-reach_at).is c.after_first.ensures c.in-At-after_first.is (right-came t (goal.at.eval::eval-returns-after-reach_at-2 t c).Joined-reach_at-2).is c.after_both.ensures)
 
-pub comprehension::finish-is_leaf-requires : goal.comprehension::finish-is_leaf-requires
-comprehension::finish-is_leaf-requires t c =
-    (sound-stands c.args.table.now c.args.literal.now c.args.res c.requires).here
+-- ---- `list_parts`: the elements of a List, one after the other
 
-pub comprehension::finish-slot_at-slot-requires : goal.comprehension::finish-slot_at-slot-requires
-comprehension::finish-slot_at-slot-requires t c =
-    c.requires
-
-pub comprehension::finish-bounds-scope-slot : goal.comprehension::finish-bounds-scope-slot
-comprehension::finish-bounds-scope-slot t c = c.slot_at-slot.ensures.1
-
-pub comprehension::finish-leaf-requires : goal.comprehension::finish-leaf-requires
-comprehension::finish-leaf-requires t c =
-    (c.requires, leaf-here c.args.table.now c.args.res c.is_leaf.ensures c.if-is_leaf.true)
-
-pub comprehension::finish-eval-requires : goal.comprehension::finish-eval-requires
-comprehension::finish-eval-requires t c =
-    (omega arith, c.requires)
-
-pub comprehension::finish-returns-in-Held : goal.comprehension::finish-returns-in-Held
-comprehension::finish-returns-in-Held t c =
-    held-is (machine c.args.table.now c.args.limit (expr_of c.args.table.now c.args.literal.now c.args.res)) c.in-Held.is c.args.scope c.args.used (rooms c.args.literal.now c.args.binding_cells.now c.args.binding_text.now c.args.cells.now c.args.text.now)
-
-pub comprehension::finish-returns-then-is_leaf : goal.comprehension::finish-returns-then-is_leaf
-comprehension::finish-returns-then-is_leaf t c =
-    result-is (machine c.args.table.now c.args.limit (expr_of c.args.table.now c.args.literal.now c.args.res)) c.in-Nothing.is c.args.scope c.args.used (rooms c.args.literal.now c.args.binding_cells.now c.args.binding_text.now c.args.cells.now c.args.text.now) (leaf-does c.args.table.now c.args.literal.now c.args.limit c.args.res c.requires c.args.scope c.args.used (c.well_formed.1.1.1.1.1.1.1.1.0.1.1.0.1.0.1) (leaf-here c.args.table.now c.args.res c.is_leaf.ensures c.if-is_leaf.true) c.slot_at-slot.ensures c.leaf.ensures (rooms c.args.literal.now c.args.binding_cells.now c.args.binding_text.now c.args.cells.now c.args.text.now))
-
-pub comprehension::finish-shape_of-cells : goal.comprehension::finish-shape_of-cells
-comprehension::finish-shape_of-cells t c = c.eval.auto.cells
-
-pub comprehension::finish-shape_of-text : goal.comprehension::finish-shape_of-text
-comprehension::finish-shape_of-text t c = c.eval.auto.text
-
-pub comprehension::finish-returns-else-is_leaf : goal.comprehension::finish-returns-else-is_leaf
-comprehension::finish-returns-else-is_leaf t c =
-    result-is (machine c.args.table.now c.args.limit (expr_of c.args.table.now c.args.literal.now c.args.res)) c.in-Nothing.is c.args.scope c.args.used (rooms c.args.literal.now c.args.binding_cells.now c.args.binding_text.now c.args.cells.now c.args.text.now) c.eval.ensures
+pub element-came : (t : ℕ) (c : list_records::list_parts-Joined-is_leaf t) → Came c.args.table.now c.args.literal.now c.args.binding_cells.now c.args.binding_text.now c.args.limit (unmarked_at c.args.table.now c.loop-left.place) c.args.scope c.loop-left.spent c.loop-left.cells c.loop-left.text c.if-is_leaf.part c.if-is_leaf.cells c.if-is_leaf.text
+element-came t c =
+    let f = element-next c.args.table.now c.args.literal.now c.args.at c.loop-left.left c.loop-left.place c.loop-left-test.true c.loop-left.invariant.row in
+    let s = rw (sym c.unmarked-element.ensures) at f.part.sound in
+    let long = (c.well_formed.1.1.1.1.1.1.1.1.0.1.1.0.1.0.1) in
+    rw (← c.unmarked-element.ensures) (elim c.if-is_leaf.branch [
+      | list_records::list_parts-then-is_leaf w ↦ came-leaf c.args.table.now c.args.literal.now c.args.binding_cells.now c.args.binding_text.now c.args.limit c.unmarked-element.result c.args.scope c.loop-left.spent c.loop-left.cells c.loop-left.text s long (leaf-here c.args.table.now c.unmarked-element.result c.is_leaf.ensures w.if-is_leaf.true) w.slot_at-slot.ensures w.leaf-part.ensures w.cells-is w.text-is w.part-is
+      | list_records::list_parts-else-is_leaf w ↦ came-record c.args.table.now c.args.literal.now c.args.binding_cells.now c.args.binding_text.now c.args.limit c.unmarked-element.result c.args.scope c.loop-left.spent c.loop-left.cells c.loop-left.text w.eval-part.ensures w.eval-part.auto.cells w.eval-part.auto.text w.cells-is w.text-is w.part-is
+    ])
 
 pub list_records::list_parts-first_operand-place-requires : goal.list_records::list_parts-first_operand-place-requires
 list_records::list_parts-first_operand-place-requires t c =
@@ -761,6 +362,28 @@ list_records::list_parts-shape_of-text t c = c.loop-left.invariant.keptx
 pub list_records::list_parts-returns : goal.list_records::list_parts-returns
 list_records::list_parts-returns t c =
     ap (λ o. (o, rooms c.args.literal.now c.args.binding_cells.now c.args.binding_text.now c.loop-left.cells c.loop-left.text)) c.whole_list.ensures ∙ (sym (no-element c.args.table.now c.args.literal.now c.args.limit c.args.first c.args.scope c.loop-left.left c.loop-left.place (omega arith) c.loop-left.ready c.loop-left.spent (rooms c.args.literal.now c.args.binding_cells.now c.args.binding_text.now c.loop-left.cells c.loop-left.text)) ∙ c.loop-left.invariant.same)
+
+-- ---- `map_parts`: the entries of a Map, one after the other
+
+pub key-came : (t : ℕ) (c : map_records::map_parts-Joined-is_leaf t) → Came c.args.table.now c.args.literal.now c.args.binding_cells.now c.args.binding_text.now c.args.limit c.loop-left.place c.args.scope c.loop-left.spent c.loop-left.cells c.loop-left.text c.if-is_leaf.one c.if-is_leaf.cells c.if-is_leaf.text
+key-came t c =
+    let f = entry_next c.args.table.now c.args.literal.now c.args.at c.loop-left.left c.loop-left.place c.loop-left-test.true c.loop-left.invariant.row in
+    let long = (c.well_formed.1.1.1.1.1.1.1.1.0.1.1.0.1.0.1) in
+    elim c.if-is_leaf.branch [
+      | map_records::map_parts-then-is_leaf w ↦ came-leaf c.args.table.now c.args.literal.now c.args.binding_cells.now c.args.binding_text.now c.args.limit c.loop-left.place c.args.scope c.loop-left.spent c.loop-left.cells c.loop-left.text f.key long (leaf-here c.args.table.now c.loop-left.place c.is_leaf.ensures w.if-is_leaf.true) w.slot_at-slot.ensures w.leaf-one.ensures w.cells-is w.text-is w.one-is
+      | map_records::map_parts-else-is_leaf w ↦ came-record c.args.table.now c.args.literal.now c.args.binding_cells.now c.args.binding_text.now c.args.limit c.loop-left.place c.args.scope c.loop-left.spent c.loop-left.cells c.loop-left.text w.eval-one.ensures w.eval-one.auto.cells w.eval-one.auto.text w.cells-is w.text-is w.one-is
+    ]
+
+pub value-came : (t : ℕ) (c : map_records::map_parts-Joined-is_leaf-2 t) → Came c.args.table.now c.args.literal.now c.args.binding_cells.now c.args.binding_text.now c.args.limit (unmarked_at c.args.table.now (after c.args.table.now c.loop-left.place)) c.args.scope c.in-Is.going c.if-is_leaf.cells c.if-is_leaf.text c.if-is_leaf-2.part c.if-is_leaf-2.cells c.if-is_leaf-2.text
+value-came t c =
+    let f = entry_next c.args.table.now c.args.literal.now c.args.at c.loop-left.left c.loop-left.place c.loop-left-test.true c.loop-left.invariant.row in
+    let u2 : c.unmarked-element.result ≡ unmarked_at c.args.table.now (after c.args.table.now c.loop-left.place) = c.unmarked-element.ensures ∙ ap (λ (n : ℕ). unmarked_at c.args.table.now n) c.end_at-second.ensures in
+    let s = rw (sym u2) at f.part.sound in
+    let long = (c.well_formed.1.1.1.1.1.1.1.1.0.1.1.0.1.0.1) in
+    rw (← u2) (elim c.if-is_leaf-2.branch [
+      | map_records::map_parts-then-is_leaf-2 w ↦ came-leaf c.args.table.now c.args.literal.now c.args.binding_cells.now c.args.binding_text.now c.args.limit c.unmarked-element.result c.args.scope c.in-Is.going c.if-is_leaf.cells c.if-is_leaf.text s long (leaf-here c.args.table.now c.unmarked-element.result c.is_leaf-in-Is.ensures w.if-is_leaf-2.true) w.slot_at-slot-then-is_leaf-2.ensures w.leaf-part.ensures w.cells-is w.text-is w.part-is
+      | map_records::map_parts-else-is_leaf-2 w ↦ came-record c.args.table.now c.args.literal.now c.args.binding_cells.now c.args.binding_text.now c.args.limit c.unmarked-element.result c.args.scope c.in-Is.going c.if-is_leaf.cells c.if-is_leaf.text w.eval-part.ensures w.eval-part.auto.cells w.eval-part.auto.text w.cells-is w.text-is w.part-is
+    ])
 
 pub map_records::map_parts-first_operand-place-requires : goal.map_records::map_parts-first_operand-place-requires
 map_records::map_parts-first_operand-place-requires t c =
@@ -898,6 +521,145 @@ map_records::map_parts-shape_of-text t c = c.loop-left.invariant.keptx
 pub map_records::map_parts-returns : goal.map_records::map_parts-returns
 map_records::map_parts-returns t c =
     ap (λ o. (o, rooms c.args.literal.now c.args.binding_cells.now c.args.binding_text.now c.loop-left.cells c.loop-left.text)) c.whole_map.ensures ∙ (sym (no-entry c.args.table.now c.args.literal.now c.args.limit c.args.at c.args.first c.args.scope c.loop-left.left c.loop-left.place (omega arith) c.loop-left.ready c.loop-left.spent (rooms c.args.literal.now c.args.binding_cells.now c.args.binding_text.now c.loop-left.cells c.loop-left.text)) ∙ c.loop-left.invariant.same)
+
+-- ---- `comprehend`: where a comprehension begins, its range, and which path it takes
+
+pub comprehension::comprehend-first_operand-over-requires : goal.comprehension::comprehend-first_operand-over-requires
+comprehension::comprehend-first_operand-over-requires t c =
+    let s = sound-stands c.args.table.now c.args.literal.now c.args.at c.requires.0 in (s.here, s.known)
+
+pub comprehension::comprehend-end_at-init-requires : goal.comprehension::comprehend-end_at-init-requires
+comprehension::comprehend-end_at-init-requires t c =
+    let z = comprehension-at c.args.table.now c.args.literal.now c.args.at c.requires.0 c.requires.1 in
+    let f : c.first_operand-over.result ≡ c.args.at + 5 = c.first_operand-over.ensures ∙ z.first in rw f (sound-stands c.args.table.now c.args.literal.now (c.args.at + 5) z.range).start
+
+pub comprehension::comprehend-eval-one-requires : goal.comprehension::comprehend-eval-one-requires
+comprehension::comprehend-eval-one-requires t c =
+    let z = comprehension-at c.args.table.now c.args.literal.now c.args.at c.requires.0 c.requires.1 in
+    let f : c.first_operand-over.result ≡ c.args.at + 5 = c.first_operand-over.ensures ∙ z.first in
+    let g : c.end_at-init.result ≡ after c.args.table.now (c.args.at + 5) = c.end_at-init.ensures ∙ ap (λ (n : ℕ). after c.args.table.now n) f in rw g (omega (arith, z.extents), z.init)
+
+pub comprehension::comprehend-shape_of-cells-in_default : goal.comprehension::comprehend-shape_of-cells-in_default
+comprehension::comprehend-shape_of-cells-in_default t c = c.eval-one.auto.cells
+
+pub comprehension::comprehend-shape_of-text-in_default : goal.comprehension::comprehend-shape_of-text-in_default
+comprehension::comprehend-shape_of-text-in_default t c = c.eval-one.auto.text
+
+pub comprehension::comprehend-returns-in_default : goal.comprehension::comprehend-returns-in_default
+comprehension::comprehend-returns-in_default t c =
+    let z = comprehension-at c.args.table.now c.args.literal.now c.args.at c.requires.0 c.requires.1 in
+    init-stops c.args.table.now c.args.literal.now c.args.limit c.args.at z c.first_operand-over.ensures c.end_at-init.ensures c.args.scope c.args.used (rooms c.args.literal.now c.args.binding_cells.now c.args.binding_text.now c.args.cells.now c.args.text.now) c.eval-one.ensures (opened c.in_default.in_default-own.keys2)
+
+pub comprehension::comprehend-eval-two-requires : goal.comprehension::comprehend-eval-two-requires
+comprehension::comprehend-eval-two-requires t c =
+    let z = comprehension-at c.args.table.now c.args.literal.now c.args.at c.requires.0 c.requires.1 in
+    let f : c.first_operand-over.result ≡ c.args.at + 5 = c.first_operand-over.ensures ∙ z.first in rw f (omega (arith, z.extents), z.range)
+
+pub comprehension::comprehend-shape_of-cells-in_default-two : goal.comprehension::comprehend-shape_of-cells-in_default-two
+comprehension::comprehend-shape_of-cells-in_default-two t c =
+    c.eval-two.auto.cells ∙ c.eval-one.auto.cells
+
+pub comprehension::comprehend-shape_of-text-in_default-two : goal.comprehension::comprehend-shape_of-text-in_default-two
+comprehension::comprehend-shape_of-text-in_default-two t c =
+    c.eval-two.auto.text ∙ c.eval-one.auto.text
+
+pub comprehension::comprehend-returns-in_default-two : goal.comprehension::comprehend-returns-in_default-two
+comprehension::comprehend-returns-in_default-two t c =
+    let z = comprehension-at c.args.table.now c.args.literal.now c.args.at c.requires.0 c.requires.1 in
+    range-stops c.args.table.now c.args.literal.now c.args.limit c.args.at z c.first_operand-over.ensures c.end_at-init.ensures c.args.scope c.args.used (rooms c.args.literal.now c.args.binding_cells.now c.args.binding_text.now c.args.cells.now c.args.text.now) c.eval-one.ensures c.in-Value.is c.eval-two.ensures (opened c.in_default-two.in_default-two-own.keys2)
+
+pub comprehension::comprehend-shape_of-cells-in_default-range_of : goal.comprehension::comprehend-shape_of-cells-in_default-range_of
+comprehension::comprehend-shape_of-cells-in_default-range_of t c =
+    c.eval-two.auto.cells ∙ c.eval-one.auto.cells
+
+pub comprehension::comprehend-shape_of-text-in_default-range_of : goal.comprehension::comprehend-shape_of-text-in_default-range_of
+comprehension::comprehend-shape_of-text-in_default-range_of t c =
+    c.eval-two.auto.text ∙ c.eval-one.auto.text
+
+pub comprehension::comprehend-returns-in_default-range_of : goal.comprehension::comprehend-returns-in_default-range_of
+comprehension::comprehend-returns-in_default-range_of t c =
+    let z = comprehension-at c.args.table.now c.args.literal.now c.args.at c.requires.0 c.requires.1 in
+    no-range c.args.table.now c.args.literal.now c.args.limit c.args.at z c.first_operand-over.ensures c.end_at-init.ensures c.args.scope c.args.used (rooms c.args.literal.now c.args.binding_cells.now c.args.binding_text.now c.args.cells.now c.args.text.now) c.eval-one.ensures c.in-Value.is c.eval-two.ensures c.in-Value-two.is c.range_of.result c.range_of.ensures c.in_default-range_of.is
+
+pub comprehension::comprehend-places_at-places-requires : goal.comprehension::comprehend-places_at-places-requires
+comprehension::comprehend-places_at-places-requires t c =
+    let z = comprehension-at c.args.table.now c.args.literal.now c.args.at c.requires.0 c.requires.1 in
+    let f : c.first_operand-over.result ≡ c.args.at + 5 = c.first_operand-over.ensures ∙ z.first in
+    let g : c.end_at-init.result ≡ after c.args.table.now (c.args.at + 5) = c.end_at-init.ensures ∙ ap (λ (n : ℕ). after c.args.table.now n) f in (c.requires.0, c.requires.1, g)
+
+pub comprehension::comprehend-append_path-requires : goal.comprehension::comprehend-append_path-requires
+comprehension::comprehend-append_path-requires t c =
+    let z = comprehension-at c.args.table.now c.args.literal.now c.args.at c.requires.0 c.requires.1 in (condition-sound c.args.table.now c.args.literal.now c.args.at z c.places_at-places.ensures, step-sound c.args.table.now c.args.literal.now c.args.at z c.places_at-places.ensures, result-sound c.args.table.now c.args.literal.now c.args.at z c.places_at-places.ensures)
+
+pub comprehension::comprehend-turns-requires : goal.comprehension::comprehend-turns-requires
+comprehension::comprehend-turns-requires t c =
+    let z = comprehension-at c.args.table.now c.args.literal.now c.args.at c.requires.0 c.requires.1 in (let q = operands-smaller c.args.table.now c.args.literal.now c.args.at z c.places_at-places.ensures in omega (arith, q), (condition-sound c.args.table.now c.args.literal.now c.args.at z c.places_at-places.ensures, step-sound c.args.table.now c.args.literal.now c.args.at z c.places_at-places.ensures, result-sound c.args.table.now c.args.literal.now c.args.at z c.places_at-places.ensures, accumulator-small c.args.table.now c.args.literal.now c.args.at z c.places_at-places.ensures, item-small c.args.table.now c.args.literal.now c.args.at z c.places_at-places.ensures))
+
+pub comprehension::comprehend-appends-requires : goal.comprehension::comprehend-appends-requires
+comprehension::comprehend-appends-requires t c =
+    let z = comprehension-at c.args.table.now c.args.literal.now c.args.at c.requires.0 c.requires.1 in
+    let q = plain-run c.args.table.now c.args.literal.now c.args.at z c.places_at-places.ensures c.in-Value.start c.append_path.result c.append_path.ensures.0 c.append_path.ensures.1 c.in-Plain.is in (omega arith, (condition-sound c.args.table.now c.args.literal.now c.args.at z c.places_at-places.ensures, q.literal, q.guard-sound, q.list-sound, q.guard-smaller, q.list-smaller, item-small c.args.table.now c.args.literal.now c.args.at z c.places_at-places.ensures))
+
+pub comprehension::comprehend-appends-requires-in-Guarded : goal.comprehension::comprehend-appends-requires-in-Guarded
+comprehension::comprehend-appends-requires-in-Guarded t c =
+    let z = comprehension-at c.args.table.now c.args.literal.now c.args.at c.requires.0 c.requires.1 in
+    let q = guarded-run c.args.table.now c.args.literal.now c.args.at z c.places_at-places.ensures c.in-Value.start c.append_path.result c.append_path.ensures.0 c.append_path.ensures.1 c.in-Guarded.is in (omega arith, (condition-sound c.args.table.now c.args.literal.now c.args.at z c.places_at-places.ensures, q.literal, q.guard-sound, q.list-sound, q.guard-smaller, q.list-smaller, item-small c.args.table.now c.args.literal.now c.args.at z c.places_at-places.ensures))
+
+pub comprehension::comprehend-shape_of-cells-in-No : goal.comprehension::comprehend-shape_of-cells-in-No
+comprehension::comprehend-shape_of-cells-in-No t c =
+    c.turns.auto.cells ∙ (c.eval-two.auto.cells ∙ c.eval-one.auto.cells)
+
+pub comprehension::comprehend-shape_of-text-in-No : goal.comprehension::comprehend-shape_of-text-in-No
+comprehension::comprehend-shape_of-text-in-No t c =
+    c.turns.auto.text ∙ (c.eval-two.auto.text ∙ c.eval-one.auto.text)
+
+pub comprehension::comprehend-returns-in-No : goal.comprehension::comprehend-returns-in-No
+comprehension::comprehend-returns-in-No t c =
+    let z = comprehension-at c.args.table.now c.args.literal.now c.args.at c.requires.0 c.requires.1 in
+    turns-are c.args.table.now c.args.literal.now c.args.limit c.args.at z c.first_operand-over.ensures c.end_at-init.ensures c.args.scope c.args.used (rooms c.args.literal.now c.args.binding_cells.now c.args.binding_text.now c.args.cells.now c.args.text.now) c.eval-one.ensures c.in-Value.is c.eval-two.ensures c.in-Value-two.is c.range_of.result c.range_of.ensures c.in-Over.is c.places_at-places.ensures c.append_path.result c.append_path.ensures.0 c.in-No.is c.turns.ensures
+
+pub comprehension::comprehend-shape_of-cells-in-Plain : goal.comprehension::comprehend-shape_of-cells-in-Plain
+comprehension::comprehend-shape_of-cells-in-Plain t c =
+    c.appends.auto.cells ∙ (c.eval-two.auto.cells ∙ c.eval-one.auto.cells)
+
+pub comprehension::comprehend-shape_of-text-in-Plain : goal.comprehension::comprehend-shape_of-text-in-Plain
+comprehension::comprehend-shape_of-text-in-Plain t c =
+    c.appends.auto.text ∙ (c.eval-two.auto.text ∙ c.eval-one.auto.text)
+
+pub comprehension::comprehend-returns-in-Plain : goal.comprehension::comprehend-returns-in-Plain
+comprehension::comprehend-returns-in-Plain t c =
+    let z = comprehension-at c.args.table.now c.args.literal.now c.args.at c.requires.0 c.requires.1 in
+    plain-are c.args.table.now c.args.literal.now c.args.limit c.args.at z c.first_operand-over.ensures c.end_at-init.ensures c.args.scope c.args.used (rooms c.args.literal.now c.args.binding_cells.now c.args.binding_text.now c.args.cells.now c.args.text.now) c.eval-one.ensures c.in-Value.is c.eval-two.ensures c.in-Value-two.is c.range_of.result c.range_of.ensures c.in-Over.is c.places_at-places.ensures c.append_path.result c.append_path.ensures.0 c.in-Plain.is c.appends.ensures
+
+pub comprehension::comprehend-shape_of-cells-in-Guarded : goal.comprehension::comprehend-shape_of-cells-in-Guarded
+comprehension::comprehend-shape_of-cells-in-Guarded t c =
+    c.appends-in-Guarded.auto.cells ∙ (c.eval-two.auto.cells ∙ c.eval-one.auto.cells)
+
+pub comprehension::comprehend-shape_of-text-in-Guarded : goal.comprehension::comprehend-shape_of-text-in-Guarded
+comprehension::comprehend-shape_of-text-in-Guarded t c =
+    c.appends-in-Guarded.auto.text ∙ (c.eval-two.auto.text ∙ c.eval-one.auto.text)
+
+pub comprehension::comprehend-returns-in-Guarded : goal.comprehension::comprehend-returns-in-Guarded
+comprehension::comprehend-returns-in-Guarded t c =
+    let z = comprehension-at c.args.table.now c.args.literal.now c.args.at c.requires.0 c.requires.1 in
+    guarded-are c.args.table.now c.args.literal.now c.args.limit c.args.at z c.first_operand-over.ensures c.end_at-init.ensures c.args.scope c.args.used (rooms c.args.literal.now c.args.binding_cells.now c.args.binding_text.now c.args.cells.now c.args.text.now) c.eval-one.ensures c.in-Value.is c.eval-two.ensures c.in-Value-two.is c.range_of.result c.range_of.ensures c.in-Over.is c.places_at-places.ensures c.append_path.result c.append_path.ensures.0 c.in-Guarded.is c.appends-in-Guarded.ensures
+
+-- ---- `turns`: the turns of a comprehension
+
+pub condition-came : (t : ℕ) (c : comprehension::turns-Joined-reads t) → Came c.args.table.now c.args.literal.now c.args.binding_cells.now c.args.binding_text.now c.args.limit c.args.places.condition c.loop-left.inner c.loop-left.spent c.loop-left.cells c.loop-left.text c.match-reads.test c.match-reads.cells c.match-reads.text
+condition-came t c =
+    elim c.match-reads.branch [
+      | comprehension::turns-in-Slots w ↦ came-slots c.args.table.now c.args.literal.now c.args.binding_cells.now c.args.binding_text.now c.args.limit c.args.places.condition c.loop-left.inner c.loop-left.spent c.loop-left.cells c.loop-left.text c.loop-left.invariant.long c.reach_at-condition_slots.ensures w.in-Slots.is w.reach-test.ensures w.reach-test.auto.cells w.reach-test.auto.text w.cells-is w.text-is w.test-is
+      | comprehension::turns-in-No w ↦ came-record c.args.table.now c.args.literal.now c.args.binding_cells.now c.args.binding_text.now c.args.limit c.args.places.condition c.loop-left.inner c.loop-left.spent c.loop-left.cells c.loop-left.text w.eval-test.ensures w.eval-test.auto.cells w.eval-test.auto.text w.cells-is w.text-is w.test-is
+    ]
+
+pub step-came : (t : ℕ) (c : comprehension::turns-Joined-reads-2 t) → Came c.args.table.now c.args.literal.now c.args.binding_cells.now c.args.binding_text.now c.args.limit c.args.places.step (stored c.loop-left.inner c.args.places.item c.cell_at.result) c.in-Holds.more c.match-reads.cells c.match-reads.text c.match-reads-2.gives c.match-reads-2.cells c.match-reads-2.text
+step-came t c =
+    let long = (length-set c.loop-left.inner.slots c.args.places.item (record { value = c.cell_at.result }) ∙ c.loop-left.invariant.long) in
+    elim c.match-reads-2.branch [
+      | comprehension::turns-in-Slots-reads w ↦ came-slots c.args.table.now c.args.literal.now c.args.binding_cells.now c.args.binding_text.now c.args.limit c.args.places.step (stored c.loop-left.inner c.args.places.item c.cell_at.result) c.in-Holds.more c.match-reads.cells c.match-reads.text long c.reach_at-step_slots.ensures w.in-Slots-reads.is w.reach-gives.ensures w.reach-gives.auto.cells w.reach-gives.auto.text w.cells-is w.text-is w.gives-is
+      | comprehension::turns-in-No-reads w ↦ came-record c.args.table.now c.args.literal.now c.args.binding_cells.now c.args.binding_text.now c.args.limit c.args.places.step (stored c.loop-left.inner c.args.places.item c.cell_at.result) c.in-Holds.more c.match-reads.cells c.match-reads.text w.eval-gives.ensures w.eval-gives.auto.cells w.eval-gives.auto.text w.cells-is w.text-is w.gives-is
+    ]
 
 pub comprehension::turns-folds_at-folds-requires : goal.comprehension::turns-folds_at-folds-requires
 comprehension::turns-folds_at-folds-requires t c = c.requires.1
@@ -1072,3 +834,256 @@ comprehension::turns-shape_of-text t c =
 pub comprehension::turns-returns : goal.comprehension::turns-returns
 comprehension::turns-returns t c =
     no-turn (loop_at c.args.table.now c.args.literal.now c.args.limit c.args.at c.args.places) c.args.space c.args.each c.loop-left.left c.loop-left.cell (omega (arith, c.loop-left-test.false)) c.loop-left.held c.loop-left.inner c.loop-left.spent (rooms c.args.literal.now c.args.binding_cells.now c.args.binding_text.now c.loop-left.cells c.loop-left.text) c.finish.ensures ∙ c.loop-left.invariant.same
+
+-- ---- `finish`: the end of a comprehension
+
+pub comprehension::finish-is_leaf-requires : goal.comprehension::finish-is_leaf-requires
+comprehension::finish-is_leaf-requires t c =
+    (sound-stands c.args.table.now c.args.literal.now c.args.res c.requires).here
+
+pub comprehension::finish-slot_at-slot-requires : goal.comprehension::finish-slot_at-slot-requires
+comprehension::finish-slot_at-slot-requires t c =
+    c.requires
+
+pub comprehension::finish-bounds-scope-slot : goal.comprehension::finish-bounds-scope-slot
+comprehension::finish-bounds-scope-slot t c = c.slot_at-slot.ensures.1
+
+pub comprehension::finish-leaf-requires : goal.comprehension::finish-leaf-requires
+comprehension::finish-leaf-requires t c =
+    (c.requires, leaf-here c.args.table.now c.args.res c.is_leaf.ensures c.if-is_leaf.true)
+
+pub comprehension::finish-eval-requires : goal.comprehension::finish-eval-requires
+comprehension::finish-eval-requires t c =
+    (omega arith, c.requires)
+
+pub comprehension::finish-returns-in-Held : goal.comprehension::finish-returns-in-Held
+comprehension::finish-returns-in-Held t c =
+    held-is (machine c.args.table.now c.args.limit (expr_of c.args.table.now c.args.literal.now c.args.res)) c.in-Held.is c.args.scope c.args.used (rooms c.args.literal.now c.args.binding_cells.now c.args.binding_text.now c.args.cells.now c.args.text.now)
+
+pub comprehension::finish-returns-then-is_leaf : goal.comprehension::finish-returns-then-is_leaf
+comprehension::finish-returns-then-is_leaf t c =
+    result-is (machine c.args.table.now c.args.limit (expr_of c.args.table.now c.args.literal.now c.args.res)) c.in-Nothing.is c.args.scope c.args.used (rooms c.args.literal.now c.args.binding_cells.now c.args.binding_text.now c.args.cells.now c.args.text.now) (leaf-does c.args.table.now c.args.literal.now c.args.limit c.args.res c.requires c.args.scope c.args.used (c.well_formed.1.1.1.1.1.1.1.1.0.1.1.0.1.0.1) (leaf-here c.args.table.now c.args.res c.is_leaf.ensures c.if-is_leaf.true) c.slot_at-slot.ensures c.leaf.ensures (rooms c.args.literal.now c.args.binding_cells.now c.args.binding_text.now c.args.cells.now c.args.text.now))
+
+pub comprehension::finish-shape_of-cells : goal.comprehension::finish-shape_of-cells
+comprehension::finish-shape_of-cells t c = c.eval.auto.cells
+
+pub comprehension::finish-shape_of-text : goal.comprehension::finish-shape_of-text
+comprehension::finish-shape_of-text t c = c.eval.auto.text
+
+pub comprehension::finish-returns-else-is_leaf : goal.comprehension::finish-returns-else-is_leaf
+comprehension::finish-returns-else-is_leaf t c =
+    result-is (machine c.args.table.now c.args.limit (expr_of c.args.table.now c.args.literal.now c.args.res)) c.in-Nothing.is c.args.scope c.args.used (rooms c.args.literal.now c.args.binding_cells.now c.args.binding_text.now c.args.cells.now c.args.text.now) c.eval.ensures
+
+-- ---- `appends`: the turns of the append path
+
+pub guard-came : (t : ℕ) (c : appending::appends-Joined-guarded t) → Guarded c.args.table.now c.args.literal.now c.args.binding_cells.now c.args.binding_text.now c.args.limit c.args.at c.args.guarded c.args.guard (stored c.loop-left.inner c.args.places.item c.cell_at.result) c.in-Holds.more c.loop-left.cells c.loop-left.text c.if-guarded.passes c.if-guarded.cells c.if-guarded.text
+guard-came t c =
+    let long = (length-set c.loop-left.inner.slots c.args.places.item (record { value = c.cell_at.result })) ∙ c.loop-left.invariant.long in
+    elim c.if-guarded.branch [
+      | appending::appends-then-guarded w ↦ came-guarded c.args.table.now c.args.literal.now c.args.binding_cells.now c.args.binding_text.now c.args.limit c.args.at c.args.guarded c.args.guard (stored c.loop-left.inner c.args.places.item c.cell_at.result) c.in-Holds.more c.loop-left.cells c.loop-left.text w.if-guarded.true (elim w.match-reads.branch [
+        | appending::appends-in-Slots w' ↦ came-slots c.args.table.now c.args.literal.now c.args.binding_cells.now c.args.binding_text.now c.args.limit c.args.guard (stored c.loop-left.inner c.args.places.item c.cell_at.result) c.in-Holds.more c.loop-left.cells c.loop-left.text long c.reach_at-guard_slots.ensures w'.in-Slots.is w'.reach-test.ensures w'.reach-test.auto.cells w'.reach-test.auto.text w'.cells-is w'.text-is w'.test-is
+        | appending::appends-in-No w' ↦ came-record c.args.table.now c.args.literal.now c.args.binding_cells.now c.args.binding_text.now c.args.limit c.args.guard (stored c.loop-left.inner c.args.places.item c.cell_at.result) c.in-Holds.more c.loop-left.cells c.loop-left.text w'.eval-test.ensures w'.eval-test.auto.cells w'.eval-test.auto.text w'.cells-is w'.text-is w'.test-is
+      ]) w.asks-passes.ensures w.cells-is w.text-is w.passes-is
+      | appending::appends-else-guarded w ↦ came-unguarded c.args.table.now c.args.literal.now c.args.binding_cells.now c.args.binding_text.now c.args.limit c.args.at c.args.guarded c.args.guard (stored c.loop-left.inner c.args.places.item c.cell_at.result) c.in-Holds.more c.loop-left.cells c.loop-left.text w.if-guarded.false w.cells-is w.text-is w.passes-is
+    ]
+
+pub items-came : (t : ℕ) (c : appending::appends-Joined-reads-2 t) → Came c.args.table.now c.args.literal.now c.args.binding_cells.now c.args.binding_text.now c.args.limit c.args.list (stored c.loop-left.inner c.args.places.item c.cell_at.result) c.in-Holds-passes.after c.if-guarded.cells c.if-guarded.text c.match-reads-2.items c.match-reads-2.cells c.match-reads-2.text
+items-came t c =
+    let long = (length-set c.loop-left.inner.slots c.args.places.item (record { value = c.cell_at.result })) ∙ c.loop-left.invariant.long in
+    elim c.match-reads-2.branch [
+      | appending::appends-in-Slots-reads w ↦ came-slots c.args.table.now c.args.literal.now c.args.binding_cells.now c.args.binding_text.now c.args.limit c.args.list (stored c.loop-left.inner c.args.places.item c.cell_at.result) c.in-Holds-passes.after c.if-guarded.cells c.if-guarded.text long c.single_at-list_slots.ensures w.in-Slots-reads.is w.single-items.ensures w.single-items.auto.cells w.single-items.auto.text w.cells-is w.text-is w.items-is
+      | appending::appends-in-No-reads w ↦ came-record c.args.table.now c.args.literal.now c.args.binding_cells.now c.args.binding_text.now c.args.limit c.args.list (stored c.loop-left.inner c.args.places.item c.cell_at.result) c.in-Holds-passes.after c.if-guarded.cells c.if-guarded.text w.eval-items.ensures w.eval-items.auto.cells w.eval-items.auto.text w.cells-is w.text-is w.items-is
+    ]
+
+pub appending::appends-loop-left-init : goal.appending::appends-loop-left-init
+appending::appends-loop-left-init t c =
+    appends-begin c.args.table.now c.args.literal.now c.args.binding_cells.now c.args.binding_text.now c.args.cells.now c.args.text.now c.args.limit c.args.at c.args.guarded c.args.guard c.args.list c.args.space c.args.first c.args.count c.args.each c.args.places.item c.args.places.condition c.args.scope c.args.used (c.well_formed.1.1.1.1.1.1.1.1.0.1.1.0.1.0.1) c.ranges.first.fits c.ranges.count.fits
+
+pub appending::appends-leaf-test-requires : goal.appending::appends-leaf-test-requires
+appending::appends-leaf-test-requires t c =
+    (c.requires.0, omega (arith, c.requires.1))
+
+pub appending::appends-shape_of-cells-in-Ends : goal.appending::appends-shape_of-cells-in-Ends
+appending::appends-shape_of-cells-in-Ends t c = c.loop-left.invariant.kept
+
+pub appending::appends-shape_of-text-in-Ends : goal.appending::appends-shape_of-text-in-Ends
+appending::appends-shape_of-text-in-Ends t c = c.loop-left.invariant.keptx
+
+pub appending::appends-returns-in-Ends : goal.appending::appends-returns-in-Ends
+appending::appends-returns-in-Ends t c =
+    append-ends (loop_at c.args.table.now c.args.literal.now c.args.limit c.args.at c.args.places) (append_at c.args.table.now c.args.literal.now c.args.limit c.args.guarded c.args.guard c.args.list) c.args.space c.args.each c.loop-left.left c.loop-left.cell c.loop-left-test.true (gathered_in c.loop-left.firsts c.loop-left.counts c.loop-left.collected) c.loop-left.inner c.loop-left.spent (rooms c.args.literal.now c.args.binding_cells.now c.args.binding_text.now c.loop-left.cells c.loop-left.text) (literal-does c.args.table.now c.args.literal.now c.args.limit c.args.places.condition c.requires.0 c.requires.1 absent.value c.loop-left.spent c.leaf-test.ensures c.loop-left.inner (rooms c.args.literal.now c.args.binding_cells.now c.args.binding_text.now c.loop-left.cells c.loop-left.text)) c.asks.ensures c.in-Ends.is ∙ c.loop-left.invariant.same c.args.places refl refl
+
+pub appending::appends-loop-left-preserved-in-Fails : goal.appending::appends-loop-left-preserved-in-Fails
+appending::appends-loop-left-preserved-in-Fails t c =
+    appends-over c.args.table.now c.args.literal.now c.args.binding_cells.now c.args.binding_text.now c.args.cells.now c.args.text.now c.args.limit c.args.at c.args.guarded c.args.guard c.args.list c.args.space c.args.first c.args.count c.args.each c.args.places.item c.args.places.condition c.args.scope c.args.used c.loop-left.invariant (none-again c.args.table.now c.args.literal.now c.args.limit c.args.at c.args.guarded c.args.guard c.args.list c.args.space c.args.each c.args.places.item c.args.places.condition c.loop-left.left c.loop-left.cell c.loop-left-test.true (gathered_in c.loop-left.firsts c.loop-left.counts c.loop-left.collected) c.loop-left.inner c.loop-left.spent (rooms c.args.literal.now c.args.binding_cells.now c.args.binding_text.now c.loop-left.cells c.loop-left.text) (literal-does c.args.table.now c.args.literal.now c.args.limit c.args.places.condition c.requires.0 c.requires.1 absent.value c.loop-left.spent c.leaf-test.ensures c.loop-left.inner (rooms c.args.literal.now c.args.binding_cells.now c.args.binding_text.now c.loop-left.cells c.loop-left.text)) c.asks.ensures c.in-Fails.is)
+
+pub appending::appends-bounds-inner-item : goal.appending::appends-bounds-inner-item
+appending::appends-bounds-inner-item t c =
+    c.requires.6
+
+pub appending::appends-overflow_add-cell : goal.appending::appends-overflow_add-cell
+appending::appends-overflow_add-cell t c =
+    omega (arith, c.loop-left.invariant.below, c.loop-left-test.true, c.ranges.each)
+
+pub appending::appends-shape_of-cells-in-Ends-passes : goal.appending::appends-shape_of-cells-in-Ends-passes
+appending::appends-shape_of-cells-in-Ends-passes t c =
+    (guard-came t (goal.at.appending::appends-shape_of-cells-in-Ends-passes t c).Joined-guarded).kept ∙ c.loop-left.invariant.kept
+
+pub appending::appends-shape_of-text-in-Ends-passes : goal.appending::appends-shape_of-text-in-Ends-passes
+appending::appends-shape_of-text-in-Ends-passes t c =
+    (guard-came t (goal.at.appending::appends-shape_of-text-in-Ends-passes t c).Joined-guarded).keptx ∙ c.loop-left.invariant.keptx
+
+pub appending::appends-returns-in-Ends-passes : goal.appending::appends-returns-in-Ends-passes
+appending::appends-returns-in-Ends-passes t c =
+    guard-ends (loop_at c.args.table.now c.args.literal.now c.args.limit c.args.at c.args.places) (append_at c.args.table.now c.args.literal.now c.args.limit c.args.guarded c.args.guard c.args.list) c.args.space c.args.each c.loop-left.left c.loop-left.cell c.loop-left-test.true (gathered_in c.loop-left.firsts c.loop-left.counts c.loop-left.collected) c.loop-left.inner c.loop-left.spent (rooms c.args.literal.now c.args.binding_cells.now c.args.binding_text.now c.loop-left.cells c.loop-left.text) (literal-does c.args.table.now c.args.literal.now c.args.limit c.args.places.condition c.requires.0 c.requires.1 absent.value c.loop-left.spent c.leaf-test.ensures c.loop-left.inner (rooms c.args.literal.now c.args.binding_cells.now c.args.binding_text.now c.loop-left.cells c.loop-left.text)) c.asks.ensures c.in-Holds.is c.cell_at.ensures (guard-came t (goal.at.appending::appends-returns-in-Ends-passes t c).Joined-guarded).passed c.in-Ends-passes.is ∙ c.loop-left.invariant.same c.args.places refl refl
+
+pub appending::appends-loop-left-preserved-in-Fails-passes : goal.appending::appends-loop-left-preserved-in-Fails-passes
+appending::appends-loop-left-preserved-in-Fails-passes t c =
+    let passed = guard-came t (goal.at.appending::appends-loop-left-preserved-in-Fails-passes t c).Joined-guarded in
+    appends-again c.args.table.now c.args.literal.now c.args.binding_cells.now c.args.binding_text.now c.args.cells.now c.args.text.now c.args.limit c.args.at c.args.guarded c.args.guard c.args.list c.args.space c.args.first c.args.count c.args.each c.args.places.item c.args.places.condition c.args.scope c.args.used c.loop-left.invariant c.loop-left-test.true c.ranges.each.fits passed.kept passed.keptx (length-set c.loop-left.inner.slots c.args.places.item (record { value = c.cell_at.result })) refl refl (omega arith, omega arith) (fails-again c.args.table.now c.args.literal.now c.args.limit c.args.at c.args.guarded c.args.guard c.args.list c.args.space c.args.each c.args.places.item c.args.places.condition c.loop-left.left c.loop-left.cell c.loop-left-test.true (gathered_in c.loop-left.firsts c.loop-left.counts c.loop-left.collected) c.loop-left.inner c.loop-left.spent (rooms c.args.literal.now c.args.binding_cells.now c.args.binding_text.now c.loop-left.cells c.loop-left.text) (literal-does c.args.table.now c.args.literal.now c.args.limit c.args.places.condition c.requires.0 c.requires.1 absent.value c.loop-left.spent c.leaf-test.ensures c.loop-left.inner (rooms c.args.literal.now c.args.binding_cells.now c.args.binding_text.now c.loop-left.cells c.loop-left.text)) c.asks.ensures c.in-Holds.is c.cell_at.ensures passed.passed c.in-Fails-passes.is)
+
+pub appending::appends-shape_of-cells-in-Ends-gather_items : goal.appending::appends-shape_of-cells-in-Ends-gather_items
+appending::appends-shape_of-cells-in-Ends-gather_items t c =
+    c.gather_items.auto.cells ∙ ((items-came t (goal.at.appending::appends-shape_of-cells-in-Ends-gather_items t c).Joined-reads-2).kept ∙ ((guard-came t (goal.at.appending::appends-shape_of-cells-in-Ends-gather_items t c).Joined-guarded).kept ∙ c.loop-left.invariant.kept))
+
+pub appending::appends-shape_of-text-in-Ends-gather_items : goal.appending::appends-shape_of-text-in-Ends-gather_items
+appending::appends-shape_of-text-in-Ends-gather_items t c =
+    (items-came t (goal.at.appending::appends-shape_of-text-in-Ends-gather_items t c).Joined-reads-2).keptx ∙ ((guard-came t (goal.at.appending::appends-shape_of-text-in-Ends-gather_items t c).Joined-guarded).keptx ∙ c.loop-left.invariant.keptx)
+
+pub appending::appends-returns-in-Ends-gather_items : goal.appending::appends-returns-in-Ends-gather_items
+appending::appends-returns-in-Ends-gather_items t c =
+    list-ends (loop_at c.args.table.now c.args.literal.now c.args.limit c.args.at c.args.places) (append_at c.args.table.now c.args.literal.now c.args.limit c.args.guarded c.args.guard c.args.list) c.args.space c.args.each c.loop-left.left c.loop-left.cell c.loop-left-test.true (gathered_in c.loop-left.firsts c.loop-left.counts c.loop-left.collected) c.loop-left.inner c.loop-left.spent (rooms c.args.literal.now c.args.binding_cells.now c.args.binding_text.now c.loop-left.cells c.loop-left.text) (literal-does c.args.table.now c.args.literal.now c.args.limit c.args.places.condition c.requires.0 c.requires.1 absent.value c.loop-left.spent c.leaf-test.ensures c.loop-left.inner (rooms c.args.literal.now c.args.binding_cells.now c.args.binding_text.now c.loop-left.cells c.loop-left.text)) c.asks.ensures c.in-Holds.is c.cell_at.ensures (guard-came t (goal.at.appending::appends-returns-in-Ends-gather_items t c).Joined-guarded).passed c.in-Holds-passes.is (items-came t (goal.at.appending::appends-returns-in-Ends-gather_items t c).Joined-reads-2).is c.gather_items.ensures c.in-Ends-gather_items.is ∙ c.loop-left.invariant.same c.args.places refl refl
+
+pub appending::appends-slice_bounds-add_run-end : goal.appending::appends-slice_bounds-add_run-end
+appending::appends-slice_bounds-add_run-end t c =
+    sym c.loop-left.invariant.firsts-long
+
+pub appending::appends-slice_bounds-add_run-end-in-Run : goal.appending::appends-slice_bounds-add_run-end-in-Run
+appending::appends-slice_bounds-add_run-end-in-Run t c =
+    sym c.loop-left.invariant.counts-long
+
+pub appending::appends-add_run-collected-requires : goal.appending::appends-add_run-collected-requires
+appending::appends-add_run-collected-requires t c =
+    (omega (arith, c.loop-left.invariant.runs), omega (arith, c.loop-left.invariant.elements))
+
+pub appending::appends-loop-left-smaller : goal.appending::appends-loop-left-smaller
+appending::appends-loop-left-smaller t c =
+    omega (arith, c.loop-left-test.true)
+
+pub appending::appends-loop-left-preserved : goal.appending::appends-loop-left-preserved
+appending::appends-loop-left-preserved t c =
+    let listed = items-came t (goal.at.appending::appends-loop-left-preserved t c).Joined-reads-2 in
+    let passed = guard-came t (goal.at.appending::appends-loop-left-preserved t c).Joined-guarded in
+    appends-again c.args.table.now c.args.literal.now c.args.binding_cells.now c.args.binding_text.now c.args.cells.now c.args.text.now c.args.limit c.args.at c.args.guarded c.args.guard c.args.list c.args.space c.args.first c.args.count c.args.each c.args.places.item c.args.places.condition c.args.scope c.args.used c.loop-left.invariant c.loop-left-test.true c.ranges.each.fits (c.gather_items.auto.cells ∙ (listed.kept ∙ passed.kept)) (listed.keptx ∙ passed.keptx) (length-set c.loop-left.inner.slots c.args.places.item (record { value = c.cell_at.result })) c.add_run-collected.auto.firsts c.add_run-collected.auto.counts (run-added c.loop-left.firsts c.loop-left.counts _ _ c.loop-left.collected c.add_run-collected.result _ c.in-Run.length _ c.add_run-collected.ensures (omega (arith, c.in-Run.known_told-in-Run-1-own.given.1.0))) (gathers-again c.args.table.now c.args.literal.now c.args.limit c.args.at c.args.guarded c.args.guard c.args.list c.args.space c.args.each c.args.places.item c.args.places.condition c.loop-left.left c.loop-left.cell c.loop-left-test.true (gathered_in c.loop-left.firsts c.loop-left.counts c.loop-left.collected) c.loop-left.inner c.loop-left.spent (rooms c.args.literal.now c.args.binding_cells.now c.args.binding_text.now c.loop-left.cells c.loop-left.text) (literal-does c.args.table.now c.args.literal.now c.args.limit c.args.places.condition c.requires.0 c.requires.1 absent.value c.loop-left.spent c.leaf-test.ensures c.loop-left.inner (rooms c.args.literal.now c.args.binding_cells.now c.args.binding_text.now c.loop-left.cells c.loop-left.text)) c.asks.ensures c.in-Holds.is c.cell_at.ensures passed.passed c.in-Holds-passes.is listed.is c.gather_items.ensures c.in-Run.is c.add_run-collected.ensures)
+
+pub appending::appends-slice_bounds-collected_list-end : goal.appending::appends-slice_bounds-collected_list-end
+appending::appends-slice_bounds-collected_list-end t c = sym c.loop-left.invariant.firsts-long
+
+pub appending::appends-slice_bounds-collected_list-end-2 : goal.appending::appends-slice_bounds-collected_list-end-2
+appending::appends-slice_bounds-collected_list-end-2 t c = sym c.loop-left.invariant.counts-long
+
+pub appending::appends-collected_list-requires : goal.appending::appends-collected_list-requires
+appending::appends-collected_list-requires t c = omega (arith, c.loop-left.invariant.runs)
+
+pub appending::appends-shape_of-cells : goal.appending::appends-shape_of-cells
+appending::appends-shape_of-cells t c =
+    c.collected_list.auto.cells ∙ c.loop-left.invariant.kept
+
+pub appending::appends-shape_of-text : goal.appending::appends-shape_of-text
+appending::appends-shape_of-text t c =
+    c.loop-left.invariant.keptx
+
+pub appending::appends-returns : goal.appending::appends-returns
+appending::appends-returns t c =
+    c.collected_list.ensures c.args.literal.now c.args.binding_text.now c.loop-left.text ∙ (sym (no-append (loop_at c.args.table.now c.args.literal.now c.args.limit c.args.at c.args.places) (append_at c.args.table.now c.args.literal.now c.args.limit c.args.guarded c.args.guard c.args.list) c.args.space c.args.each c.loop-left.left c.loop-left.cell (omega (arith, c.loop-left-test.false)) (gathered_in c.loop-left.firsts c.loop-left.counts c.loop-left.collected) c.loop-left.inner c.loop-left.spent (rooms c.args.literal.now c.args.binding_cells.now c.args.binding_text.now c.loop-left.cells c.loop-left.text)) ∙ c.loop-left.invariant.same c.args.places refl refl)
+
+pub appending::appends-reach_at-guard_slots-requires : goal.appending::appends-reach_at-guard_slots-requires
+appending::appends-reach_at-guard_slots-requires t c = c.requires.2
+
+pub appending::appends-single_at-list_slots-requires : goal.appending::appends-single_at-list_slots-requires
+appending::appends-single_at-list_slots-requires t c =
+    c.requires.3
+
+pub appending::appends-offset_bounds-inner-item : goal.appending::appends-offset_bounds-inner-item
+appending::appends-offset_bounds-inner-item t c =
+    omega (arith, c.requires.6)
+
+pub appending::appends-offset_bounds-inner-first_slot : goal.appending::appends-offset_bounds-inner-first_slot
+appending::appends-offset_bounds-inner-first_slot t c =
+    omega (arith, (slots-below c.reach_at-guard_slots.ensures c.in-Slots.is).0)
+
+pub appending::appends-bounds-inner-first_slot : goal.appending::appends-bounds-inner-first_slot
+appending::appends-bounds-inner-first_slot t c =
+    (slots-below c.reach_at-guard_slots.ensures c.in-Slots.is).0
+
+pub appending::appends-offset_bounds-inner-second_slot : goal.appending::appends-offset_bounds-inner-second_slot
+appending::appends-offset_bounds-inner-second_slot t c =
+    omega (arith, (slots-below c.reach_at-guard_slots.ensures c.in-Slots.is).1)
+
+pub appending::appends-bounds-inner-second_slot : goal.appending::appends-bounds-inner-second_slot
+appending::appends-bounds-inner-second_slot t c =
+    (slots-below c.reach_at-guard_slots.ensures c.in-Slots.is).1
+
+pub appending::appends-offset_bounds-inner-third_slot : goal.appending::appends-offset_bounds-inner-third_slot
+appending::appends-offset_bounds-inner-third_slot t c =
+    omega (arith, (slots-below c.reach_at-guard_slots.ensures c.in-Slots.is).2)
+
+pub appending::appends-bounds-inner-third_slot : goal.appending::appends-bounds-inner-third_slot
+appending::appends-bounds-inner-third_slot t c =
+    (slots-below c.reach_at-guard_slots.ensures c.in-Slots.is).2
+
+pub appending::appends-offset_bounds-inner-fourth_slot : goal.appending::appends-offset_bounds-inner-fourth_slot
+appending::appends-offset_bounds-inner-fourth_slot t c =
+    omega (arith, (slots-below c.reach_at-guard_slots.ensures c.in-Slots.is).3)
+
+pub appending::appends-bounds-inner-fourth_slot : goal.appending::appends-bounds-inner-fourth_slot
+appending::appends-bounds-inner-fourth_slot t c =
+    (slots-below c.reach_at-guard_slots.ensures c.in-Slots.is).3
+
+pub appending::appends-reach-test-requires : goal.appending::appends-reach-test-requires
+appending::appends-reach-test-requires t c =
+    (c.requires.2, slots-asked c.reach_at-guard_slots.ensures c.in-Slots.is)
+
+pub appending::appends-eval-test-requires : goal.appending::appends-eval-test-requires
+appending::appends-eval-test-requires t c =
+    (omega (arith, c.requires.4), c.requires.2)
+
+pub appending::appends-offset_bounds-inner-first_slot-in-Slots-reads : goal.appending::appends-offset_bounds-inner-first_slot-in-Slots-reads
+appending::appends-offset_bounds-inner-first_slot-in-Slots-reads t c =
+    omega (arith, (slots-below c.single_at-list_slots.ensures c.in-Slots-reads.is).0)
+
+pub appending::appends-bounds-inner-first_slot-in-Slots-reads : goal.appending::appends-bounds-inner-first_slot-in-Slots-reads
+appending::appends-bounds-inner-first_slot-in-Slots-reads t c =
+    (slots-below c.single_at-list_slots.ensures c.in-Slots-reads.is).0
+
+pub appending::appends-offset_bounds-inner-second_slot-in-Slots-reads : goal.appending::appends-offset_bounds-inner-second_slot-in-Slots-reads
+appending::appends-offset_bounds-inner-second_slot-in-Slots-reads t c =
+    omega (arith, (slots-below c.single_at-list_slots.ensures c.in-Slots-reads.is).1)
+
+pub appending::appends-bounds-inner-second_slot-in-Slots-reads : goal.appending::appends-bounds-inner-second_slot-in-Slots-reads
+appending::appends-bounds-inner-second_slot-in-Slots-reads t c =
+    (slots-below c.single_at-list_slots.ensures c.in-Slots-reads.is).1
+
+pub appending::appends-offset_bounds-inner-third_slot-in-Slots-reads : goal.appending::appends-offset_bounds-inner-third_slot-in-Slots-reads
+appending::appends-offset_bounds-inner-third_slot-in-Slots-reads t c =
+    omega (arith, (slots-below c.single_at-list_slots.ensures c.in-Slots-reads.is).2)
+
+pub appending::appends-bounds-inner-third_slot-in-Slots-reads : goal.appending::appends-bounds-inner-third_slot-in-Slots-reads
+appending::appends-bounds-inner-third_slot-in-Slots-reads t c =
+    (slots-below c.single_at-list_slots.ensures c.in-Slots-reads.is).2
+
+pub appending::appends-offset_bounds-inner-fourth_slot-in-Slots-reads : goal.appending::appends-offset_bounds-inner-fourth_slot-in-Slots-reads
+appending::appends-offset_bounds-inner-fourth_slot-in-Slots-reads t c =
+    omega (arith, (slots-below c.single_at-list_slots.ensures c.in-Slots-reads.is).3)
+
+pub appending::appends-bounds-inner-fourth_slot-in-Slots-reads : goal.appending::appends-bounds-inner-fourth_slot-in-Slots-reads
+appending::appends-bounds-inner-fourth_slot-in-Slots-reads t c =
+    (slots-below c.single_at-list_slots.ensures c.in-Slots-reads.is).3
+
+pub appending::appends-single-items-requires : goal.appending::appends-single-items-requires
+appending::appends-single-items-requires t c =
+    (c.requires.3, slots-asked c.single_at-list_slots.ensures c.in-Slots-reads.is)
+
+pub appending::appends-eval-items-requires : goal.appending::appends-eval-items-requires
+appending::appends-eval-items-requires t c =
+    (omega (arith, c.requires.5), c.requires.3)
