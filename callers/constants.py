@@ -50,6 +50,17 @@ def arms(path: str, kind: str, names: "Numbers | None" = None) -> Numbers:
     return {case: int(number) if number.isdigit() else (names or {})[number] for case, number in rows}
 
 
+def variants(path: str) -> Numbers:
+    """`Case = number,` of an enum of code."""
+    return {case: int(number) for case, number in found(r"^    (\w+) = (\d+),$", source(path), path)}
+
+
+def entries(path: str, before: str) -> "list[str]":
+    """The entries of the array that opens behind some words of code."""
+    row, = found(rf"{before} \[([^\[\]]*(?:\[\d\][^\[\]]*)*),\s*\]", source(path), path)
+    return [" ".join(entry.split()) for entry in row.split(",")]
+
+
 def declared(path: str) -> Numbers:
     """`const NAME: type = number;` of code."""
     rows = found(r"^(?:pub )?const (\w+): \w+ = (\d+);$", source(path), path)
@@ -94,8 +105,9 @@ def laid_out(prefix: str, places: Numbers) -> Numbers:
 
 def answers() -> "list[Numbers]":
     specs = {name.removeprefix("which_"): number for name, number in named("crates/board_words/specs/Answers.antt").items()}
-    code = declared("crates/board_words/src/answers.rt")
-    words = code.pop("ANSWER_WORDS")
+    where = "crates/board_words/src/answers.rt"
+    code = prefixed("", arms(where, "Which"))
+    words = declared(where)["ANSWER_WORDS"]
     meant = {
         "which": "WHICH", "number": "NUMBER", "place": "PLACE", "u.steps": "STEPS", "u.cells": "CELLS", "u.bytes": "BYTES",
         "head_of v": "HEAD", "payload_of v": "PAYLOAD",
@@ -107,11 +119,8 @@ def answers() -> "list[Numbers]":
 
 
 def refusals() -> "list[Numbers]":
-    code = declared("crates/table_check/src/refusals.rt")
-    for other in ("NO_FAULT", "LONGEST_TABLE", "RECORD_LEVELS"):
-        code.pop(other)
     specs = equations("crates/meaning/specs/Errors.antt", "refusal_number")
-    return [prefixed("REFUSAL_", specs), {"REFUSAL_" + name: number for name, number in code.items()}]
+    return [prefixed("REFUSAL_", specs), prefixed("REFUSAL_", arms("crates/meaning/src/refusal.rt", "Reason"))]
 
 
 def errors() -> "list[Numbers]":
@@ -121,7 +130,7 @@ def errors() -> "list[Numbers]":
     meant = dict(found(r"^error_meant Error\.(\w+) = Errors\.([\w ]+)$", source(where), where))
     arithmetic = equations("crates/numbers/specs/Error.antt", "number_of")
     specs = {case: of_meaning[meaning] for case, meaning in meant.items()} | arithmetic
-    code = arms("crates/answer/src/reasons.rt", "Error") | arms("crates/numbers/src/error.rt", "ArithmeticError")
+    code = arms("crates/answer/src/reasons.rt", "Error") | variants("crates/numbers/src/error.rt")
     return [prefixed("ERROR_", specs), prefixed("ERROR_", code)]
 
 
@@ -160,7 +169,7 @@ def most() -> "list[Numbers]":
         "shortest_table": "", "byte_numbers": "",  # no caller's concern
     }
     specs = renamed(named("crates/meaning/specs/Limits.antt"), names, "Limits.antt")
-    table = declared("crates/table_check/src/refusals.rt")
+    table = declared("crates/table_check/src/lib.rt")
     rooms = declared("crates/rooms_taking/src/lib.rt")
     code = {
         "MOST_TABLE_BYTES": table["LONGEST_TABLE"], "MOST_RECORD_NESTING": table["RECORD_LEVELS"],
@@ -189,20 +198,19 @@ def states() -> "list[Numbers]":
 def shapes() -> "list[Numbers]":
     where = "crates/board_words/specs/Shapes.antt"
     (first, last), = found(r"^shape_of v = (.*) ∷ \(span_words \(span_in \(plain_of v\)\) \+\+ (.*) ∷ \[\]\)$", source(where), where)
-    whole = first.split(" ∷ ") + listed(where, r"span_words \(Span\.At") + [last]
+    whole = first.split(" ∷ ") + listed(where, r"span_words \(Some") + [last]
     meant = {
-        "kind_of v": "KIND", "number_word v": "NUMBER", "text_number s": "SPACE", "a": "FIRST", "n": "LENGTH", "count_in (parts_of v)": "COUNT",
+        "kind_of v": "KIND", "number_word v": "NUMBER", "text_number sp.space": "SPACE", "sp.first": "FIRST", "sp.length": "LENGTH",
+        "count_in (parts_of v)": "COUNT",
     }
     specs = laid_out("SHAPE", positions(whole, meant, where))
     where = "crates/board_words/src/shapes.rt"
-    words, = found(r"^    let words = \[(.*)\];$", source(where), where)
-    spans, = found(r"=> \[(text_number.*)\],$", source(where), where)
-    found(r"^use rooms_cells::packing::text_number;$", source(where), where)
-    span = dict(zip(("span[0]", "span[1]", "span[2]"), spans.split(", ")))
-    whole = [span.get(word, word) for word in words.split(", ")]
+    found(r"^use rooms_cells::packing::\{.*\btext_number\b.*\};$", source(where), where)
+    span = dict(zip(("span[0]", "span[1]", "span[2]"), entries(where, r"Some\(span\) =>")))
+    whole = [span.get(word, word) for word in entries(where, "let words =")]
     meant = {
-        "kind as u64": "KIND", "number": "NUMBER", "text_number(space)": "SPACE", "first as u64": "FIRST", "length as u64": "LENGTH",
-        "count as u64": "COUNT",
+        "u64::from(kind)": "KIND", "number": "NUMBER", "text_number(span.space)": "SPACE", "span.first as u64": "FIRST",
+        "u64::from(span.length)": "LENGTH", "u64::from(count)": "COUNT",
     }
     return [specs, laid_out("SHAPE", positions(whole, meant, where))]
 

@@ -57,14 +57,14 @@ def of_answers() -> "list[str]":
     number, place = found(r"^done = report which_done (\d+) (\d+) nothing_used Value\.Absent$", source(answers), answers)[0]
     if nothing != {int(number)} or number != place:
         sys.exit(f"{answers}: what does not apply has several numbers")
-    cell = one(r"Sound \(Unsound (\d+)\)\)$", sound)
+    cell = one(r"^verdict None rest = cond rest \(Ok tt\) \(Err (\d+)\)$", sound)
     return [f"What does not apply is {number}.", f"with the first bad cell, {cell} if no cell is bad"]
 
 
 def of_shapes() -> "list[str]":
     bits, counts = equations(CELLS, "bit_of"), equations("crates/answer_values/specs/SpansAndCounts.antt", "count_in")
-    number = equations(SHAPES, "number_or")["NoNumber"]
-    no_text = one(r"^span_words Span\.NoText = (\d+) ∷ \1 ∷ \1 ∷ \[\]$", SHAPES)
+    number = one(r"^number_or None = (\d+)$", SHAPES)
+    no_text = one(r"^span_words None = (\d+) ∷ \1 ∷ \1 ∷ \[\]$", SHAPES)
     return [
         f"A Bool as {bits['false']} or {bits['true']}, an Int in two's complement, a Uint, a Double by its bits; of anything else {number}.",
         f"the space, the first byte there, how many bytes; of anything else {no_text}.",

@@ -21,8 +21,7 @@ use Rattle.rooms.specs.Rooms.{Rooms}
 use Rattle.rooms.specs.Scope.{StandsSlot, StandsScope, slot_of}
 use Rattle.rooms.specs.Stands.{Alive}
 use Rattle.bindings_sound.specs.declared.Bindings.{Bindings}
-use Rattle.bindings_sound.specs.declared.Soundness.{Soundness}
-use Rattle.bindings_sound.specs.declared.Soundness.TheVariants.{Sound, Unsound}
+use Rattle.std.specs.Prelude.{Result, Ok, Err}
 use Rattle.bindings_sound.specs.Sound.{sound_of, if_sound}
 use Rattle.bindings_sound.specs.Held.{alive_below}
 use Rattle.bindings_sound.proofs.SoundScope.{sound-scope, room-scope}
@@ -86,10 +85,10 @@ answers-say lent left o t end a =
 -- ---- what is accepted
 
 -- a rule that is accepted was read, and its binding room is sound
-pub was-accepted : (g : Got Expr) (s : Soundness) (e : Expr) → ◌>>=◌ g (λ x. if_sound s (got x)) ≡ got e → (g ≡ got e) × (s ≡ Sound)
+pub was-accepted : (g : Got Expr) (s : Result (Unit {0}) ℕ) (e : Expr) → ◌>>=◌ g (λ x. if_sound s (got x)) ≡ got e → (g ≡ got e) × (s ≡ Ok tt)
 unfolding ◌>>=◌
-was-accepted (got x) Sound e h = (h, refl)
-was-accepted (got x) (Unsound p) e h = let z : ◌≡◌ {A = ℕ} 0 1 = cc in absurd (omega arith)
+was-accepted (got x) (Ok u) e h = (h, refl)
+was-accepted (got x) (Err p) e h = let z : ◌≡◌ {A = ℕ} 0 1 = cc in absurd (omega arith)
 was-accepted (refused why p) s e h = let z : ◌≡◌ {A = ℕ} 0 1 = cc in absurd (omega arith)
 
 -- ---- the answer
@@ -103,7 +102,7 @@ module _ (table : List ℕ) (bindings : Bindings) (steps : ℕ) (lent : Rooms) w
 
   module _ (all : Lent table bindings lent) where
     -- the scope of a sound room stands for that of the definition's room
-    scope : sound_of lent.binding_cells lent.binding_text bindings ≡ Sound → StandsScope (scope_of (bound bindings lent)) alive lent bindings.scope
+    scope : sound_of lent.binding_cells lent.binding_text bindings ≡ Ok tt → StandsScope (scope_of (bound bindings lent)) alive lent bindings.scope
     scope s =
         let h = sound-scope lent.binding_cells lent.binding_text bindings s all.slots all.values lent.literal lent.cells lent.text in
         record {
@@ -111,7 +110,7 @@ module _ (table : List ℕ) (bindings : Bindings) (steps : ℕ) (lent : Rooms) w
           each = λ n. subst (λ o. StandsSlot o alive lent (slot_of bindings.scope n)) (sym (room-scope lent.binding_cells lent.binding_text bindings all.slots n)) (h.each n);
         }
 
-    ran_says : (e : Expr) → read_table table lent.literal ≡ got e → sound_of lent.binding_cells lent.binding_text bindings ≡ Sound
+    ran_says : (e : Expr) → read_table table lent.literal ≡ got e → sound_of lent.binding_cells lent.binding_text bindings ≡ Ok tt
         → Says (answer_run (limits steps lent) (run e (scope_of (bound bindings lent)))) lent (after table bindings steps lent (got e)).0 (after table bindings steps lent (got e)).1
     unfolding answer_run cut
     ran_says e g s =

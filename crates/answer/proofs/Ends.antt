@@ -2,12 +2,7 @@
 use Prim.Native.Nat.{ℕ}
 use mathlib.Core.Path.{◌≡◌, refl}
 use mathlib.Core.List.{List}
-use Rattle.rooms.specs.declared.value.Value.{Value}
 use Rattle.rooms.specs.Rooms.{Rooms, rooms}
-use Rattle.rooms_taking.specs.Taking.{cells_cleared, bytes_cleared}
-use Rattle.machine.specs.declared.outcome.Used.{Used}
-use Rattle.machine.specs.declared.outcome.Error.{Error}
-use Rattle.machine.specs.declared.outcome.Limit.{Limit}
 use Rattle.machine.specs.declared.outcome.Outcome.{Outcome}
 use Rattle.machine.specs.Outcomes.{Res}
 use Rattle.machine.specs.Answer.{cells_left, text_left, left}
@@ -17,17 +12,6 @@ use Rattle.answer.specs.Evaluated.{as_answer, ended}
 -- an answer, and what the cells and the text were and are
 abbrev pub Ends : Outcome → Answer → (words words_left bytes bytes_left : List ℕ) → Type 0
 Ends o a w x t y = (a ≡ as_answer o) × (x ≡ cells_left o w) × (y ≡ text_left o t)
-
-pub value-ends : (o : Outcome) (v : Value) (u : Used) (w t : List ℕ) → o ≡ Outcome.Value v u → Ends o (Answer.Value v u) w w t t
-value-ends o v u w t h = rw h (refl, refl, refl)
-
-pub error-ends : (o : Outcome) (e : Error) (p : ℕ) (u : Used) (w x t y : List ℕ) → o ≡ Outcome.Error e p u → x ≡ cells_cleared w u.cells → y ≡ bytes_cleared t u.bytes
-    → Ends o (Answer.Error e p u) w x t y
-error-ends o e p u w x t y h f g = rw h (refl, f, g)
-
-pub exhaustion-ends : (o : Outcome) (l : Limit) (u : Used) (w x t y : List ℕ) → o ≡ Outcome.Exhausted l u → x ≡ cells_cleared w u.cells → y ≡ bytes_cleared t u.bytes
-    → Ends o (Answer.Exhausted l u) w x t y
-exhaustion-ends o l u w x t y h f g = rw h (refl, f, g)
 
 -- beside them the other rooms are as they were
 pub left-rooms : (o : Outcome) (l b t w x : List ℕ) → left o (rooms l b t w x) ≡ rooms l b t (cells_left o w) (text_left o x)

@@ -2,14 +2,13 @@
 -- them tells (the shadow of a row of the kit's logic). Assumes nothing.
 use Prim.Native.Nat.{ℕ, zero, suc, ◌^◌, ◌<◌}
 use mathlib.Core.Path.{◌≡◌}
-use mathlib.Core.List.{List, [], ◌∷◌, map}
+use mathlib.Core.List.{List, [], ◌∷◌}
 use lib.ListN.{length, get_or}
 use mir.Val.{Val}
 use denote.Shadow.{shadow}
 use denote.Floats.{passes}
 use denote.Array.{each}
 use denote.Enum.Declared as Enum
-use denote.Struct.Declared as Struct
 use Rattle.meaning.specs.WellFormed.{AllBytes}
 use Rattle.rooms.specs.declared.value.Value.{Value}
 use Rattle.rooms.specs.declared.scope.Slot.{Slot}
@@ -28,10 +27,10 @@ value-fits (Value.Int z) vs h = h.1.1.1.1.0.1
 value-fits (Value.Uint n) vs h = h.1.1.1.1.0.1
 value-fits (Value.Double x) vs h = passes _ h.1.1.1.1.0.1
 value-fits (Value.Nan b) vs h = h.1.1.1.1.0.1
-value-fits (Value.String s a n) vs h = (h.1.1.1.1.1.0.1, h.1.1.1.1.1.1.0.1)
-value-fits (Value.Bytes s a n) vs h = (h.1.1.1.1.1.0.1, h.1.1.1.1.1.1.0.1)
-value-fits (Value.List d s a n) vs h = (h.1.1.1.1.0.1, h.1.1.1.1.1.1.0.1, h.1.1.1.1.1.1.1.0.1)
-value-fits (Value.Map d s a n) vs h = (h.1.1.1.1.0.1, h.1.1.1.1.1.1.0.1, h.1.1.1.1.1.1.1.0.1)
+value-fits (Value.String sp) vs h = (h.1.1.1.1.0.1.1.1.0.1, h.1.1.1.1.0.1.1.1.1.0.1)
+value-fits (Value.Bytes sp) vs h = (h.1.1.1.1.0.1.1.1.0.1, h.1.1.1.1.0.1.1.1.1.0.1)
+value-fits (Value.List d ro) vs h = (h.1.1.1.1.0.1, h.1.1.1.1.1.0.1.1.1.0.1, h.1.1.1.1.1.0.1.1.1.1.0.1)
+value-fits (Value.Map d ro) vs h = (h.1.1.1.1.0.1, h.1.1.1.1.1.0.1.1.1.0.1, h.1.1.1.1.1.0.1.1.1.1.0.1)
 value-fits Value.OptionalNone vs h = tt
 value-fits (Value.OptionalOf d s a) vs h = (h.1.1.1.1.0.1, h.1.1.1.1.1.1.0.1)
 value-fits Value.Absent vs h = tt

@@ -5,13 +5,15 @@ use mathlib.Core.Path.{◌≡◌, refl, sym, ap, ◌∙◌, subst}
 use mathlib.Core.Logic.{◌↔◌}
 use mathlib.Core.Bool.{Bool, true, false}
 use mathlib.Core.List.{List, ◌++◌}
-use mathlib.Core.Option.{some}
+use Rattle.std.specs.Prelude.{Some}
 use native.Mathlib.Omega.{arith}
 use lib.Dec.{ltb, eqb}
 use lib.ListN.{length, get_or, take, drop, replicate, take-append-drop}
 use borrow.Author.Tests.{ltb-true, ltb-false, eqb-true, eqb-false}
 use Rattle.meaning.specs.Limits.{Counts}
-use Rattle.meaning.specs.Errors.{Refusal, UnsoundBinding, Exhausted}
+use Rattle.meaning.specs.Errors.{Exhausted}
+use Rattle.meaning.specs.declared.refusal.Reason.{Reason}
+use Rattle.meaning.specs.declared.refusal.Reason.TheVariants.{UnsoundBinding}
 use Rattle.meaning.specs.Expr.{Expr}
 use Rattle.meaning.specs.Limited as Limited
 use Rattle.meaning.specs.Limited.{zero_cell, limited, cleared, rooms_after}
@@ -25,7 +27,7 @@ use Rattle.meaning.specs.Table.{read_table}
 use Rattle.meaning.specs.Bindings.{BindingRoom, scope_of}
 use Rattle.meaning.specs.Answer as Meaning
 use Rattle.meaning.specs.Answer.{Answered, refusal, ran, answer_run, answer_read, answer_of}
-use Rattle.table_check.specs.declared.Checked.TheVariants.{Accepted}
+use Rattle.std.specs.Prelude.{Ok}
 use Rattle.table_check.specs.Check.{verdict, check_of}
 use Rattle.table_check.specs.Records.{expr_of}
 use Rattle.table_check.proofs.Accepted.{accepted as table-accepted}
@@ -42,7 +44,7 @@ use Rattle.rooms.specs.Rooms.{Rooms, rooms}
 use Rattle.rooms.specs.Value.{nesting_of}
 use Rattle.rooms.specs.Reading.{reading}
 use Rattle.bindings_sound.specs.declared.Bindings.{Bindings}
-use Rattle.bindings_sound.specs.declared.Soundness.TheVariants.{Sound, Unsound}
+use Rattle.std.specs.Prelude.{Ok, Err}
 use Rattle.bindings_sound.specs.Sound.{sound_of}
 use Rattle.bindings_sound.specs.Held.{room_of}
 use Rattle.machine.specs.declared.outcome.Used.{Used}
@@ -61,19 +63,19 @@ use Rattle.answer.specs.Promised.{AgreeWhereNamed, AgreeWhereMet, WithoutValue}
 
 module _ (table : List ℕ) (bindings : Bindings) (steps : ℕ) (lent : Rooms) where
   -- A table that is refused is refused, whatever the binding room holds.
-  pub meant-refused : (why : Refusal) (place : ℕ) → read_table table lent.literal ≡ refused why place → (meant table bindings steps lent).answer ≡ refusal why place
+  pub meant-refused : (why : Reason) (place : ℕ) → read_table table lent.literal ≡ refused why place → (meant table bindings steps lent).answer ≡ refusal why place
   unfolding meant accepted answer_read ◌>>=◌
   meant-refused why place h = rw h
 
   module _ (e : Expr) (spells : read_table table lent.literal ≡ got e) where
     -- Otherwise a binding room that is not sound is refused, with its place.
-    pub meant-unsound : (place : ℕ) → sound_of lent.binding_cells lent.binding_text bindings ≡ Unsound place
+    pub meant-unsound : (place : ℕ) → sound_of lent.binding_cells lent.binding_text bindings ≡ Err place
         → (meant table bindings steps lent).answer ≡ refusal UnsoundBinding place
     unfolding meant accepted answer_read ◌>>=◌
     meant-unsound place h = rw (spells, h)
 
   -- Otherwise it is the definition's answer, over the bindings that the room holds.
-  pub meant-sound : sound_of lent.binding_cells lent.binding_text bindings ≡ Sound
+  pub meant-sound : sound_of lent.binding_cells lent.binding_text bindings ≡ Ok tt
       → meant table bindings steps lent
       ≡ answer_of table lent.literal (bound bindings lent) (record { steps = steps; cells = length lent.cells / 2; bytes = length lent.text })
   unfolding meant accepted answer_of ◌>>=◌
@@ -126,7 +128,7 @@ module _ (table literal cells text : List ℕ) (steps : ℕ) where
   over words bytes = rooms literal words bytes cells text
 
   module _ (bindings others : Bindings) (words bytes other_words other_bytes : List ℕ)
-      (sound : sound_of words bytes bindings ≡ Sound) (other_sound : sound_of other_words other_bytes others ≡ Sound)
+      (sound : sound_of words bytes bindings ≡ Ok tt) (other_sound : sound_of other_words other_bytes others ≡ Ok tt)
       (agree : AgreeWhereNamed table literal (room_of words bytes bindings) (room_of other_words other_bytes others)) where
     pub same-meant : meant table bindings steps (over words bytes) ≡ meant table others steps (over other_words other_bytes)
     same-meant =
@@ -147,7 +149,7 @@ module _ (table literal cells text : List ℕ) (steps : ℕ) where
   pub met-named : (room other : BindingRoom) → AgreeWhereMet table literal room other → AgreeWhereNamed table literal room other
   unfolding check_of
   met-named room other h e g =
-      let checked : check_of table literal ≡ Accepted = ap verdict g in
+      let checked : check_of table literal ≡ Ok tt = ap verdict g in
       let is : expr_of table literal 0 ≡ e = got_same (sym (table-accepted table literal checked).is ∙ g) in
       subst (λ x. Agree (In (names_of x)) (scope_of room) (scope_of other)) is (h (records_of (expr_of table literal 0)) (accepted-walk table literal checked))
     where
@@ -243,11 +245,11 @@ module _ (table : List ℕ) (bindings : Bindings) (steps : ℕ) (lent : Rooms) (
     (h : Evaluates table bindings steps lent answer left) where
   meant-cleared : (o : Limited.Outcome) → (meant table bindings steps lent).answer ≡ ran o → NoValue o → (meant table bindings steps lent).rooms ≡ cleared (counts_of o)
   unfolding meant answer_read answer_run
-  meant-cleared o e none = by_read (accepted table bindings lent) e
+  meant-cleared o e None = by_read (accepted table bindings lent) e
     where
       by_read : (g : Got Expr) → (answer_read (limits steps lent) (scope_of (bound bindings lent)) g).answer ≡ ran o
           → (answer_read (limits steps lent) (scope_of (bound bindings lent)) g).rooms ≡ cleared (counts_of o)
-      by_read (got e) f = let same : limited (limits steps lent) (run e (scope_of (bound bindings lent))) ≡ o = cc in rw same (cleared-after _ o none)
+      by_read (got e) f = let same : limited (limits steps lent) (run e (scope_of (bound bindings lent))) ≡ o = cc in rw same (cleared-after _ o None)
       by_read (refused why place) f = let z : ◌≡◌ {A = ℕ} 0 1 = cc in absurd (omega arith)
 
   -- An error or exhaustion clears what it charged: every word of the cells that were counted, and every byte, is zero. (What is above them is
@@ -277,6 +279,6 @@ value-shown m lent left x u h = by_answer m.answer h.tells
   where
     by_answer : (a : Meaning.Answer) → Told.value (reading left x) (counts_used u) ≡ told_by a → (v : Value) × (c : Counts) × (a ≡ ran (Limited.value v c)) × Shows (nesting_of x) left x v
     by_answer (refusal why place) e = let z : ◌≡◌ {A = ℕ} 0 1 = cc in absurd (omega arith)
-    by_answer (ran (Limited.value v c)) e = let read : reading left x ≡ some v = cc in (v, c, refl, shows (nesting_of x) left x v read)
+    by_answer (ran (Limited.value v c)) e = let read : reading left x ≡ Some v = cc in (v, c, refl, shows (nesting_of x) left x v read)
     by_answer (ran (Limited.error v c)) e = let z : ◌≡◌ {A = ℕ} 0 1 = cc in absurd (omega arith)
     by_answer (ran (Limited.exhausted y c)) e = let z : ◌≡◌ {A = ℕ} 0 1 = cc in absurd (omega arith)

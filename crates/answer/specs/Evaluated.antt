@@ -2,7 +2,7 @@
 -- is cleared unless there is a value.
 use Rattle.std.specs.Prelude.{ℕ, min, List}
 use Rattle.meaning.specs.Limits.{most_steps}
-use Rattle.meaning.specs.Errors.{refusal_number}
+use Rattle.meaning.specs.Errors.{refusal_at}
 use Rattle.meaning.specs.Expr.{Expr}
 use Rattle.meaning.specs.Heads.{Got, got, refused, ◌>>=◌}
 use Rattle.meaning.specs.Table.{read_table}
@@ -33,7 +33,7 @@ module _ (table : List ℕ) (bindings : Bindings) (lent : Rooms) where
 module _ (table : List ℕ) (bindings : Bindings) (steps : ℕ) (lent : Rooms) where
   -- a refusal changes nothing
   abbrev pub after : Got Expr → Answer × Rooms
-  after (refused why place) = (Answer.Refused (refusal_number why) place, lent)
+  after (refused why place) = (Answer.Refused (refusal_at why place), lent)
   after (got e) = ended (answered table (min steps most_steps) e bindings.scope lent)
 
   -- the answer, and the rooms as they are left

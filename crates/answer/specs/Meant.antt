@@ -1,6 +1,5 @@
 -- What the definition says of an evaluation, and when an answer and the rooms that it leaves say the same.
-use Rattle.std.specs.Prelude.{ℕ, ◌*◌, ◌/◌, ◌≡◌, List, length, take, drop}
-use Rattle.std.proofs.Math.Option.{Option, some}
+use Rattle.std.specs.Prelude.{ℕ, ◌*◌, ◌/◌, ◌≡◌, List, length, take, drop, Option, Some}
 use Rattle.meaning.specs.Limits.{Counts, nothing_yet, cut}
 use Rattle.meaning.specs.Errors.{Exhausted, error_number, refusal_number}
 use Rattle.meaning.specs.Value as Value
@@ -32,7 +31,7 @@ abbrev pub counts_used : Used → Counts
 counts_used u = record { steps = u.steps; cells = u.cells; bytes = u.bytes }
 
 abbrev pub told : Rooms → Answer → Told
-told left (Answer.Refused number place) = refused number place
+told left (Answer.Refused f) = refused (refusal_number f.reason) f.place
 told left (Answer.Value v u) = value (reading left v) (counts_used u)
 told left (Answer.Error e place u) = error (error_number (error_meant e)) place (counts_used u)
 told left (Answer.Exhausted x u) = exhausted (limit_meant x) (counts_used u)
@@ -47,7 +46,7 @@ counts_told (exhausted x c) = c
 -- the definition's answer
 abbrev pub told_by : Meaning.Answer → Told
 told_by (refusal why place) = refused (refusal_number why) place
-told_by (ran (Limited.value v c)) = value (some v) c
+told_by (ran (Limited.value v c)) = value (Some v) c
 told_by (ran (Limited.error e c)) = error (error_number e.error) e.place c
 told_by (ran (Limited.exhausted x c)) = exhausted x c
 

@@ -10,6 +10,7 @@ ghost use Rattle.machine.specs.Answer.{cells_left, text_left};
 ghost use Rattle.answer.specs.Evaluated.{as_answer};
 
 use machine::outcome::{Error, Limit, Outcome, Used};
+use meaning::refusal::Refusal;
 use rooms::value::Value;
 use rooms_taking::{clear_cells, clear_text};
 
@@ -17,8 +18,7 @@ const MOST_STEPS: usize = 1000000;
 
 #[derive(Clone, Copy)]
 pub enum Answer {
-    // A refusal's number, and the place at fault.
-    Refused(u8, usize),
+    Refused(Refusal),
     Value(Value, Used),
     // An error, and the place of the record whose rule gave it.
     Error(Error, usize, Used),
@@ -30,11 +30,7 @@ pub enum Answer {
 pub fn step_limit(steps: usize) -> usize
     ensures { result ≡ min steps most_steps }
 {
-    if MOST_STEPS < steps {
-        MOST_STEPS
-    } else {
-        steps
-    }
+    steps.min(MOST_STEPS)
 }
 
 // The end of a run: after an error or exhaustion what was charged is cleared.

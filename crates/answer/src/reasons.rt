@@ -1,4 +1,5 @@
 // Why there is no value: the numbers that errors and limits are known by.
+// Both types are those of `machine`, which knows no numbers: a `From` for them would have to stand there, away from `specs/Numbers`.
 ghost use Rattle.std.specs.Prelude.{◌≡◌};
 ghost use Rattle.meaning.specs.Errors.{error_number};
 ghost use Rattle.answer.specs.Numbers.{error_meant, limit_meant, limit_number};
@@ -15,7 +16,7 @@ pub fn error_number(error: Error) -> u8
         Error::NoOverload => 3,
         Error::FunctionError => 4,
         Error::NoSuchKey => 5,
-        Error::Arithmetic(arithmetic) => numbers::error::number(arithmetic),
+        Error::Arithmetic(arithmetic) => u8::from(arithmetic),
         Error::DuplicateKey => 9,
         Error::IndexOutOfBounds => 10,
         Error::UnsupportedKeyType => 11,

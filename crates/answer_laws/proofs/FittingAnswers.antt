@@ -18,7 +18,7 @@ use Rattle.rooms.specs.Rooms.{Rooms}
 use Rattle.rooms.specs.Scope.{StandsScope}
 use Rattle.rooms.specs.Stands.{Alive}
 use Rattle.bindings_sound.specs.declared.Bindings.{Bindings}
-use Rattle.bindings_sound.specs.declared.Soundness.TheVariants.{Sound}
+use Rattle.std.specs.Prelude.{Ok}
 use Rattle.bindings_sound.specs.Sound.{sound_of}
 use Rattle.bindings_sound.specs.Held.{held_scope, alive_below}
 use Rattle.bindings_sound.proofs.SoundScope.{sound-scope}
@@ -64,10 +64,10 @@ module _ (table : List ℕ) (bindings : Bindings) (steps : ℕ) (lent : Rooms) (
   abbrev scope : Comprehension.Scope
   scope = held_scope lent.binding_cells lent.binding_text bindings
 
-  stands : sound_of lent.binding_cells lent.binding_text bindings ≡ Sound → StandsScope scope alive lent bindings.scope
+  stands : sound_of lent.binding_cells lent.binding_text bindings ≡ Ok tt → StandsScope scope alive lent bindings.scope
   stands s = sound-scope lent.binding_cells lent.binding_text bindings s all.slots all.values lent.literal lent.cells lent.text
 
-  ran-fits : (e : Expr) → read_table table lent.literal ≡ got e → sound_of lent.binding_cells lent.binding_text bindings ≡ Sound
+  ran-fits : (e : Expr) → read_table table lent.literal ≡ got e → sound_of lent.binding_cells lent.binding_text bindings ≡ Ok tt
       → (m : Value) (u : Used) → as_answer (machine table (min steps most_steps) e bindings.scope (used_of nothing_yet) lent).0 ≡ Answer.Value m u → Fits m
   unfolding cut
   ran-fits e g s m u h =

@@ -3,7 +3,7 @@
 use Prim.Native.Nat.{ℕ, suc, ◌/◌, ◌≤◌}
 use mathlib.Core.Path.{◌≡◌, refl, sym, ◌∙◌, subst}
 use mathlib.Core.List.{List, []}
-use mathlib.Core.Option.{Option, none, some}
+use Rattle.std.specs.Prelude.{Option, None, Some}
 use native.Mathlib.Omega.{arith}
 use lib.ListN.{length}
 use Rattle.meaning.specs.Limits.{Counts, most_cells, most_bytes, deepest_value, cut, nothing_yet}
@@ -35,7 +35,7 @@ use Rattle.rooms.specs.Rooms.{Rooms, cell_at}
 use Rattle.rooms.specs.Stands.{Alive, StandsScalar, Stands, StandsCells, StandsEntries}
 use Rattle.rooms.specs.Scope.{slot_of, StandsSlot}
 use Rattle.bindings_sound.specs.declared.Bindings.{Bindings}
-use Rattle.bindings_sound.specs.declared.Soundness.TheVariants as Soundness
+use Rattle.std.specs.Prelude.{Ok}
 use Rattle.bindings_sound.specs.Sound.{sound_of}
 use Rattle.bindings_sound.specs.Held.{binding_rooms, held_scope, alive_below}
 use Rattle.bindings_sound.proofs.SoundScope.{sound-scope, room-scope}
@@ -88,10 +88,10 @@ module _ (L : Alive) (r : Rooms) (cells : FitCells r) where
 
 -- ---- the scope that a sound room holds
 
-module _ (w t : List ℕ) (b : Bindings) (lent : Lent w t b) (sound : sound_of w t b ≡ Soundness.Sound) where
-  slot-fine : (o : Option Meaning.Value) (m : Value) → StandsSlot o (alive_below b.cells) (binding_rooms w t) m → ((v : Meaning.Value) → o ≡ some v → WellFormed v) → Perhaps Fine o
-  slot-fine none m h f = tt
-  slot-fine (some v) m h f =
+module _ (w t : List ℕ) (b : Bindings) (lent : Lent w t b) (sound : sound_of w t b ≡ Ok tt) where
+  slot-fine : (o : Option Meaning.Value) (m : Value) → StandsSlot o (alive_below b.cells) (binding_rooms w t) m → ((v : Meaning.Value) → o ≡ Some v → WellFormed v) → Perhaps Fine o
+  slot-fine None m h f = tt
+  slot-fine (Some v) m h f =
       value-fine (alive_below b.cells) (binding_rooms w t) (words-fit (binding_rooms w t) (λ j. omega arith) lent.words) v m h.stands h.fits (f v refl).sound h.nests
 
   -- What a sound room holds is fine.
@@ -116,7 +116,7 @@ value-kept lent r k v c e = by-spent (spend (cut lent) r.0 nothing_yet) (spent-m
 
 -- ---- the theorem
 
-told-value : (a : Answers.Answer) (v : Meaning.Value) (c : Counts) → told_by a ≡ Told.value (some v) c → a ≡ ran (Limited.value v c)
+told-value : (a : Answers.Answer) (v : Meaning.Value) (c : Counts) → told_by a ≡ Told.value (Some v) c → a ≡ ran (Limited.value v c)
 told-value (refusal why place) v c h = let z : ◌≡◌ {A = ℕ} 0 1 = cc in absurd (omega arith)
 told-value (ran (Limited.value u d)) v c h = cc
 told-value (ran (Limited.error e d)) v c h = let z : ◌≡◌ {A = ℕ} 0 1 = cc in absurd (omega arith)
@@ -137,7 +137,7 @@ module _ (table : List ℕ) (bindings : Bindings) (steps : ℕ) (lent : Rooms) (
       fine-well-formed v (value-kept (record { steps = steps; cells = length lent.cells / 2; bytes = length lent.text }) (run e (scope_of (bound bindings lent))) (run-kept e formed (scope_of (bound bindings lent)) fine) v c same)
 
   -- of an answer that says what the definition says
-  pub says-formed : (answer : Answer) (left : Rooms) → Says (meant table bindings steps lent) lent answer left → (v : Meaning.Value) (c : Counts) → told left answer ≡ Told.value (some v) c
+  pub says-formed : (answer : Answer) (left : Rooms) → Says (meant table bindings steps lent) lent answer left → (v : Meaning.Value) (c : Counts) → told left answer ≡ Told.value (Some v) c
       → WellFormed v
   unfolding meant
   says-formed answer left h v c t =
@@ -145,6 +145,6 @@ module _ (table : List ℕ) (bindings : Bindings) (steps : ℕ) (lent : Rooms) (
 
   -- A value that comes back is well formed, whatever table, binding room, limits and rooms are lent: numbers in range, Strings in UTF-8, no two
   -- keys of a Map that match, nesting at most 32.
-  pub value-formed : (answer : Answer) (left : Rooms) → Evaluates table bindings steps lent answer left → (v : Meaning.Value) (c : Counts) → told left answer ≡ Told.value (some v) c
+  pub value-formed : (answer : Answer) (left : Rooms) → Evaluates table bindings steps lent answer left → (v : Meaning.Value) (c : Counts) → told left answer ≡ Told.value (Some v) c
       → WellFormed v
   value-formed answer left h v c t = says-formed answer left h.says v c t

@@ -1,6 +1,5 @@
 -- The worked examples of the meaning as evaluations: what a row's evaluation is, and what it must answer.
-use Rattle.std.specs.Prelude.{◌≡◌, List, take}
-use Rattle.std.proofs.Math.Option.{some}
+use Rattle.std.specs.Prelude.{◌≡◌, List, take, Some}
 use Rattle.meaning.specs.Limits.{Counts, nothing_yet}
 use Rattle.meaning.specs.Bindings.{bound_in}
 use Rattle.meaning.specs.Rows.{Row, Shown, gives, fails, exhausts, refuses, expected}
@@ -20,7 +19,7 @@ pub record Evaluation (r : Row) (bindings : Bindings) (lent : Rooms) (answer : A
   pub evaluates : Evaluates r.table bindings r.lent.steps lent answer left
 
 abbrev pub told_in : Shown → Told
-told_in (gives v c cells text) = Told.value (some v) c
+told_in (gives v c cells text) = Told.value (Some v) c
 told_in (fails n p c) = Told.error n p c
 told_in (exhausts x c) = Told.exhausted x c
 told_in (refuses n p) = Told.refused n p

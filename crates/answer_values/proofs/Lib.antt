@@ -1,4 +1,2 @@
--- The law that the functions' proofs cite, on what stands below a count (`Indexed`); and the theorem that the readers show all of a value
--- (`Showing`).
-pub mod Indexed
+-- The theorem that the readers show all of a value (`Showing`).
 pub mod Showing

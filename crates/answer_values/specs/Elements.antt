@@ -12,13 +12,13 @@ cell_from w a n i = cond (ltb i n) (cell_in w (a + i)) Value.Absent
 -- in the words of the bindings and of the evaluation
 module _ (b w : List ℕ) where
   abbrev pub element_in : Parts → ℕ → Value
-  element_in (Parts.Elements s a n) i = cell_from (words_of b w s) a n i
-  element_in (Parts.Entries s a n) i = Value.Absent
+  element_in (Parts.Elements ro) i = cell_from (words_of b w ro.space) ro.first ro.length i
+  element_in (Parts.Entries ro) i = Value.Absent
   element_in (Parts.Present s a) i = Value.Absent
   element_in Parts.Nothing i = Value.Absent
 
   abbrev pub present_in : Parts → Value
-  present_in (Parts.Elements s a n) = Value.Absent
-  present_in (Parts.Entries s a n) = Value.Absent
+  present_in (Parts.Elements ro) = Value.Absent
+  present_in (Parts.Entries ro) = Value.Absent
   present_in (Parts.Present s a) = cell_in (words_of b w s) a
   present_in Parts.Nothing = Value.Absent

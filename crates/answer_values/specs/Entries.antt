@@ -13,13 +13,13 @@ entry_from w a n i = cond (ltb i n) (cell_in w (a + 2 * i)) Value.Absent
 module _ (b w : List ℕ) where
   -- an entry is two cells, its key and its value
   abbrev pub key_in : Parts → ℕ → Value
-  key_in (Parts.Elements s a n) i = Value.Absent
-  key_in (Parts.Entries s a n) i = entry_from (words_of b w s) a n i
+  key_in (Parts.Elements ro) i = Value.Absent
+  key_in (Parts.Entries ro) i = entry_from (words_of b w ro.space) ro.first ro.length i
   key_in (Parts.Present s a) i = Value.Absent
   key_in Parts.Nothing i = Value.Absent
 
   abbrev pub value_in : Parts → ℕ → Value
-  value_in (Parts.Elements s a n) i = Value.Absent
-  value_in (Parts.Entries s a n) i = entry_from (words_of b w s) (a + 1) n i
+  value_in (Parts.Elements ro) i = Value.Absent
+  value_in (Parts.Entries ro) i = entry_from (words_of b w ro.space) (ro.first + 1) ro.length i
   value_in (Parts.Present s a) i = Value.Absent
   value_in Parts.Nothing i = Value.Absent

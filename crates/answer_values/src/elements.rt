@@ -5,21 +5,28 @@ ghost use Rattle.rooms.specs.Rooms.{words_of};
 ghost use Rattle.answer_values.specs.Elements.{cell_from, element_in, present_in};
 
 use rooms::value::{CellSpace, Parts, Value, parts_of};
-use rooms_cells::cell_at;
+use rooms_cells::read_cell;
+
+// The words of a space. These two slices are all that a caller in C lends to read a value (`board_c`), so they come alone, and not in a `View`.
+pub(crate) fn words_in<'a>(
+    binding_cells: &'a [u64],
+    cells: &'a [u64],
+    space: CellSpace,
+) -> &'a [u64]
+    ensures { result.now ≡ words_of binding_cells.now cells.now space }
+{
+    match space {
+        CellSpace::Binding => binding_cells,
+        CellSpace::Evaluation => cells,
+    }
+}
 
 // Cell `index` of the `length` cells from `first` on; `Absent` where `index` is not below `length`.
-fn cell_from(
-    binding_cells: &[u64],
-    cells: &[u64],
-    space: CellSpace,
-    first: u16,
-    length: u16,
-    index: usize,
-) -> Value
-    ensures { result ≡ cell_from (words_of binding_cells.now cells.now space) first length index }
+fn cell_from(words: &[u64], first: u16, length: u16, index: usize) -> Value
+    ensures { result ≡ cell_from words.now first length index }
 {
     if index < length as usize {
-        cell_at(binding_cells, cells, space, first as usize + index)
+        read_cell(words, first as usize + index)
     } else {
         Value::Absent
     }
@@ -29,19 +36,12 @@ fn cell_from(
 pub fn element_of(binding_cells: &[u64], cells: &[u64], value: Value, index: usize) -> Value
     ensures { result ≡ element_in binding_cells.now cells.now (parts_of value) index }
 {
-    let parts = parts_of(value);
-    match parts {
-        Parts::Elements(space, first, length) => cell_from(
-            binding_cells,
-            cells,
-            space,
-            first,
-            length,
-            index,
-        ),
-        Parts::Entries(_, _, _) => Value::Absent,
-        Parts::Present(_, _) => Value::Absent,
-        Parts::Nothing => Value::Absent,
+    match parts_of(value) {
+        Parts::Elements(row) => {
+            let words = words_in(binding_cells, cells, row.space);
+            cell_from(words, row.first, row.length, index)
+        }
+        _ => Value::Absent,
     }
 }
 
@@ -49,11 +49,11 @@ pub fn element_of(binding_cells: &[u64], cells: &[u64], value: Value, index: usi
 pub fn present_in(binding_cells: &[u64], cells: &[u64], value: Value) -> Value
     ensures { result ≡ present_in binding_cells.now cells.now (parts_of value) }
 {
-    let parts = parts_of(value);
-    match parts {
-        Parts::Elements(_, _, _) => Value::Absent,
-        Parts::Entries(_, _, _) => Value::Absent,
-        Parts::Present(space, cell) => cell_at(binding_cells, cells, space, cell as usize),
-        Parts::Nothing => Value::Absent,
+    match parts_of(value) {
+        Parts::Present(space, cell) => {
+            let words = words_in(binding_cells, cells, space);
+            read_cell(words, cell as usize)
+        }
+        _ => Value::Absent,
     }
 }

@@ -13,12 +13,6 @@ const OPTIONAL_OF: u8 = 15;
 
 const ABSENT: u8 = 16;
 
-#[derive(Clone, Copy)]
-pub enum Truth {
-    Is(bool),
-    NoBool,
-}
-
 // The kinds have the numbers that they have in a cell.
 pub fn kind_of(value: Value) -> u8
     ensures { result ≡ kind_of value }
@@ -30,27 +24,21 @@ pub fn kind_of(value: Value) -> u8
         Value::Uint(_) => UINT,
         Value::Double(_) => DOUBLE,
         Value::Nan(_) => DOUBLE,
-        Value::String(_, _, _) => STRING,
-        Value::Bytes(_, _, _) => BYTES,
-        Value::List(_, _, _, _) => LIST,
-        Value::Map(_, _, _, _) => MAP,
+        Value::String(_) => STRING,
+        Value::Bytes(_) => BYTES,
+        Value::List(_, _) => LIST,
+        Value::Map(_, _) => MAP,
         Value::OptionalNone => OPTIONAL_NONE,
         Value::OptionalOf(_, _, _) => OPTIONAL_OF,
         Value::Absent => ABSENT,
     }
 }
 
-pub fn truth_of(value: Value) -> Truth
+pub fn truth_of(value: Value) -> Option<bool>
     ensures { result ≡ truth_in (plain_of value) }
 {
-    let plain = plain_of(value);
-    match plain {
-        Plain::Null => Truth::NoBool,
-        Plain::Bool(truth) => Truth::Is(truth),
-        Plain::Number(_) => Truth::NoBool,
-        Plain::String(_, _, _) => Truth::NoBool,
-        Plain::Bytes(_, _, _) => Truth::NoBool,
-        Plain::OptionalNone => Truth::NoBool,
-        Plain::Other => Truth::NoBool,
+    match plain_of(value) {
+        Plain::Bool(truth) => Some(truth),
+        _ => None,
     }
 }

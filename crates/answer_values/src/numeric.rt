@@ -1,10 +1,8 @@
 // The number of a value, as a caller reads it. Every reader takes any value.
 ghost use Rattle.std.specs.Prelude.{◌≡◌};
-ghost use Rattle.rooms.specs.declared.value.Plain.TheVariants as Plain;
 ghost use Rattle.rooms.specs.Value.{plain_of};
-ghost use Rattle.answer_values.specs.Numbers.{number_in};
+ghost use Rattle.answer_values.specs.Numbers.{numeric_of, number_in};
 
-use numbers::double::to_bits;
 use numbers::order::Number;
 use rooms::value::{Plain, Value, plain_of};
 
@@ -14,30 +12,23 @@ pub enum Numeric {
     Uint(u64),
     // The bits of a Double.
     Bits(u64),
-    NoNumber,
 }
 
-fn of_number(number: Number) -> Numeric
-    ensures { result ≡ number_in (Plain.Number number) }
+fn numeric_of(number: Number) -> Numeric
+    ensures { result ≡ numeric_of number }
 {
     match number {
         Number::Int(int) => Numeric::Int(int),
         Number::Uint(uint) => Numeric::Uint(uint),
-        Number::Double(double) => Numeric::Bits(to_bits(double)),
+        Number::Double(double) => Numeric::Bits(double.to_bits()),
     }
 }
 
-pub fn number_of(value: Value) -> Numeric
+pub fn number_of(value: Value) -> Option<Numeric>
     ensures { result ≡ number_in (plain_of value) }
 {
-    let plain = plain_of(value);
-    match plain {
-        Plain::Null => Numeric::NoNumber,
-        Plain::Bool(_) => Numeric::NoNumber,
-        Plain::Number(number) => of_number(number),
-        Plain::String(_, _, _) => Numeric::NoNumber,
-        Plain::Bytes(_, _, _) => Numeric::NoNumber,
-        Plain::OptionalNone => Numeric::NoNumber,
-        Plain::Other => Numeric::NoNumber,
+    match plain_of(value) {
+        Plain::Number(number) => Some(numeric_of(number)),
+        _ => None,
     }
 }

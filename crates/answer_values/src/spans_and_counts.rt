@@ -3,28 +3,16 @@ ghost use Rattle.std.specs.Prelude.{◌≡◌};
 ghost use Rattle.rooms.specs.Value.{parts_of, plain_of};
 ghost use Rattle.answer_values.specs.SpansAndCounts.{span_in, count_in};
 
-use rooms::value::{Parts, Plain, TextSpace, Value, parts_of, plain_of};
-
-#[derive(Clone, Copy)]
-pub enum Span {
-    // The space, the first byte and the length.
-    At(TextSpace, u16, u16),
-    NoText,
-}
+use rooms::value::{Parts, Plain, Span, Value, parts_of, plain_of};
 
 // Of a String or of Bytes.
-pub fn text_of(value: Value) -> Span
+pub fn text_of(value: Value) -> Option<Span>
     ensures { result ≡ span_in (plain_of value) }
 {
-    let plain = plain_of(value);
-    match plain {
-        Plain::Null => Span::NoText,
-        Plain::Bool(_) => Span::NoText,
-        Plain::Number(_) => Span::NoText,
-        Plain::String(space, first, length) => Span::At(space, first, length),
-        Plain::Bytes(space, first, length) => Span::At(space, first, length),
-        Plain::OptionalNone => Span::NoText,
-        Plain::Other => Span::NoText,
+    match plain_of(value) {
+        Plain::String(span) => Some(span),
+        Plain::Bytes(span) => Some(span),
+        _ => None,
     }
 }
 
@@ -32,10 +20,9 @@ pub fn text_of(value: Value) -> Span
 pub fn count_of(value: Value) -> u16
     ensures { result ≡ count_in (parts_of value) }
 {
-    let parts = parts_of(value);
-    match parts {
-        Parts::Elements(_, _, length) => length,
-        Parts::Entries(_, _, length) => length,
+    match parts_of(value) {
+        Parts::Elements(row) => row.length,
+        Parts::Entries(row) => row.length,
         Parts::Present(_, _) => 1,
         Parts::Nothing => 0,
     }

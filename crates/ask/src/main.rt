@@ -2,7 +2,7 @@
 // The input: the length of the literal text (two bytes, the lower first), the text, and the table to the end.
 #![tactic(auto)]
 
-ghost use Rattle.std.specs.Prelude.{◌≡◌, ◌<◌, length};
+ghost use Rattle.std.specs.Prelude.{◌≡◌, length};
 
 use line_answers::{LONGEST_LINE, put_answer};
 use program_input::read_full;
@@ -18,38 +18,17 @@ const BYTES: usize = 16384;
 
 const MOST_STEPS: usize = 1000000;
 
-fn input_room() -> [u8; INPUT]
-    ensures { 81922 ≡ length result }
+// A function of its own, so that no proof writes the room out element by element.
+fn room<T: Copy, const N: usize>(zero: T) -> [T; N]
+    ensures { length result ≡ N }
 {
-    [0; INPUT]
-}
-
-fn cell_room() -> [u64; WORDS]
-    ensures { 8192 ≡ length result }
-{
-    [0; WORDS]
-}
-
-fn text_room() -> [u8; BYTES]
-    ensures { 16384 ≡ length result }
-{
-    [0; BYTES]
-}
-
-fn line_room() -> [u8; LONGEST_LINE]
-    ensures { 1000128 ≡ length result }
-{
-    [0; LONGEST_LINE]
-}
-
-fn say(rt: &impl Print, words: &[u8]) -> io::Result<()> {
-    rt.write_all(words)
+    [zero; N]
 }
 
 fn answer(rt: &impl Print, literal: &[u8], table: &[u8]) -> io::Result<()> {
-    let mut cells = cell_room();
-    let mut text = text_room();
-    let mut line = line_room();
+    let mut cells = room::<u64, WORDS>(0);
+    let mut text = room::<u8, BYTES>(0);
+    let mut line = room::<u8, LONGEST_LINE>(0);
     let bindings = bindings::empty();
     let answer = evaluator::evaluate(
         table,
@@ -63,31 +42,23 @@ fn answer(rt: &impl Print, literal: &[u8], table: &[u8]) -> io::Result<()> {
     );
     let length = put_answer(literal, &[], &[], &cells, &text, answer, &mut line);
     let end = bytes_of(&line, length);
-    say(rt, &line[..end])?;
-    say(rt, b"\n")
-}
-
-fn wide(byte: u8) -> usize
-    ensures { result < 256 }
-{
-    byte as usize
+    rt.write_all(&line[..end])?;
+    println!(rt; "")
 }
 
 fn answer_input(rt: &impl Print, input: &[u8]) -> io::Result<()> {
-    let first = 2;
-    if input.len() < first {
-        return say(rt, b"The input ends before the length of its text.\n");
-    }
-    let length = wide(input[0]) + 256 * wide(input[1]);
-    if input.len() - first < length {
-        return say(rt, b"The input ends before its text does.\n");
-    }
-    let start = first + length;
-    answer(rt, &input[first..start], &input[start..])
+    let [low, high, rest @ ..] = input else {
+        return println!(rt; "The input ends before the length of its text.");
+    };
+    let length = usize::from(u16::from_le_bytes([*low, *high]));
+    let Some((literal, table)) = rest.split_at_checked(length) else {
+        return println!(rt; "The input ends before its text does.");
+    };
+    answer(rt, literal, table)
 }
 
 fn main(rt: HostRuntime) -> io::Result<()> {
-    let mut input = input_room();
+    let mut input = room::<u8, INPUT>(0);
     let count = read_full(&mut rt.stdin(), &mut input)?;
     answer_input(&rt, &input[..count])
 }

@@ -7,7 +7,10 @@ use native.Mathlib.Omega.{arith}
 use lib.Dec.{leb}
 use lib.ListN.{get_or}
 use borrow.Author.Tests.{le-leb, lt-leb, leb-true, leb-false}
-use Rattle.meaning.specs.Errors.{Refusal, UnsoundBinding, BindingRoomFull}
+use Rattle.meaning.specs.declared.refusal.Reason.{Reason}
+use Rattle.meaning.specs.declared.refusal.Refusal.{Refusal}
+use Rattle.meaning.specs.declared.refusal.Reason.TheVariants.{UnsoundBinding, NotALiteral, BindingRoomFull}
+use Rattle.meaning.specs.Errors.{refusal_at}
 use Rattle.meaning.specs.Value.{Value}
 use Rattle.meaning.specs.Expr.{Expr}
 use Rattle.meaning.specs.Heads.{Got, got, refused, ◌>>=◌, ◌>>◌, demand, start}
@@ -16,10 +19,8 @@ use Rattle.meaning.specs.Spelling.{Literal, literal_of, place_of, literal_nestin
 use Rattle.meaning_laws.proofs.Reading.{was_read}
 use Rattle.meaning_laws.proofs.SpelledReasons.{literal-reason, root-reason, root-refused}
 use Rattle.table_check.specs.Records.{expr_of, part_of, Sound}
-use Rattle.bindings_literals.specs.declared.judgement.Fault.TheVariants.{At, Nowhere}
 use Rattle.bindings_literals.specs.declared.judgement.Judged.{Judged}
-use Rattle.bindings.specs.declared.admission.Answer.{Answer}
-use Rattle.bindings.specs.declared.admission.Answer.TheVariants.{Done, Refused}
+use Rattle.std.specs.Prelude.{None, Some, Result, Ok, Err}
 use Rattle.bindings_literals.specs.Literals.{literal_in}
 use Rattle.bindings_literals.specs.Judging.{fault_in, cells_for, bytes_for, judged_of, judged_part}
 use Rattle.bindings.specs.Bringing.{literal_for, said}
@@ -36,11 +37,11 @@ room-left room used need h = by-test (leb need (room - used)) refl
 
 -- ---- what was refused, and what was not
 
-fault-refused : {A : Type 0} (g : Got A) (p : ℕ) → fault_in g ≡ At p → (why : Refusal) × (g ≡ refused why p)
+fault-refused : {A : Type 0} (g : Got A) (p : ℕ) → fault_in g ≡ Some p → (why : Reason) × (g ≡ refused why p)
 fault-refused (got a) p e = let z : ◌≡◌ {A = ℕ} 0 1 = cc in absurd (omega arith)
 fault-refused (refused r q) p e = let f : q ≡ p = cc in (r, ap (λ n. refused r n) f)
 
-fault-none : {A : Type 0} (g : Got A) → fault_in g ≡ Nowhere → (a : A) × (g ≡ got a)
+fault-none : {A : Type 0} (g : Got A) → fault_in g ≡ None → (a : A) × (g ≡ got a)
 fault-none (got a) e = (a, refl)
 fault-none (refused r p) e = let z : ◌≡◌ {A = ℕ} 0 1 = cc in absurd (omega arith)
 
@@ -48,15 +49,15 @@ fault-none (refused r p) e = let z : ◌≡◌ {A = ℕ} 0 1 = cc in absurd (ome
 
 -- what the definition says of one whose literals are l, and whose root spells v
 module _ (rc rb c b : ℕ) (e : Expr) where
-  abbrev Says : Answer → Type 0
+  abbrev Says : Result (Unit {0}) Refusal → Type 0
   Says a = a ≡ said (literal_for rc rb c b e)
 
-  not-literal : (p : ℕ) → fault_in (literal_of e) ≡ At p → Says (Refused 9 p)
+  not-literal : (p : ℕ) → fault_in (literal_of e) ≡ Some p → Says (Err (refusal_at NotALiteral p))
   unfolding literal_for ◌>>=◌
   not-literal p f = let r = fault-refused (literal_of e) p f in let g = literal-reason e r.0 p r.1 in rw (r.1, g)
 
   module _ (l : Literal) (made : literal_of e ≡ got l) where
-    no-root : (why : Refusal) (p : ℕ) → spelled_root l ≡ refused why p → Says (Refused 8 p)
+    no-root : (why : Reason) (p : ℕ) → spelled_root l ≡ refused why p → Says (Err (refusal_at UnsoundBinding p))
     unfolding literal_for ◌>>=◌
     no-root why p f = let g = root-reason l why p f in rw (made, f, g)
 
@@ -65,11 +66,11 @@ module _ (rc rb c b : ℕ) (e : Expr) where
       unfolding literal_for ◌>>=◌
       weighed a d f g = rw (made, root, f, g)
 
-      full : (a d : Bool) → (a && d) ≡ false → leb (c + cells_of v) rc ≡ a → leb (b + bytes_of v) rb ≡ d → Says (Refused 10 0)
+      full : (a d : Bool) → (a && d) ≡ false → leb (c + cells_of v) rc ≡ a → leb (b + bytes_of v) rb ≡ d → Says (Err (refusal_at BindingRoomFull 0))
       unfolding ◌>>◌ ◌>>=◌ demand
       full a d h f g = (rw h at (weighed a d f g))
 
-      fitting : leb (c + cells_of v) rc ≡ true → leb (b + bytes_of v) rb ≡ true → Says Done
+      fitting : leb (c + cells_of v) rc ≡ true → leb (b + bytes_of v) rb ≡ true → Says (Ok tt)
       unfolding ◌>>◌ ◌>>=◌ demand
       fitting f g = weighed true true f g
 
@@ -96,7 +97,7 @@ module _ (t x : List ℕ) (small : (i : ℕ) → get_or t i 0 < 256) (s : Sound 
   abbrev e : Expr
   e = expr_of t x 0
 
-  abbrev Answers : Answer → Type 0
+  abbrev Answers : Result (Unit {0}) Refusal → Type 0
   Answers a = a ≡ said (literal_for rc rb c b e)
 
   judged : j ≡ judged_of e
@@ -123,14 +124,14 @@ module _ (t x : List ℕ) (small : (i : ℕ) → get_or t i 0 < 256) (s : Sound 
   unfolding judged_of
   bytes-are = ap (λ (k : Judged). k.bytes) judged
 
-  pub table-other : (p : ℕ) → j.other ≡ At p → Answers (Refused 9 p)
+  pub table-other : (p : ℕ) → j.other ≡ Some p → Answers (Err (refusal_at NotALiteral p))
   table-other p f = not-literal rc rb c b e p (sym other-is ∙ f)
 
-  module _ (f : j.other ≡ Nowhere) where
+  module _ (f : j.other ≡ None) where
     made : literal_of e ≡ got (literal_in e)
     made = let a = fault-none (literal_of e) (sym other-is ∙ f) in let g = was_read (literal-in e) a.1 in a.1 ∙ ap (λ (l : Literal). got l) (sym g)
 
-    pub table-deep : 32 < j.nesting → Answers (Refused 8 0)
+    pub table-deep : 32 < j.nesting → Answers (Err (refusal_at UnsoundBinding 0))
     table-deep h =
         let d = deep-root (literal_in e) (omega (arith, nesting-is)) in
         no-root rc rb c b e (literal_in e) made UnsoundBinding 0 (d ∙ ap (λ n. refused UnsoundBinding n) (root-place t x 0 (view t x 0 small s)))
@@ -139,12 +140,12 @@ module _ (t x : List ℕ) (small : (i : ℕ) → get_or t i 0 < 256) (s : Sound 
       flat : literal_nesting (literal_in e) ≤ 32
       flat = omega (arith, nesting-is)
 
-      pub table-key : (p : ℕ) → j.key ≡ At p → Answers (Refused 8 p)
+      pub table-key : (p : ℕ) → j.key ≡ Some p → Answers (Err (refusal_at UnsoundBinding p))
       table-key p k =
           let r = fault-refused (spelled (literal_in e)) p (sym key-is ∙ k) in
           no-root rc rb c b e (literal_in e) made r.0 p (root-refused (literal_in e) flat r.0 p r.1)
 
-      module _ (k : j.key ≡ Nowhere) where
+      module _ (k : j.key ≡ None) where
         spelt : (v : Value) × (spelled (literal_in e) ≡ got v)
         spelt = fault-none (spelled (literal_in e)) (sym key-is ∙ k)
 
@@ -157,11 +158,11 @@ module _ (t x : List ℕ) (small : (i : ℕ) → get_or t i 0 < 256) (s : Sound 
         bytes-of : bytes_of spelt.0 ≡ j.bytes
         bytes-of = spells-bytes (was_read (spelled-spells (literal_in e)) spelt.1) ∙ sym bytes-are
 
-        pub table-cells : leb (c + j.cells) rc ≡ false → Answers (Refused 10 0)
+        pub table-cells : leb (c + j.cells) rc ≡ false → Answers (Err (refusal_at BindingRoomFull 0))
         table-cells m = full rc rb c b e (literal_in e) made spelt.0 root false (leb (b + bytes_of spelt.0) rb) refl (rw cells-of m) refl
 
-        pub table-bytes : leb (c + j.cells) rc ≡ true → leb (b + j.bytes) rb ≡ false → Answers (Refused 10 0)
+        pub table-bytes : leb (c + j.cells) rc ≡ true → leb (b + j.bytes) rb ≡ false → Answers (Err (refusal_at BindingRoomFull 0))
         table-bytes m n = full rc rb c b e (literal_in e) made spelt.0 root true false refl (rw cells-of m) (rw bytes-of n)
 
-        pub table_done : leb (c + j.cells) rc ≡ true → leb (b + j.bytes) rb ≡ true → Answers Done
+        pub table_done : leb (c + j.cells) rc ≡ true → leb (b + j.bytes) rb ≡ true → Answers (Ok tt)
         table_done m n = fitting rc rb c b e (literal_in e) made spelt.0 root (rw cells-of m) (rw bytes-of n)

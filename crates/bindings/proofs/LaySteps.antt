@@ -30,13 +30,14 @@ use Rattle.bindings_literals.proofs.Rows.{first_part, first-bytes}
 use Rattle.bindings_literals.proofs.LiteralLaws.{Moved, View, a_scalar, a_list, a_map, another, view, no-literal}
 use Rattle.bindings_literals.proofs.PartLaws.{bare-part, ListAt, MapAt, list_at_lem, map_at_lem}
 use Rattle.bindings.proofs.LayLaws.{laid_cells, laid-bytes, laid-nesting, pairs-row, flat-nesting, flat-cells, flat-bytes, elements-row, row_count, count-cells, pairs-count, entries-row}
+use Rattle.rooms.specs.Spans.{row}
 
 back : (n : ℕ) → suc n - 1 ≡ n
 back n = omega arith
 
 -- ---- a record without parts
 
-module _ (t x : List ℕ) (p : ℕ) (small : (i : ℕ) → get_or t i 0 < 256) (s : SoundPart t x p) (v : Value) (e : v ≡ literal_value t p) (k : ℕ) (f : k ≡ get_or t p 0) where
+module _ (t x : List ℕ) (p : ℕ) (small : (i : ℕ) → get_or t i 0 < 256) (s : SoundPart t x p) {v : Value} (e : v ≡ literal_value t p) {k : ℕ} (f : k ≡ get_or t p 0) where
   abbrev here : Literal
   here = part_literal (part_of t x p)
 
@@ -80,15 +81,15 @@ entries-operands t x (suc n) q es =
     let two : 2 * suc n ≡ suc (suc (2 * n)) = omega arith in
     rw two (((bare-part t x q es.0).0, (es.1, i.0)), ap (λ m. word_at t (q + 1) + (word_at t (after t q + 1) + m)) i.1)
 
+-- what is asked of a row of n parts from `first` on
+abbrev pub RowFits : (t x : List ℕ) → (used bytes first n : ℕ) → Type 0
+RowFits t x used bytes first n =
+    Operands t x n first × (first + row_bytes t n first ≤ length t) × (length t ≤ 16384) × (literals_nesting (row_literals t x n first) < 32) ×
+    (used + cells_among (row_literals t x n first) ≤ 4096) × (bytes + bytes_among (row_literals t x n first) ≤ 16384)
+
 module _ (t x : List ℕ) (p : ℕ) (s : SoundPart t x p) (long : length t ≤ 16384) (used bytes : ℕ) (nests : literal_nesting (part_literal (part_of t x p)) ≤ 32)
     (cells : used + cells_for (part_literal (part_of t x p)) ≤ 4096) (texts : bytes + bytes_for (part_literal (part_of t x p)) ≤ 16384)
-    (k : ℕ) (e : k ≡ get_or t p 0) (first count : ℕ) (f : first ≡ p + head_bytes (get_or t p 0)) (c : count ≡ word_at t (p + 3)) where
-  -- what is asked of the row of parts
-  abbrev pub RowFits : ℕ → Type 0
-  RowFits n =
-      Operands t x n first × (first + row_bytes t n first ≤ length t) × (length t ≤ 16384) × (literals_nesting (row_literals t x n first) < 32) ×
-      (used + cells_among (row_literals t x n first) ≤ 4096) × (bytes + bytes_among (row_literals t x n first) ≤ 16384)
-
+    {k : ℕ} (e : k ≡ get_or t p 0) {first count : ℕ} (f : first ≡ p + head_bytes (get_or t p 0)) (c : count ≡ word_at t (p + 3)) where
   module _ (twelve : k ≡ 12) where
     o : ListAt t x p
     o = list_at_lem t x p s (sym e ∙ twelve)
@@ -100,7 +101,7 @@ module _ (t x : List ℕ) (p : ℕ) (s : SoundPart t x p) (long : length t ≤ 1
     unfolding part_literal literal_in
     list-literal = ap part_literal o.is ∙ (rw (first-is, c) (ap (λ (ls : Literals). list_at p ls) (elements-row t x (word_at t (p + 3)) (p + 5))))
 
-    pub list-fits : RowFits count
+    pub list-fits : RowFits t x used bytes first count
     unfolding literal_nesting cells_for bytes_for
     list-fits =
         let n : suc (literals_nesting (row_literals t x count first)) ≤ 32 = rw list-literal at nests in
@@ -112,11 +113,14 @@ module _ (t x : List ℕ) (p : ℕ) (s : SoundPart t x p) (long : length t ≤ 1
     pub list-falls : 2 * row_bytes t count first + 1 < 2 * word_at t (p + 1)
     list-falls = rw (first-is, c) (omega (arith, o.ends))
 
-    pub list-laid : (w u w' u' : List ℕ) (d a b : ℕ) → d ≡ literals_nesting (row_literals t x count first) →
-        room w' u' a b ≡ laid_row (row_literals t x count first) used (room w u (used + count) bytes) →
-        ◌≡◌ {A = Value × Room} (Value.List (d + 1) Cells.Binding used count, room w' u' a b) (laid (part_literal (part_of t x p)) (room w u used bytes))
+    pub list-laid : (w u : List ℕ) {d : ℕ} {r : Room} →
+        ◌≡◌ {A = ℕ × Room} (d, r) (literals_nesting (row_literals t x count first), laid_row (row_literals t x count first) used (room w u (used + count) bytes)) →
+        ◌≡◌ {A = Value × Room} (Value.List (d + 1) (row Cells.Binding used count), r) (laid (part_literal (part_of t x p)) (room w u used bytes))
     unfolding laid
-    list-laid w u w' u' d a b g h = rw (list-literal, row_count t x count first, g, h, add-one)
+    list-laid w u {d} {r} e =
+        let g : d ≡ literals_nesting (row_literals t x count first) = ap (λ (a : ℕ × Room). a.0) e in
+        let h : r ≡ laid_row (row_literals t x count first) used (room w u (used + count) bytes) = ap (λ (a : ℕ × Room). a.1) e in
+        rw (list-literal, row_count t x count first, g, h, add-one)
 
   module _ (thirteen : k ≡ 13) where
     m : MapAt t x p
@@ -138,7 +142,7 @@ module _ (t x : List ℕ) (p : ℕ) (s : SoundPart t x p) (long : length t ≤ 1
     row_is : flat pairs ≡ row_literals t x (2 * count) first
     row_is = entries-row t x count first entries
 
-    pub map-fits : RowFits (2 * count)
+    pub map-fits : RowFits t x used bytes first (2 * count)
     unfolding literal_nesting cells_for bytes_for
     map-fits =
         let n : suc (literals_nesting (row_literals t x (2 * count) first)) ≤ 32 = rw (map-literal, flat-nesting pairs, row_is) at nests in
@@ -154,11 +158,14 @@ module _ (t x : List ℕ) (p : ℕ) (s : SoundPart t x p) (long : length t ≤ 1
         let z : entry_bytes t (word_at t (p + 3)) (p + 5) ≡ entry_bytes t count first = (rw (first-entry-is, c)) in
         omega (arith, i.1, z, m.ends)
 
-    pub map-laid : (w u w' u' : List ℕ) (d a b : ℕ) → d ≡ literals_nesting (row_literals t x (2 * count) first) →
-        room w' u' a b ≡ laid_row (row_literals t x (2 * count) first) used (room w u (used + 2 * count) bytes) →
-        ◌≡◌ {A = Value × Room} (Value.Map (d + 1) Cells.Binding used count, room w' u' a b) (laid (part_literal (part_of t x p)) (room w u used bytes))
+    pub map-laid : (w u : List ℕ) {d : ℕ} {r : Room} →
+        ◌≡◌ {A = ℕ × Room} (d, r)
+        (literals_nesting (row_literals t x (2 * count) first), laid_row (row_literals t x (2 * count) first) used (room w u (used + 2 * count) bytes)) →
+        ◌≡◌ {A = Value × Room} (Value.Map (d + 1) (row Cells.Binding used count), r) (laid (part_literal (part_of t x p)) (room w u used bytes))
     unfolding laid
-    map-laid w u w' u' d a b g h =
+    map-laid w u {d} {r} e =
+        let g : d ≡ literals_nesting (row_literals t x (2 * count) first) = ap (λ (a : ℕ × Room). a.0) e in
+        let h : r ≡ laid_row (row_literals t x (2 * count) first) used (room w u (used + 2 * count) bytes) = ap (λ (a : ℕ × Room). a.1) e in
         rw (map-literal, pairs-count t x count first, pairs-row pairs used (room w u (used + 2 * count) bytes), flat-nesting pairs, row_is, g, h, add-one)
 
 -- ---- a row of parts
@@ -185,9 +192,11 @@ module _ (t x : List ℕ) where
 
   module _ (first count used bytes : ℕ) (words text : List ℕ) where
     pub row-start : Operands t x count first → used + cells_among (row_literals t x count first) ≤ 4096 →
-        bytes + bytes_among (row_literals t x count first) ≤ 16384 → RowLeft t x first count used bytes words text words text 0 (used + count) bytes first count used
+        bytes + bytes_among (row_literals t x count first) ≤ 16384 →
+        RowLeft t x first count used bytes words text words text 0 (used + count) bytes first (used + count - used) used
     row-start o c b =
-        record {
+        rw (all_left used count)
+        (record {
           rest = o;
           from = omega arith;
           ends = refl;
@@ -199,69 +208,74 @@ module _ (t x : List ℕ) where
           kept = refl;
           kept-text = refl;
           same = refl;
-        }
+        })
+      where
+        all_left : (m n : ℕ) → m + n - m ≡ n
+        all_left m n = omega arith
 
-  module _ (first count used bytes : ℕ) (words₀ text₀ words text : List ℕ) (nesting cells used-bytes at left to : ℕ)
-      (l : RowLeft t x first count used bytes words₀ text₀ words text nesting cells used-bytes at left to) where
-    pub row_done : left ≤ 0 → (nesting ≡ literals_nesting (row_literals t x count first)) ×
-        (room words text cells used-bytes ≡ laid_row (row_literals t x count first) used (room words₀ text₀ (used + count) bytes))
-    unfolding row_literals literals_nesting laid_row
-    row_done h =
-        let z : left ≡ 0 = omega arith in
-        let d : max nesting 0 ≡ literals_nesting (row_literals t x count first) = rw z at l.deep in
-        let e : room words text cells used-bytes ≡ laid_row (row_literals t x count first) used (room words₀ text₀ (used + count) bytes) = rw z at l.same in
-        (omega (arith, d), e)
+module _ {t x : List ℕ} {first count used bytes : ℕ} {words₀ text₀ words text : List ℕ} {nesting cells used-bytes at left to : ℕ}
+    (l : RowLeft t x first count used bytes words₀ text₀ words text nesting cells used-bytes at left to) where
+  pub row_done : left ≤ 0 →
+      ◌≡◌ {A = ℕ × Room} (nesting, room words text cells used-bytes)
+      (literals_nesting (row_literals t x count first), laid_row (row_literals t x count first) used (room words₀ text₀ (used + count) bytes))
+  unfolding row_literals literals_nesting laid_row
+  row_done h =
+      let z : left ≡ 0 = omega arith in
+      let d : max nesting 0 ≡ literals_nesting (row_literals t x count first) = rw z at l.deep in
+      let n : nesting ≡ literals_nesting (row_literals t x count first) = omega (arith, d) in
+      let e : room words text cells used-bytes ≡ laid_row (row_literals t x count first) used (room words₀ text₀ (used + count) bytes) = rw z at l.same in
+      λ i. (n i, e i)
 
-    module _ (h : 0 < left) where
-      abbrev part : Literal
-      part = part_literal (part_of t x at)
+  module _ (h : 0 < left) where
+    abbrev part : Literal
+    part = part_literal (part_of t x at)
 
-      abbrev others : Literals
-      others = row_literals t x (left - 1) (after t at)
+    abbrev others : Literals
+    others = row_literals t x (left - 1) (after t at)
 
-      pub row_here : SoundPart t x at
-      row_here = (first_part t x left at h l.rest).0
+    pub row_here : SoundPart t x at
+    row_here = (first_part t x left at h l.rest).0
 
-      pub row-falls : word_at t (at + 1) ≤ row_bytes t count first
-      row-falls = omega (arith, first-bytes t x left at h, l.ends, l.from)
+    pub row-falls : word_at t (at + 1) ≤ row_bytes t count first
+    row-falls = omega (arith, first-bytes t x left at h, l.ends, l.from)
 
-      sums : (cells + suc (cells_for part + cells_among others) ≤ 4096 + left) × (used-bytes + (bytes_for part + bytes_among others) ≤ 16384) ×
-          (max nesting (max (literal_nesting part) (literals_nesting others)) ≡ literals_nesting (row_literals t x count first))
-      unfolding cells_among bytes_among literals_nesting
-      sums = (rw (row_next left at h) at l.fits, rw (row_next left at h) at l.texts, rw (row_next left at h) at l.deep)
+    sums : (cells + suc (cells_for part + cells_among others) ≤ 4096 + left) × (used-bytes + (bytes_for part + bytes_among others) ≤ 16384) ×
+        (max nesting (max (literal_nesting part) (literals_nesting others)) ≡ literals_nesting (row_literals t x count first))
+    unfolding cells_among bytes_among literals_nesting
+    sums = (rw (row_next t x left at h) at l.fits, rw (row_next t x left at h) at l.texts, rw (row_next t x left at h) at l.deep)
 
-      pub row_fits : literals_nesting (row_literals t x count first) < 32 → (literal_nesting part ≤ 32) × (cells + cells_for part ≤ 4096) × (used-bytes + bytes_for part ≤ 16384)
-      row_fits n = (
-        omega (arith, sums.2, n),
-        omega (arith, sums.0, count-cells t x (left - 1) (after t at)),
-        omega (arith, sums.1),
-      )
+    pub row_fits : literals_nesting (row_literals t x count first) < 32 → (literal_nesting part ≤ 32) × (cells + cells_for part ≤ 4096) × (used-bytes + bytes_for part ≤ 16384)
+    row_fits n = (
+      omega (arith, sums.2, n),
+      omega (arith, sums.0, count-cells t x (left - 1) (after t at)),
+      omega (arith, sums.1),
+    )
 
-      module _ (words' text' : List ℕ) (v : Value) (c b : ℕ) (e : ◌≡◌ {A = Value × Room} (v, room words' text' c b) (laid part (room words text cells used-bytes)))
-          (kept : length words' ≡ length words) (kept-text : length text' ≡ length text) where
-        cells_are : c ≡ cells + cells_for part
-        cells_are = ap (λ (a : Value × Room). a.1.cells) e ∙ laid_cells part (room words text cells used-bytes)
+    module _ {words' text' : List ℕ} {v : Value} {c b : ℕ} (e : ◌≡◌ {A = Value × Room} (v, room words' text' c b) (laid part (room words text cells used-bytes)))
+        (kept : length words' ≡ length words) (kept-text : length text' ≡ length text) where
+      cells_are : c ≡ cells + cells_for part
+      cells_are = ap (λ (a : Value × Room). a.1.cells) e ∙ laid_cells part (room words text cells used-bytes)
 
-        bytes-are : b ≡ used-bytes + bytes_for part
-        bytes-are = ap (λ (a : Value × Room). a.1.bytes) e ∙ laid-bytes part (room words text cells used-bytes)
+      bytes-are : b ≡ used-bytes + bytes_for part
+      bytes-are = ap (λ (a : Value × Room). a.1.bytes) e ∙ laid-bytes part (room words text cells used-bytes)
 
-        nesting-is : nesting_of v ≡ literal_nesting part
-        nesting-is = ap (λ (a : Value × Room). nesting_of a.0) e ∙ laid-nesting part (room words text cells used-bytes)
+      nesting-is : nesting_of v ≡ literal_nesting part
+      nesting-is = ap (λ (a : Value × Room). nesting_of a.0) e ∙ laid-nesting part (room words text cells used-bytes)
 
-        pub row-again : (written : List ℕ) (d n a : ℕ) → written ≡ written_in words' to v → n ≡ nesting_of v → d ≡ max nesting n → a ≡ after t at →
-            RowLeft t x first count used bytes words₀ text₀ written text' d c b a (left - 1) (to + 1)
-        unfolding laid_row
-        row-again written d n a f g i j =
-            rw j (record {
-              rest = (first_part t x left at h l.rest).1;
-              from = omega (arith, l.from);
-              ends = omega (arith, first-bytes t x left at h, l.ends);
-              place = omega (arith, l.place);
-              most = l.most;
-              deep = omega (arith, sums.2, nesting-is, g, i);
-              fits = omega (arith, sums.0, cells_are);
-              texts = omega (arith, sums.1, bytes-are);
-              kept = ap length f ∙ (written-length words' to v ∙ (kept ∙ l.kept));
-              kept-text = kept-text ∙ l.kept-text;
-              same = (rw (f, add-one to) (ap (λ (q : Value × Room). laid_row others (suc to) (put q to)) e)) ∙ (ap (λ (ls : Literals). laid_row ls to (room words text cells used-bytes)) (sym (row_next left at h)) ∙ l.same);
-            })
+      pub row-again : {written : List ℕ} {d n a m : ℕ} → m ≡ left - 1 → written ≡ written_in words' to v → n ≡ nesting_of v → d ≡ max nesting n → a ≡ after t at →
+          RowLeft t x first count used bytes words₀ text₀ written text' d c b a m (to + 1)
+      unfolding laid_row
+      row-again {written} {d} {n} {a} {m} z f g i j =
+          rw (j, z) (record {
+            rest = (first_part t x left at h l.rest).1;
+            from = omega (arith, l.from);
+            ends = omega (arith, first-bytes t x left at h, l.ends);
+            place = omega (arith, l.place);
+            most = l.most;
+            deep = omega (arith, sums.2, nesting-is, g, i);
+            fits = omega (arith, sums.0, cells_are);
+            texts = omega (arith, sums.1, bytes-are);
+            kept = ap length f ∙ (written-length words' to v ∙ (kept ∙ l.kept));
+            kept-text = kept-text ∙ l.kept-text;
+            same = (rw (f, add-one to) (ap (λ (q : Value × Room). laid_row others (suc to) (put q to)) e)) ∙ (ap (λ (ls : Literals). laid_row ls to (room words text cells used-bytes)) (sym (row_next t x left at h)) ∙ l.same);
+          })

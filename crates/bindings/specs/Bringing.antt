@@ -1,6 +1,8 @@
 -- Bringing in a binding: the refusals in their order, and what the room is afterwards.
-use Rattle.std.specs.Prelude.{ℕ, ◌+◌, List, ◌&&◌, leb}
-use Rattle.meaning.specs.Errors.{WrongField, BindingRoomFull, NameBound, refusal_number}
+use Rattle.std.specs.Prelude.{ℕ, ◌+◌, List, ◌&&◌, leb, Result, Ok, Err}
+use Rattle.meaning.specs.Errors.{refusal_at}
+use Rattle.meaning.specs.declared.refusal.Refusal.{Refusal}
+use Rattle.meaning.specs.declared.refusal.Reason.TheVariants.{WrongField, BindingRoomFull, NameBound}
 use Rattle.meaning.specs.Expr.{Expr}
 use Rattle.meaning.specs.Kinds.{name_of}
 use Rattle.meaning.specs.Heads.{Got, got, refused, ◌>>=◌, ◌>>◌, demand, or_refuse, start}
@@ -13,9 +15,6 @@ use Rattle.rooms.specs.Scope.{empty_slots, slot_of, stored}
 use Rattle.bindings_sound.specs.declared.Bindings.{Bindings}
 use Rattle.bindings_sound.specs.Fits.{is_absent}
 use Rattle.bindings_sound.specs.Sound.{sound_of, if_sound}
-use Rattle.bindings.specs.declared.admission.Answer.{Answer}
-use Rattle.bindings.specs.declared.admission.Answer.TheVariants.{Done, Refused}
-use Rattle.bindings.specs.declared.admission.Brought.{Brought}
 use Rattle.bindings_literals.specs.Laying.{Room, room, laid}
 
 -- what a table may be laid down as, in rooms of so many cells and bytes of which some are used
@@ -35,13 +34,14 @@ accepted w t b name table literal =
       e ← read_table table literal
       literal_for (cell_room w) (text_room t) b.cells b.bytes e
 
-abbrev pub said : {A : Type 0} → Got A → Answer
-said (got a) = Done
-said (refused r p) = Refused (refusal_number r) p
+abbrev pub said : {A : Type 0} → Got A → Result (Unit {0}) Refusal
+said (got a) = Ok tt
+said (refused r p) = Err (refusal_at r p)
 
--- the answer with the bindings, and the lent words and text
+-- the answer, and afterwards the bindings, and the lent words and text
 pub record Outcome : Type 0 where
-  pub brought : Brought
+  pub answer : Result (Unit {0}) Refusal
+  pub bindings : Bindings
   pub words : List ℕ
   pub text : List ℕ
 
@@ -50,10 +50,11 @@ bound b name a = record { scope = stored b.scope name a.0; cells = a.1.cells; by
 
 -- a refusal changes nothing
 abbrev pub after : (words text : List ℕ) → Bindings → ℕ → Got Literal → Outcome
-after w t b name (refused r p) = record { brought = record { answer = Refused (refusal_number r) p; bindings = b }; words = w; text = t }
+after w t b name (refused r p) = record { answer = Err (refusal_at r p); bindings = b; words = w; text = t }
 after w t b name (got l) =
     record {
-      brought = record { answer = Done; bindings = bound b name (laid l (room w t b.cells b.bytes)) };
+      answer = Ok tt;
+      bindings = bound b name (laid l (room w t b.cells b.bytes));
       words = (laid l (room w t b.cells b.bytes)).1.words;
       text = (laid l (room w t b.cells b.bytes)).1.text;
     }

@@ -1,2 +1,3 @@
--- What the contracts cite: bringing in (`Bringing`).
+-- What the contracts cite: bringing in (`Bringing`), and what laying does with a lent room (`Lays`).
 pub mod Bringing
+pub mod Lays

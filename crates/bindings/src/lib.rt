@@ -9,48 +9,37 @@ pub mod laying;
 ghost use Rattle.std.specs.Prelude.{◌≡◌};
 ghost use Rattle.bindings.specs.Bringing.{Outcome, outcome_of, emptied};
 
-use crate::admission::{Answer, Brought, judge_all};
+use crate::admission::judge_all;
+use crate::laying::Laying;
 use bindings_sound::Bindings;
+use meaning::refusal::Refusal;
 use rooms::scope::Scope;
 
 // Brings in the value that a table spells, under a name that has none.
 pub fn bring_in(
     cells: &mut [u64],
     text: &mut [u8],
-    bindings: Bindings,
+    bindings: &mut Bindings,
     name: usize,
     table: &[u8],
     literal: &[u8],
-) -> Brought
-    ensures { ◌≡◌ {A = Outcome} (record { brought = result; words = cells.new; text = text.new }) (outcome_of cells.old text.old bindings name table.now literal.now) }
+) -> Result<(), Refusal>
+    ensures { ◌≡◌ {A = Outcome} (record { answer = result; bindings = bindings.new; words = cells.new; text = text.new }) (outcome_of cells.old text.old bindings.old name table.now literal.now) }
 {
-    let answer = judge_all(cells, text, bindings, name, table, literal);
-    if let Answer::Refused(number, place) = answer {
-        return Brought {
-            answer: Answer::Refused(number, place),
-            bindings,
-        };
-    }
-    let laid = crate::laying::lay(
-        table,
-        literal,
+    judge_all(cells, text, *bindings, name, table, literal)?;
+    let mut room = Laying {
         cells,
         text,
-        0,
-        bindings.cells,
-        bindings.bytes,
-    );
-    let value = laid.value;
-    let before = bindings.scope;
-    let scope = Scope::with(before, name, value);
-    Brought {
-        answer: Answer::Done,
-        bindings: Bindings {
-            scope,
-            cells: laid.cells,
-            bytes: laid.bytes,
-        },
-    }
+        used: bindings.cells,
+        bytes: bindings.bytes,
+    };
+    let value = room.lay(table, literal, 0);
+    *bindings = Bindings {
+        scope: Scope::with(bindings.scope, name, value),
+        cells: room.used,
+        bytes: room.bytes,
+    };
+    Ok(())
 }
 
 // A fresh room, and what any room becomes when it is emptied: no name has a value, and all of the lent memory serves again.

@@ -3,7 +3,7 @@
 use Prim.Native.Nat.{ℕ, ◌/◌}
 use mathlib.Core.Path.{◌≡◌, sym, ◌∙◌, subst}
 use mathlib.Core.List.{List}
-use mathlib.Core.Option.{some}
+use Rattle.std.specs.Prelude.{Some}
 use lib.ListN.{length}
 use Rattle.meaning.specs.Heads.{Got, got}
 use Rattle.meaning.specs.Bindings.{BindingRoom, bring}
@@ -25,10 +25,10 @@ module _ (w t : List ℕ) (b : Bindings) (slots : length b.scope.slots ≡ 128) 
   holds_then = subst (λ (g : Got BindingRoom). Brings w t b g o) accepted ((brings-in w t b slots name table text table_bytes text_bytes).sound room stands)
 
   -- The name holds the value that the table spells.
-  pub name-holds : held_scope o.words o.text o.brought.bindings name ≡ some (brought-value (length w / 2) (length t) room name table text more accepted).held
+  pub name-holds : held_scope o.words o.text o.bindings name ≡ Some (brought-value (length w / 2) (length t) room name table text more accepted).held
   name-holds = holds_then.stands.scope name ∙ (brought-value (length w / 2) (length t) room name table text more accepted).holds
 
   -- Every other name holds what it held.
-  pub others-hold : (n : ℕ) → (n ≡ name → ⊥) → held_scope o.words o.text o.brought.bindings n ≡ held_scope w t b n
+  pub others-hold : (n : ℕ) → (n ≡ name → ⊥) → held_scope o.words o.text o.bindings n ≡ held_scope w t b n
   others-hold n other =
       holds_then.stands.scope n ∙ (others-kept (length w / 2) (length t) room name table text more accepted n other ∙ sym (stands.scope n))

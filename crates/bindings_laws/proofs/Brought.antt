@@ -4,14 +4,15 @@ use Prim.Native.Nat.{ℕ, suc, ◌+◌, ◌*◌, ◌/◌, ◌≤◌, ◌<◌, mi
 use mathlib.Core.Path.{◌≡◌, refl, sym, ap, ap₂, ◌∙◌}
 use mathlib.Core.Logic.{◌⊎◌, inl, inr}
 use mathlib.Core.List.{List, []}
-use mathlib.Core.Option.{Option, none, some}
+use Rattle.std.specs.Prelude.{Option, None, Some, Ok}
 use mathlib.Core.Bool.{Bool, true, false, not, ◌&&◌, ◌||◌, cond}
 use native.Mathlib.Omega.{arith}
 use lib.Dec.{leb, eqb, ltb}
 use lib.ListN.{length}
 use borrow.Author.Tests.{eqb-true, eqb-false, ltb-true, ltb-false}
 use Rattle.meaning.specs.Limits.{most_cells, most_bytes}
-use Rattle.meaning.specs.Errors.{Refusal, WrongField, NameBound, BindingRoomFull}
+use Rattle.meaning.specs.declared.refusal.Reason.{Reason}
+use Rattle.meaning.specs.declared.refusal.Reason.TheVariants.{WrongField, NameBound, BindingRoomFull}
 use Rattle.meaning.specs.Value as Meaning
 use Rattle.meaning.specs.Maps.{is_found}
 use Rattle.meaning.specs.Comprehension.{empty_scope, store}
@@ -36,7 +37,6 @@ use Rattle.rooms.specs.Scope.{empty_slots, slot_of}
 use Rattle.rooms.proofs.ReadBack.{reads}
 use Rattle.rooms.proofs.Scopes.{scope-empty, no_slot, stored_same, stored_other}
 use Rattle.bindings_sound.specs.declared.Bindings.{Bindings}
-use Rattle.bindings_sound.specs.declared.Soundness.TheVariants.{Sound}
 use Rattle.bindings_sound.specs.Fits.{value_fits, is_absent, slot_fits}
 use Rattle.bindings_sound.specs.Sound.{sound_of}
 use Rattle.bindings_sound.specs.Held.{binding_rooms, held_scope, room_of, alive_below}
@@ -67,7 +67,7 @@ unfolding ◌>>=◌
 both-bind S (got a) k j h = h a refl
 both-bind S (refused r p) k j h = (refl, refl)
 
-both-demand : {C D : Type 0} (S : C → D → Type 0) (a b : Bool) → a ≡ b → (r : Refusal) (p : ℕ) (k : Got C) (j : Got D) → (a ≡ true → Both S k j) →
+both-demand : {C D : Type 0} (S : C → D → Type 0) (a b : Bool) → a ≡ b → (r : Reason) (p : ℕ) (k : Got C) (j : Got D) → (a ≡ true → Both S k j) →
     Both S (◌>>◌ (demand a r p) k) (◌>>◌ (demand b r p) j)
 unfolding ◌>>◌ ◌>>=◌ demand
 both-demand S true true e r p k j h = h refl
@@ -81,7 +81,7 @@ or-either : (a b : Bool) → (a || b) ≡ true → a ≡ false → b ≡ true
 or-either true b e f = never refl f
 or-either false b e f = e
 
-module _ (w t : List ℕ) (b : Bindings) (s : sound_of w t b ≡ Sound) where
+module _ (w t : List ℕ) (b : Bindings) (s : sound_of w t b ≡ Ok tt) where
   old : SoundRoom w t b
   old = sound-room w t b s
 
@@ -100,7 +100,7 @@ named-below : (n : ℕ) (o : Option ℕ) → name_of n ≡ o → (m : ℕ) → o
 unfolding name_of or_refuse
 named-below n o e m f = by-test (ltb n 128) refl e f
   where
-    by-test : (c : Bool) → ltb n 128 ≡ c → cond c (some n) none ≡ o → or_refuse WrongField start o ≡ got m → (m ≡ n) × (n < 128)
+    by-test : (c : Bool) → ltb n 128 ≡ c → cond c (Some n) None ≡ o → or_refuse WrongField start o ≡ got m → (m ≡ n) × (n < 128)
     by-test true i j k = let u : n ≡ m = cc in (sym u, ltb-true n 128 i)
     by-test false i j k = absurd (let z : ◌≡◌ {A = ℕ} 0 1 = cc in omega arith)
 
@@ -206,7 +206,7 @@ module _ (w t : List ℕ) (b : Bindings) (slots : length b.scope.slots ≡ 128) 
       by-test false e =
           rw (slot_kept n (eqb-false n name e)) (old-slot (is_absent (slot_of b.scope n)) (slot_of b.scope n) refl (was.slots n h))
 
-  sound-again : sound_of q.words q.text next ≡ Sound
+  sound-again : sound_of q.words q.text next ≡ Ok tt
   sound-again =
       room-sound q.words q.text next
       (record { cells_in = cells-in; bytes_in = bytes-in; cells = λ i h. by_side i h (either_side i b.cells); slots = sound-slot })
@@ -231,7 +231,7 @@ module _ (w t : List ℕ) (b : Bindings) (slots : length b.scope.slots ≡ 128) 
       other true h = slot_read (is_absent (slot_of b.scope n)) (slot_of b.scope n) refl (was.slots n (ltb-true n 128 h))
       other false h = slot_read true (slot_of b.scope n) (ap is_absent (no_slot b.scope n slots (ltb-false n 128 h))) refl
 
-      by_name : (c : Bool) → eqb n name ≡ c → held_scope q.words q.text next n ≡ cond c (some fits.value) (held_scope w t b n)
+      by_name : (c : Bool) → eqb n name ≡ c → held_scope q.words q.text next n ≡ cond c (Some fits.value) (held_scope w t b n)
       by_name true e =
           rw (eqb-true n name e, new-slot) (reads (alive_below q.cells) (binding_rooms q.words q.text) fits.value a.0 (laid-at.good.stands [] [] []))
       by_name false e = rw (slot_kept n (eqb-false n name e)) (other (ltb n 128) refl)
@@ -259,7 +259,7 @@ module _ (w t : List ℕ) (b : Bindings) (slots : length b.scope.slots ≡ 128) 
               bytes = d;
               scope = λ n.
                   scope-again n
-                  ∙ (ap₂ (λ (x : Meaning.Value) (o : Option Meaning.Value). cond (eqb n name) (some x) o) same (s.scope n)
+                  ∙ (ap₂ (λ (x : Meaning.Value) (o : Option Meaning.Value). cond (eqb n name) (Some x) o) same (s.scope n)
                   ∙ sym (ap (λ (m : BindingRoom). scope_of m n) e));
             };
         words =
@@ -316,6 +316,6 @@ emptied-stands w t =
     each n = (scope-empty (alive_below 0) (rooms [] w t [] [])).each n
 
 -- Every sound room stands for the room that is read out of it.
-pub sound-stands : (w t : List ℕ) (b : Bindings) → length b.scope.slots ≡ 128 → sound_of w t b ≡ Sound → StandsFor w t b (room_of w t b)
+pub sound-stands : (w t : List ℕ) (b : Bindings) → length b.scope.slots ≡ 128 → sound_of w t b ≡ Ok tt → StandsFor w t b (room_of w t b)
 unfolding room_of
 sound-stands w t b slots s = record { sound = s; cells = refl; bytes = refl; scope = λ n. sym (room-scope w t b slots n) }

@@ -6,30 +6,34 @@ use mathlib.Core.Bool.{Bool, true, false, cond}
 use native.Mathlib.Omega.{arith}
 use lib.Dec.{eqb}
 use borrow.Author.Tests.{eqb-true, eqb-false}
+use Rattle.std.specs.Prelude.{Option, Some}
 use Rattle.bindings_sound.specs.Sound.{cell_fits, first_bad}
 
 module _ (w t : List ℕ) (used bytes : ℕ) where
   abbrev Fit : ℕ → Bool
   Fit i = cell_fits w t used bytes i
 
-  abbrev Bad : ℕ → ℕ → ℕ
+  abbrev Bad : ℕ → ℕ → Option ℕ
   Bad i n = first_bad w t used bytes i n
 
-  pub before-good : (i n j : ℕ) → i ≤ j → j < Bad i n → Fit j ≡ true
-  unfolding first_bad
-  before-good i zero j h k = absurd (omega arith)
-  before-good i (suc n) j h k = by-cell (Fit i) refl k (eqb i j) refl (before-good (suc i) n j)
-    where
-      by-cell : (c : Bool) → Fit i ≡ c → j < cond c (Bad (suc i) n) i → (d : Bool) → eqb i j ≡ d → (suc i ≤ j → j < Bad (suc i) n → Fit j ≡ true) → Fit j ≡ true
-      by-cell true e l true f rest = subst (λ (x : ℕ). Fit x ≡ true) (eqb-true i j f) e
-      by-cell true e l false f rest = rest (omega (arith, eqb-false i j f)) l
-      by-cell false e l d f rest = absurd (omega arith)
+  -- of n cells from i on, the one at p
+  pub record First (i n p : ℕ) : Type 0 where
+    pub inside : p < i + n
+    pub bad : Fit p ≡ false
+    pub before : (j : ℕ) → i ≤ j → j < p → Fit j ≡ true
 
-  pub first-bad : (i n : ℕ) → Bad i n < i + n → Fit (Bad i n) ≡ false
+  pub first-bad : (i n p : ℕ) → Bad i n ≡ Some p → First i n p
   unfolding first_bad
-  first-bad i zero h = absurd (omega arith)
-  first-bad i (suc n) h = by-cell (Fit i) refl h (first-bad (suc i) n)
+  first-bad i zero p e = cc
+  first-bad i (suc n) p e = by-cell (Fit i) refl e (first-bad (suc i) n p)
     where
-      by-cell : (c : Bool) → Fit i ≡ c → cond c (Bad (suc i) n) i < i + suc n → (Bad (suc i) n < suc i + n → Fit (Bad (suc i) n) ≡ false) → Fit (cond c (Bad (suc i) n) i) ≡ false
-      by-cell true e l rest = rest (omega arith)
-      by-cell false e l rest = e
+      earlier : Fit i ≡ true → First (suc i) n p → (j : ℕ) → i ≤ j → j < p → (d : Bool) → eqb i j ≡ d → Fit j ≡ true
+      earlier good rest j h k true f = subst (λ (x : ℕ). Fit x ≡ true) (eqb-true i j f) good
+      earlier good rest j h k false f = rest.before j (omega (arith, eqb-false i j f)) k
+
+      by-cell : (c : Bool) → Fit i ≡ c → cond c (Bad (suc i) n) (Some i) ≡ Some p → (Bad (suc i) n ≡ Some p → First (suc i) n p) → First i (suc n) p
+      by-cell true good l rest =
+          let r = rest l in record { inside = omega (arith, r.inside); bad = r.bad; before = λ j h k. earlier good r j h k (eqb i j) refl }
+      by-cell false wrong l rest =
+          let same : i ≡ p = cc in
+          record { inside = omega (arith, same); bad = rw same at wrong; before = λ j h k. absurd (omega (arith, same, h, k)) }

@@ -3,7 +3,7 @@
 use Prim.Native.Nat.{ℕ, zero, suc, ◌^◌, ◌<◌}
 use mathlib.Core.Path.{◌≡◌, refl, sym, ap, ap₂, ◌∙◌, subst}
 use mathlib.Core.List.{List, [], ◌∷◌}
-use mathlib.Core.Option.{none}
+use Rattle.std.specs.Prelude.{None}
 use mathlib.Core.Bool.{Bool, true, false, not, ◌||◌, true≢false}
 use lib.Ieee.{binary64}
 use lib.Ieee.Bits.{to_bits-lt}
@@ -103,7 +103,7 @@ module _ (w t : List ℕ) (used bytes : ℕ) (words : (i : ℕ) → get_or w i 0
 
   -- where no key of the cells matches, none of the entries is found
   none_found : (x : Scalar) (u : Value) → StandsScalar x L R u → (es : Meaning.Entries) (a : ℕ) → StandsEntries es L R Cells.Binding a →
-      repeated_in w t u a (count_entries es) ≡ false → (find x es).1 ≡ none
+      repeated_in w t u a (count_entries es) ≡ false → (find x es).1 ≡ None
   unfolding repeated_in StandsEntries count_entries cell_at find tick
   none_found x u h empty a g e = refl
   none_found x u h (entry k v es) a g e =

@@ -4,7 +4,7 @@ use Prim.Native.Nat.{ℕ, suc, ◌+◌, ◌≤◌}
 use mathlib.Core.Path.{◌≡◌, refl, ap, ap₂, ◌∙◌}
 use mathlib.Core.Logic.{inl}
 use mathlib.Core.List.{List, [], ◌∷◌}
-use mathlib.Core.Option.{none}
+use Rattle.std.specs.Prelude.{None}
 use mathlib.Core.Bool.{true, false, not}
 use native.Mathlib.Omega.{arith}
 use lib.ListN.{length, set, take, length-set}
@@ -131,7 +131,7 @@ module _ (w t : List ℕ) (used bytes : ℕ) where
   seen-match L x y u v h i = ap₂ same_seen (scalar-seen L R x u h) (scalar-seen L R y v i)
 
   none-repeated : (L : Alive) (x : Scalar) (u : Value) → StandsScalar x L R u → (es : Meaning.Entries) (a : ℕ) → StandsEntries es L R Cells.Binding a →
-      (find x es).1 ≡ none → repeated_in w t u a (count_entries es) ≡ false
+      (find x es).1 ≡ None → repeated_in w t u a (count_entries es) ≡ false
   unfolding repeated_in StandsEntries count_entries cell_at
   none-repeated L x u h empty a g e = refl
   none-repeated L x u h (entry k v es) a g e =

@@ -31,6 +31,7 @@ use Rattle.bindings_literals.proofs.SpelledLaws.{Spells, spells_scalar, spells_l
 use Rattle.bindings_laws.proofs.LayingKeeps.{Later, later-cell, later-text, put-later, later-then, laid-later, row-later, pairs-later}
 use Rattle.bindings_laws.proofs.OlderValues.{never, row_fits_lem, map-fits}
 use Rattle.bindings_laws.proofs.LaidScalars.{Good, scalar-laid, keys-laid}
+use Rattle.rooms.specs.Spans.{row}
 
 -- ---- numbers
 
@@ -86,11 +87,11 @@ scalar-cells (double d) r = refl
 scalar-cells (string s) r = refl
 scalar-cells (Meaning.bytes s) r = refl
 
-list-is : {d e n m : ℕ} (a : ℕ) → d ≡ e → n ≡ m → Value.List d Cells.Binding a n ≡ Value.List e Cells.Binding a m
-list-is a p q i = Value.List (p i) Cells.Binding a (q i)
+list-is : {d e n m : ℕ} (a : ℕ) → d ≡ e → n ≡ m → Value.List d (row Cells.Binding a n) ≡ Value.List e (row Cells.Binding a m)
+list-is a p q i = Value.List (p i) (row Cells.Binding a (q i))
 
-map_is : {d e n m : ℕ} (a : ℕ) → d ≡ e → n ≡ m → Value.Map d Cells.Binding a n ≡ Value.Map e Cells.Binding a m
-map_is a p q i = Value.Map (p i) Cells.Binding a (q i)
+map_is : {d e n m : ℕ} (a : ℕ) → d ≡ e → n ≡ m → Value.Map d (row Cells.Binding a n) ≡ Value.Map e (row Cells.Binding a m)
+map_is a p q i = Value.Map (p i) (row Cells.Binding a (q i))
 
 -- ---- the room at the end
 
@@ -141,15 +142,15 @@ module _ (w t : List ℕ) (used bytes : ℕ) (lent : used ≤ length w / 2) (few
   lower (Value.Uint n) least more h e = refl
   lower (Value.Double x) least more h e = refl
   lower (Value.Nan b) least more h e = refl
-  lower (Value.String s a n) least more h e = e
-  lower (Value.Bytes s a n) least more h e = e
-  lower (Value.List d s a n) least more h e =
-      let g = row-good w used more d s a n e in
-      rw g.bound (row_fits_lem w used least d a n (omega (arith, g.later)) g.inside g.shallow g.nests)
-  lower (Value.Map d s a n) least more h e =
-      let m = map-good w t used more d s a n e in
+  lower (Value.String sp) least more h e = e
+  lower (Value.Bytes sp) least more h e = e
+  lower (Value.List d ro) least more h e =
+      let g = row-good w used more d ro.space ro.first ro.length e in
+      rw g.bound (row_fits_lem w used least d ro.first ro.length (omega (arith, g.later)) g.inside g.shallow g.nests)
+  lower (Value.Map d ro) least more h e =
+      let m = map-good w t used more d ro.space ro.first ro.length e in
       let g = m.0 in
-      rw g.bound (map-fits w t used least d a n (omega (arith, g.later)) g.inside g.shallow g.nests m.1)
+      rw g.bound (map-fits w t used least d ro.first ro.length (omega (arith, g.later)) g.inside g.shallow g.nests m.1)
   lower Value.OptionalNone least more h e = never e refl
   lower (Value.OptionalOf d s a) least more h e = never e refl
   lower Value.Absent least more h e = never e refl

@@ -3,7 +3,8 @@
 use Prim.Native.Nat.{ℕ, zero, suc, ◌+◌, ◌*◌, ◌≤◌, ◌<◌, max}
 use mathlib.Core.Path.{◌≡◌, refl, sym, ap, ap₂, ◌∙◌}
 use mathlib.Core.List.{List, []}
-use mathlib.Core.Option.{some, bind}
+use Rattle.std.specs.Prelude.{Some}
+use Rattle.meaning.specs.Options.{bind}
 use mathlib.Core.Bool.{Bool, true, false, not, ◌&&◌, ◌||◌, cond}
 use native.Mathlib.Omega.{arith}
 use lib.ListN.{take}
@@ -74,11 +75,11 @@ module _ (w t : List ℕ) (used bytes : ℕ) (good : (i : ℕ) → i < used → 
   seen-kept (Value.Uint n) least k e = refl
   seen-kept (Value.Double x) least k e = refl
   seen-kept (Value.Nan b) least k e = refl
-  seen-kept (Value.String s a n) least k e =
-      let g = (string-good t bytes s a n e).0 in rw g.bound (ap (λ x. seen_scalar (string x)) (part-kept a n g.inside))
-  seen-kept (Value.Bytes s a n) least k e = never k refl
-  seen-kept (Value.List d s a n) least k e = refl
-  seen-kept (Value.Map d s a n) least k e = refl
+  seen-kept (Value.String sp) least k e =
+      let g = (string-good t bytes sp.space sp.first sp.length e).0 in rw g.bound (ap (λ x. seen_scalar (string x)) (part-kept sp.first sp.length g.inside))
+  seen-kept (Value.Bytes sp) least k e = never k refl
+  seen-kept (Value.List d ro) least k e = refl
+  seen-kept (Value.Map d ro) least k e = refl
   seen-kept Value.OptionalNone least k e = refl
   seen-kept (Value.OptionalOf d s a) least k e = refl
   seen-kept Value.Absent least k e = refl
@@ -113,20 +114,20 @@ module _ (w t : List ℕ) (used bytes : ℕ) (good : (i : ℕ) → i < used → 
   fits_kept (Value.Uint n) least e = refl
   fits_kept (Value.Double x) least e = refl
   fits_kept (Value.Nan b) least e = refl
-  fits_kept (Value.String s a n) least e =
-      let g = string-good t bytes s a n e in
-      rw g.0.bound (string-fits t' bytes' a n (omega (arith, g.0.inside)) (ap well_formed (part-kept a n g.0.inside) ∙ g.1))
-  fits_kept (Value.Bytes s a n) least e =
-      let g = span-good bytes s a n e in rw g.bound (span_fits_lem bytes' a n (omega (arith, g.inside)))
-  fits_kept (Value.List d s a n) least e =
-      let g = row-good w used least d s a n e in
-      rw g.bound (row_fits_lem w' used' least d a n g.later (omega (arith, g.inside)) g.shallow (g.nests ∙ ap suc (sym (deepest-kept n a g.inside))))
-  fits_kept (Value.Map d s a n) least e =
-      let m = map-good w t used least d s a n e in
+  fits_kept (Value.String sp) least e =
+      let g = string-good t bytes sp.space sp.first sp.length e in
+      rw g.0.bound (string-fits t' bytes' sp.first sp.length (omega (arith, g.0.inside)) (ap well_formed (part-kept sp.first sp.length g.0.inside) ∙ g.1))
+  fits_kept (Value.Bytes sp) least e =
+      let g = span-good bytes sp.space sp.first sp.length e in rw g.bound (span_fits_lem bytes' sp.first sp.length (omega (arith, g.inside)))
+  fits_kept (Value.List d ro) least e =
+      let g = row-good w used least d ro.space ro.first ro.length e in
+      rw g.bound (row_fits_lem w' used' least d ro.first ro.length g.later (omega (arith, g.inside)) g.shallow (g.nests ∙ ap suc (sym (deepest-kept ro.length ro.first g.inside))))
+  fits_kept (Value.Map d ro) least e =
+      let m = map-good w t used least d ro.space ro.first ro.length e in
       let g = m.0 in
       rw g.bound
-      (map-fits w' t' used' least d a n g.later (omega (arith, g.inside)) g.shallow (g.nests ∙ ap suc (sym (deepest-kept (2 * n) a g.inside)))
-      (keys_kept n a g.inside m.1))
+      (map-fits w' t' used' least d ro.first ro.length g.later (omega (arith, g.inside)) g.shallow (g.nests ∙ ap suc (sym (deepest-kept (2 * ro.length) ro.first g.inside)))
+      (keys_kept ro.length ro.first g.inside m.1))
   fits_kept Value.OptionalNone least e = never e refl
   fits_kept (Value.OptionalOf d s a) least e = never e refl
   fits_kept Value.Absent least e = never e refl
@@ -140,7 +141,7 @@ module _ (w t : List ℕ) (used bytes : ℕ) (good : (i : ℕ) → i < used → 
     unfolding elements_in
     elements-kept zero a h = refl
     elements-kept (suc n) a h =
-        ap₂ (λ o p. bind o (λ v. bind p (λ vs. some (cons v vs)))) (cell-read a (omega arith)) (elements-kept n (suc a) (omega arith))
+        ap₂ (λ o p. bind o (λ v. bind p (λ vs. Some (cons v vs)))) (cell-read a (omega arith)) (elements-kept n (suc a) (omega arith))
 
     entries-kept : (n a : ℕ) → a + 2 * n ≤ used → entries_in f (binding_rooms w' t') Cells.Binding a n ≡ entries_in g (binding_rooms w t) Cells.Binding a n
     unfolding entries_in
@@ -149,8 +150,8 @@ module _ (w t : List ℕ) (used bytes : ℕ) (good : (i : ℕ) → i < used → 
         let i = cell-read a (omega arith) in
         let j = cell-read (suc a) (omega arith) in
         let k = entries-kept n (suc (suc a)) (omega arith) in
-        ap (λ o. bind (bind o key_of) (λ x. bind (f (cell_at (binding_rooms w' t') Cells.Binding (suc a))) (λ v. bind (entries_in f (binding_rooms w' t') Cells.Binding (suc (suc a)) n) (λ es. some (entry x v es))))) i
-        ∙ ap₂ (λ o p. bind (bind (g (cell_at (binding_rooms w t) Cells.Binding a)) key_of) (λ x. bind o (λ v. bind p (λ es. some (entry x v es))))) j k
+        ap (λ o. bind (bind o key_of) (λ x. bind (f (cell_at (binding_rooms w' t') Cells.Binding (suc a))) (λ v. bind (entries_in f (binding_rooms w' t') Cells.Binding (suc (suc a)) n) (λ es. Some (entry x v es))))) i
+        ∙ ap₂ (λ o p. bind (bind (g (cell_at (binding_rooms w t) Cells.Binding a)) key_of) (λ x. bind o (λ v. bind p (λ es. Some (entry x v es))))) j k
 
     by_value : (v : Value) (least : ℕ) → value_fits w t used bytes least v ≡ true → read_by f (binding_rooms w' t') v ≡ read_by g (binding_rooms w t) v
     by_value Value.Null least e = refl
@@ -159,14 +160,14 @@ module _ (w t : List ℕ) (used bytes : ℕ) (good : (i : ℕ) → i < used → 
     by_value (Value.Uint n) least e = refl
     by_value (Value.Double x) least e = refl
     by_value (Value.Nan b) least e = refl
-    by_value (Value.String s a n) least e =
-        let i = (string-good t bytes s a n e).0 in rw i.bound (ap (λ x. some (scalar (string x))) (part-kept a n i.inside))
-    by_value (Value.Bytes s a n) least e =
-        let i = span-good bytes s a n e in rw i.bound (ap (λ x. some (scalar (Meaning.bytes x))) (part-kept a n i.inside))
-    by_value (Value.List d s a n) least e =
-        let i = row-good w used least d s a n e in rw i.bound (ap (λ o. bind o (λ vs. some (list vs))) (elements-kept n a i.inside))
-    by_value (Value.Map d s a n) least e =
-        let i = (map-good w t used least d s a n e).0 in rw i.bound (ap (λ o. bind o (λ es. some (map es))) (entries-kept n a i.inside))
+    by_value (Value.String sp) least e =
+        let i = (string-good t bytes sp.space sp.first sp.length e).0 in rw i.bound (ap (λ x. Some (scalar (string x))) (part-kept sp.first sp.length i.inside))
+    by_value (Value.Bytes sp) least e =
+        let i = span-good bytes sp.space sp.first sp.length e in rw i.bound (ap (λ x. Some (scalar (Meaning.bytes x))) (part-kept sp.first sp.length i.inside))
+    by_value (Value.List d ro) least e =
+        let i = row-good w used least d ro.space ro.first ro.length e in rw i.bound (ap (λ o. bind o (λ vs. Some (list vs))) (elements-kept ro.length ro.first i.inside))
+    by_value (Value.Map d ro) least e =
+        let i = (map-good w t used least d ro.space ro.first ro.length e).0 in rw i.bound (ap (λ o. bind o (λ es. Some (map es))) (entries-kept ro.length ro.first i.inside))
     by_value Value.OptionalNone least e = never e refl
     by_value (Value.OptionalOf d s a) least e = never e refl
     by_value Value.Absent least e = never e refl

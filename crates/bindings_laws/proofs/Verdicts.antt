@@ -4,8 +4,8 @@ use Prim.Native.Nat.{ℕ, ◌≤◌, ◌<◌}
 use mathlib.Core.Path.{◌≡◌, refl, sym, ◌∙◌, subst}
 use mathlib.Core.Logic.{◌⊎◌, inl, inr}
 use mathlib.Core.List.{List, []}
-use mathlib.Core.Option.{Option, none, some}
-use mathlib.Core.Bool.{Bool, true, false, ◌&&◌, ◌||◌, cond}
+use Rattle.std.specs.Prelude.{Option, None, Some, Result, Ok, Err}
+use mathlib.Core.Bool.{Bool, true, false, ◌&&◌, ◌||◌}
 use native.Mathlib.Omega.{arith}
 use lib.Dec.{leb, ltb}
 use borrow.Author.Tests.{ltb-true, ltb-false}
@@ -16,31 +16,29 @@ use Rattle.rooms.proofs.Depths.{stands-nesting}
 use Rattle.rooms.proofs.Scopes.{no_slot}
 use Rattle.rooms_taking.specs.Taking.{cell_room, text_room}
 use Rattle.bindings_sound.specs.declared.Bindings.{Bindings}
-use Rattle.bindings_sound.specs.declared.Soundness.{Soundness}
-use Rattle.bindings_sound.specs.declared.Soundness.TheVariants.{Sound, Unsound}
 use Rattle.bindings_sound.specs.Fits.{value_fits, is_absent, slot_fits}
-use Rattle.bindings_sound.specs.Sound.{cell_fits, first_bad, slots_fit, used_cells, used_bytes, sound_of}
+use Rattle.bindings_sound.specs.Sound.{verdict, cell_fits, first_bad, slots_fit, used_cells, used_bytes, sound_of}
 use Rattle.bindings_sound.specs.Held.{binding_rooms, held_scope, alive_below}
 use Rattle.bindings_sound.specs.SoundRoom.{SoundRoom}
-use Rattle.bindings_sound.proofs.FitLaws.{sound-room, room-sound, fits-nesting}
+use Rattle.bindings_sound.proofs.FitLaws.{all-good, sound-room, room-sound, fits-nesting}
 use Rattle.bindings_sound.proofs.SoundScope.{absent-is, beyond, fits-held, held-read}
 use Rattle.bindings_laws.specs.Verdicts.{Lent, HoldsFormed, FirstBadCell, BadElsewhere, Says}
 use Rattle.bindings_laws.proofs.Formed.{formed}
-use Rattle.bindings_laws.proofs.FirstBad.{before-good, first-bad}
+use Rattle.bindings_laws.proofs.FirstBad.{first-bad}
 
 -- ---- a sound room
 
-nothing-there : {A : Type 0} {x : A} {o : Option A} → o ≡ none → o ≡ some x → ⊥
-nothing-there {A} {x} {o} e f = let i : ◌≡◌ {A = Option A} none (some x) = sym e ∙ f in let z : ◌≡◌ {A = ℕ} 0 1 = cc in omega arith
+nothing-there : {A : Type 0} {x : A} {o : Option A} → o ≡ None → o ≡ Some x → ⊥
+nothing-there {A} {x} {o} e f = let i : ◌≡◌ {A = Option A} None (Some x) = sym e ∙ f in let z : ◌≡◌ {A = ℕ} 0 1 = cc in omega arith
 
-one-there : {A : Type 0} {x y : A} {o : Option A} → o ≡ some x → o ≡ some y → x ≡ y
-one-there {A} {x} {y} {o} e f = let i : ◌≡◌ {A = Option A} (some x) (some y) = sym e ∙ f in cc
+one-there : {A : Type 0} {x y : A} {o : Option A} → o ≡ Some x → o ≡ Some y → x ≡ y
+one-there {A} {x} {y} {o} e f = let i : ◌≡◌ {A = Option A} (Some x) (Some y) = sym e ∙ f in cc
 
-module _ (w t : List ℕ) (b : Bindings) (lent : Lent w t b) (s : sound_of w t b ≡ Sound) where
+module _ (w t : List ℕ) (b : Bindings) (lent : Lent w t b) (s : sound_of w t b ≡ Ok tt) where
   room : SoundRoom w t b
   room = sound-room w t b s
 
-  slot-formed : (n : ℕ) (v : Meaning.Value) → held_scope w t b n ≡ some v → value_fits w t b.cells b.bytes 0 (slot_of b.scope n) ≡ true → WellFormed v
+  slot-formed : (n : ℕ) (v : Meaning.Value) → held_scope w t b n ≡ Some v → value_fits w t b.cells b.bytes 0 (slot_of b.scope n) ≡ true → WellFormed v
   slot-formed n v e f =
       let h = fits-held w t b s (slot_of b.scope n) 0 f in
       let i = stands-nesting (alive_below b.cells) (binding_rooms w t) h.value (slot_of b.scope n) (h.stands [] [] []) in
@@ -66,13 +64,13 @@ module _ (w t : List ℕ) (b : Bindings) (lent : Lent w t b) (s : sound_of w t b
 
 -- ---- an unsound one
 
-unlike : {s : Soundness} {p : ℕ} → s ≡ Sound → s ≡ Unsound p → ⊥
-unlike {s} {p} e f = let i : Sound ≡ Unsound p = sym e ∙ f in let z : ◌≡◌ {A = ℕ} 0 1 = cc in omega arith
+unlike : {s : Result (Unit {0}) ℕ} {p : ℕ} → s ≡ Ok tt → s ≡ Err p → ⊥
+unlike {s} {p} e f = let z : ◌≡◌ {A = ℕ} 0 1 = cc in omega arith
 
 -- nothing else can be bad
 good-sound : (w t : List ℕ) (b : Bindings) → b.cells ≤ cell_room w → b.bytes ≤ text_room t →
     ((i : ℕ) → i < used_cells w t b → cell_fits w t (used_cells w t b) (used_bytes w t b) i ≡ true) →
-    ((n : ℕ) → n < 128 → slot_fits w t b.cells b.bytes (slot_of b.scope n) ≡ true) → sound_of w t b ≡ Sound
+    ((n : ℕ) → n < 128 → slot_fits w t b.cells b.bytes (slot_of b.scope n) ≡ true) → sound_of w t b ≡ Ok tt
 unfolding cell_fits
 good-sound w t b c d cells slots =
     let u : used_cells w t b ≡ b.cells = omega (arith, c) in
@@ -80,10 +78,10 @@ good-sound w t b c d cells slots =
     room-sound w t b (record { cells_in = c; bytes_in = d; cells = λ i h. rw (u, v) at (cells i (omega (arith, h, u))); slots = slots })
 
 -- An unsound room's place is its first bad cell; it is 0 if no cell is bad, but a used count or a slot.
-pub unsound-place : (w t : List ℕ) (b : Bindings) (p : ℕ) → sound_of w t b ≡ Unsound p → FirstBadCell w t b p ⊎ BadElsewhere w t b p
+pub unsound-place : (w t : List ℕ) (b : Bindings) (p : ℕ) → sound_of w t b ≡ Err p → FirstBadCell w t b p ⊎ BadElsewhere w t b p
 unfolding sound_of
 unsound-place w t b p u =
-    by_tests (ltb bad used) refl (leb b.cells (cell_room w) && (leb b.bytes (text_room t) && slots_fit w t used bytes b.scope 0 128)) u
+    by_tests (first_bad w t used bytes 0 used) refl (leb b.cells (cell_room w) && (leb b.bytes (text_room t) && slots_fit w t used bytes b.scope 0 128)) u
   where
     used : ℕ
     used = used_cells w t b
@@ -91,22 +89,15 @@ unsound-place w t b p u =
     bytes : ℕ
     bytes = used_bytes w t b
 
-    bad : ℕ
-    bad = first_bad w t used bytes 0 used
-
-    before : (i : ℕ) → i < bad → cell_fits w t used bytes i ≡ true
-    before i h = before-good w t used bytes 0 used i (omega arith) h
-
-    by_tests : (c : Bool) → ltb bad used ≡ c → (d : Bool) → cond c (Unsound bad) (cond d Sound (Unsound 0)) ≡ Unsound p → FirstBadCell w t b p ⊎ BadElsewhere w t b p
-    by_tests true e d g =
-        let same : bad ≡ p = cc in
-        let h = ltb-true bad used e in
-        inl (subst (FirstBadCell w t b) same (record { used = h; bad = first-bad w t used bytes 0 used (omega (arith, h)); before = before }))
-    by_tests false e true g = let z : ◌≡◌ {A = ℕ} 0 1 = cc in absurd (omega arith)
-    by_tests false e false g =
+    by_tests : (o : Option ℕ) → first_bad w t used bytes 0 used ≡ o → (d : Bool) → verdict o d ≡ Err p → FirstBadCell w t b p ⊎ BadElsewhere w t b p
+    by_tests (Some q) e d g =
+        let same : q ≡ p = cc in
+        let f = first-bad w t used bytes 0 used q e in
+        inl (subst (FirstBadCell w t b) same (record { used = omega (arith, f.inside); bad = f.bad; before = λ i h. f.before i (omega arith) h }))
+    by_tests None e true g = let z : ◌≡◌ {A = ℕ} 0 1 = cc in absurd (omega arith)
+    by_tests None e false g =
         let zero_is : p ≡ 0 = cc in
-        let h = ltb-false bad used e in
-        let cells : (i : ℕ) → i < used → cell_fits w t used bytes i ≡ true = λ i k. before i (omega (arith, h, k)) in
+        let cells : (i : ℕ) → i < used → cell_fits w t used bytes i ≡ true = λ i k. all-good w t used bytes 0 used e i (omega arith) (omega (arith, k)) in
         inr (record { place = zero_is; cells = cells; bad = λ c d slots. unlike (good-sound w t b c d cells slots) u })
 
 -- ---- both

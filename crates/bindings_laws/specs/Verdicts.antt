@@ -1,6 +1,5 @@
 -- What the verdict on a lent binding room says of it. In order: what can be lent; a sound room; the place of an unsound one; both.
-use Rattle.std.specs.Prelude.{ℕ, ◌^◌, ◌≤◌, ◌<◌, ◌≡◌, ◌⊎◌, List, true, false, length, get_or}
-use Rattle.std.proofs.Math.Option.{some}
+use Rattle.std.specs.Prelude.{ℕ, ◌^◌, ◌≤◌, ◌<◌, ◌≡◌, ◌⊎◌, List, true, false, length, get_or, Some, Ok, Err}
 use Rattle.meaning.specs.Limits.{names}
 use Rattle.meaning.specs.Value.{Value}
 use Rattle.meaning.specs.WellFormed.{AllBytes, WellFormed}
@@ -8,7 +7,6 @@ use Rattle.rooms.specs.Cells.{Fits}
 use Rattle.rooms.specs.Scope.{slot_of}
 use Rattle.rooms_taking.specs.Taking.{cell_room, text_room}
 use Rattle.bindings_sound.specs.declared.Bindings.{Bindings}
-use Rattle.bindings_sound.specs.declared.Soundness.TheVariants.{Sound, Unsound}
 use Rattle.bindings_sound.specs.Fits.{slot_fits}
 use Rattle.bindings_sound.specs.Sound.{cell_fits, used_cells, used_bytes, sound_of}
 use Rattle.bindings_sound.specs.Held.{held_scope}
@@ -22,7 +20,7 @@ pub record Lent (w t : List ℕ) (b : Bindings) : Type 0 where
 
 -- what a name has is well formed: numbers in range, Strings in UTF-8, no two keys of a map that match, nesting at most 32
 abbrev pub HoldsFormed : (words text : List ℕ) → Bindings → Type 0
-HoldsFormed w t b = (n : ℕ) (v : Value) → held_scope w t b n ≡ some v → WellFormed v
+HoldsFormed w t b = (n : ℕ) (v : Value) → held_scope w t b n ≡ Some v → WellFormed v
 
 -- a bad cell, and none before it
 pub record FirstBadCell (w t : List ℕ) (b : Bindings) (p : ℕ) : Type 0 where
@@ -38,5 +36,5 @@ pub record BadElsewhere (w t : List ℕ) (b : Bindings) (p : ℕ) : Type 0 where
       ((n : ℕ) → n < names → slot_fits w t b.cells b.bytes (slot_of b.scope n) ≡ true) → ⊥
 
 pub record Says (w t : List ℕ) (b : Bindings) : Type 0 where
-  pub sound : sound_of w t b ≡ Sound → HoldsFormed w t b
-  pub unsound : (p : ℕ) → sound_of w t b ≡ Unsound p → FirstBadCell w t b p ⊎ BadElsewhere w t b p
+  pub sound : sound_of w t b ≡ Ok tt → HoldsFormed w t b
+  pub unsound : (p : ℕ) → sound_of w t b ≡ Err p → FirstBadCell w t b p ⊎ BadElsewhere w t b p

@@ -1,6 +1,8 @@
 -- What records come to together is what the definition says of the record that holds them. Assumes nothing.
 use Prim.Native.Nat.{ℕ, suc, ◌+◌, ◌<◌, max}
 use mathlib.Core.Path.{◌≡◌, refl, sym, ◌∙◌}
+use Rattle.std.specs.Option.{option_or}
+use Rattle.std.specs.Prelude.{Option, None, Some}
 use mathlib.Core.List.{List, [], ◌∷◌, ◌++◌}
 use mathlib.Core.Bool.{Bool, true, false}
 use native.Mathlib.Omega.{arith}
@@ -8,7 +10,7 @@ use native.Mathlib.Numerals.{add-one}
 use lib.Dec.{eqb}
 use borrow.Author.Tests.{eqb-true, eqb-false}
 use lib.ListN.{get_or}
-use Rattle.meaning.specs.Errors.{NotALiteral}
+use Rattle.meaning.specs.declared.refusal.Reason.TheVariants.{NotALiteral}
 use Rattle.meaning.specs.Bindings.{text_bytes}
 use Rattle.meaning.specs.Expr.{Expr, list_of, map_of, Elements, Pairs}
 use Rattle.meaning.specs.Heads.{Got, got, refused, ◌>>=◌, ◌>>◌}
@@ -18,11 +20,9 @@ use Rattle.table_layout.specs.Layout.{word_at}
 use Rattle.table_check.specs.Records.{expr_of, part_of, SoundPart, elements_of, pairs_of}
 use Rattle.table_check.proofs.Parts.{part-marked, part-bare}
 use Rattle.rooms.specs.declared.value.Value.{Value}
-use Rattle.bindings_literals.specs.declared.judgement.Fault.{Fault}
-use Rattle.bindings_literals.specs.declared.judgement.Fault.TheVariants.{At, Nowhere}
 use Rattle.bindings_literals.specs.declared.judgement.Judged.{Judged}
 use Rattle.bindings_literals.specs.Literals.{literal_in, literals_in, literal_pairs_in, literal_value}
-use Rattle.bindings_literals.specs.Judging.{first_of, fault_in, key_fault, keys_in, keys_among, keys_over, cells_for, cells_among, cells_over, bytes_for, bytes_among, bytes_over, nothing_judged, joined_of, with_key, deepened_of, without_parts, judged_of, judged_part, judged_elements, judged_pairs}
+use Rattle.bindings_literals.specs.Judging.{fault_in, key_fault, keys_in, keys_among, keys_over, cells_for, cells_among, cells_over, bytes_for, bytes_among, bytes_over, nothing_judged, joined_of, with_key, deepened_of, without_parts, judged_of, judged_part, judged_elements, judged_pairs}
 use Rattle.bindings_literals.proofs.LiteralLaws.{View, a_scalar, a_list, a_map, another, view, no-literal}
 use Rattle.bindings_literals.proofs.PartLaws.{ListAt, MapAt}
 
@@ -33,29 +33,29 @@ unfolding ◌>>=◌
 fault-map (got a) f = refl
 fault-map (refused r p) f = refl
 
-fault-two : {A B C : Type 0} (g : Got A) (h : Got B) (f : A → B → C) → fault_in (◌>>=◌ g (λ a. ◌>>=◌ h (λ b. got (f a b)))) ≡ first_of (fault_in g) (fault_in h)
+fault-two : {A B C : Type 0} (g : Got A) (h : Got B) (f : A → B → C) → fault_in (◌>>=◌ g (λ a. ◌>>=◌ h (λ b. got (f a b)))) ≡ option_or (fault_in g) (fault_in h)
 unfolding ◌>>=◌
 fault-two (got a) h f = fault-map h (f a)
 fault-two (refused r p) h f = refl
 
 fault-three : {A B C D : Type 0} (g : Got A) (h : Got B) (i : Got C) (f : A → B → C → D) →
-    fault_in (◌>>=◌ g (λ a. ◌>>=◌ h (λ b. ◌>>=◌ i (λ c. got (f a b c))))) ≡ first_of (fault_in g) (first_of (fault_in h) (fault_in i))
+    fault_in (◌>>=◌ g (λ a. ◌>>=◌ h (λ b. ◌>>=◌ i (λ c. got (f a b c))))) ≡ option_or (fault_in g) (option_or (fault_in h) (fault_in i))
 unfolding ◌>>=◌
 fault-three (got a) h i f = fault-two h i (f a)
 fault-three (refused r p) h i f = refl
 
-fault-then : {A B : Type 0} (g : Got A) (h : Got B) (f : Fault) → fault_in h ≡ f → fault_in (◌>>◌ g h) ≡ first_of (fault_in g) f
+fault-then : {A B : Type 0} (g : Got A) (h : Got B) (f : Option ℕ) → fault_in h ≡ f → fault_in (◌>>◌ g h) ≡ option_or (fault_in g) f
 unfolding ◌>>◌ ◌>>=◌
 fault-then (got a) h f e = e
 fault-then (refused r p) h f e = refl
 
-first-last : (f : Fault) → first_of f Nowhere ≡ f
-first-last (At p) = refl
-first-last Nowhere = refl
+first-last : (f : Option ℕ) → option_or f None ≡ f
+first-last (Some p) = refl
+first-last None = refl
 
-first-again : (f g h : Fault) → first_of (first_of f g) h ≡ first_of f (first_of g h)
-first-again (At p) g h = refl
-first-again Nowhere g h = refl
+first-again : (f g h : Option ℕ) → option_or (option_or f g) h ≡ option_or f (option_or g h)
+first-again (Some p) g h = refl
+first-again None g h = refl
 
 -- ---- sums
 
@@ -63,8 +63,8 @@ first-again Nowhere g h = refl
 abbrev pub plus : Judged → Judged → Judged
 plus s r =
     record {
-      other = first_of s.other r.other;
-      key = first_of s.key r.key;
+      other = option_or s.other r.other;
+      key = option_or s.key r.key;
       nesting = max s.nesting r.nesting;
       cells = s.cells + r.cells;
       bytes = s.bytes + r.bytes;
@@ -74,25 +74,25 @@ plus s r =
 abbrev pub consed : Judged → Judged → Judged
 consed j r =
     record {
-      other = first_of j.other r.other;
-      key = first_of j.key r.key;
+      other = option_or j.other r.other;
+      key = option_or j.key r.key;
       nesting = max j.nesting r.nesting;
       cells = suc (j.cells + r.cells);
       bytes = j.bytes + r.bytes;
     }
 
 -- an entry, with its key's fault, and those behind it
-abbrev pub entered : Fault → Judged → Judged → Judged → Judged
+abbrev pub entered : Option ℕ → Judged → Judged → Judged → Judged
 entered f k v r =
     record {
-      other = first_of k.other (first_of v.other r.other);
-      key = first_of f (first_of k.key (first_of v.key r.key));
+      other = option_or k.other (option_or v.other r.other);
+      key = option_or f (option_or k.key (option_or v.key r.key));
       nesting = max k.nesting (max v.nesting r.nesting);
       cells = suc (k.cells + suc (v.cells + r.cells));
       bytes = k.bytes + (v.bytes + r.bytes);
     }
 
-same : {o p : Fault} {k l : Fault} {a b c d e f : ℕ} → o ≡ p → k ≡ l → a ≡ b → c ≡ d → e ≡ f →
+same : {o p : Option ℕ} {k l : Option ℕ} {a b c d e f : ℕ} → o ≡ p → k ≡ l → a ≡ b → c ≡ d → e ≡ f →
     ◌≡◌ {A = Judged} (record { other = o; key = k; nesting = a; cells = c; bytes = e }) (record { other = p; key = l; nesting = b; cells = d; bytes = f })
 same g h i j m n = record { other = g n; key = h n; nesting = i n; cells = j n; bytes = m n }
 
@@ -110,12 +110,12 @@ plus-more s j r =
     same (first-again s.other j.other r.other) (first-again s.key j.key r.key) (max_again s.nesting j.nesting r.nesting) (omega arith)
     (omega arith)
 
-pub plus-keyed : (s : Judged) (f : Fault) (k v r : Judged) → plus (joined_of (joined_of (with_key s f) k) v) r ≡ plus s (entered f k v r)
+pub plus-keyed : (s : Judged) (f : Option ℕ) (k v r : Judged) → plus (joined_of (joined_of (with_key s f) k) v) r ≡ plus s (entered f k v r)
 plus-keyed s f k v r =
     same
-    (first-again (first_of s.other k.other) v.other r.other ∙ first-again s.other k.other (first_of v.other r.other))
-    (first-again (first_of (first_of s.key f) k.key) v.key r.key
-    ∙ (first-again (first_of s.key f) k.key (first_of v.key r.key) ∙ first-again s.key f (first_of k.key (first_of v.key r.key))))
+    (first-again (option_or s.other k.other) v.other r.other ∙ first-again s.other k.other (option_or v.other r.other))
+    (first-again (option_or (option_or s.key f) k.key) v.key r.key
+    ∙ (first-again (option_or s.key f) k.key (option_or v.key r.key) ∙ first-again s.key f (option_or k.key (option_or v.key r.key))))
     (omega arith) (omega arith) (omega arith)
 
 -- ---- parts, and the records that hold them
@@ -131,7 +131,7 @@ pub pairs-more : (before : List Literal) (k : Expr) (a : Part) (ps : Pairs) →
 unfolding judged_pairs judged_part judged_of add_pair literal_pairs_of literal_pairs_in keys_over literal_pairs_nesting cells_over bytes_over keys_in literal_nesting cells_for bytes_for text_bytes
 pairs-more before k (bare e) ps = same (fault-three (literal_of k) (literal_of e) (literal_pairs_of ps) (λ l m ls. literal_pairs l m ls)) refl refl refl refl
 pairs-more before k (marked p e) ps =
-    same (fault-then {B = LiteralPairs} (literal_of k) (refused NotALiteral p) (At p) refl) refl (omega arith) refl refl
+    same (fault-then {B = LiteralPairs} (literal_of k) (refused NotALiteral p) (Some p) refl) refl (omega arith) refl refl
 
 deeper-list : (p : ℕ) (es : Elements) → judged_of (list_of p es) ≡ deepened_of (judged_elements es)
 unfolding judged_of judged_elements literal_of literal_in keys_in literal_nesting cells_for bytes_for

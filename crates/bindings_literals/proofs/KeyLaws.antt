@@ -1,6 +1,7 @@
 -- Keys of a table: what the code sees of one and of those before it, and what the definition says of them. Assumes nothing.
 use Prim.Native.Nat.{ℕ, zero, suc, ◌<◌}
 use mathlib.Core.Path.{◌≡◌, refl, sym, ap, ◌∙◌}
+use Rattle.std.specs.Prelude.{Option, None, Some}
 use mathlib.Core.List.{List, []}
 use mathlib.Core.Bool.{Bool, true, false, not, cond}
 use native.Mathlib.Omega.{arith}
@@ -13,8 +14,6 @@ use Rattle.table_check.specs.Records.{expr_of, Sound}
 use Rattle.rooms.specs.declared.value.Value.{Value}
 use Rattle.rooms.specs.Value.{plain_of, is_key}
 use Rattle.rooms_comparison.specs.Seen.{seen_of, seen_scalar, same_seen}
-use Rattle.bindings_literals.specs.declared.judgement.Fault.{Fault}
-use Rattle.bindings_literals.specs.declared.judgement.Fault.TheVariants.{At, Nowhere}
 use Rattle.bindings_literals.specs.Literals.{literal_in, literal_value, keys_from, Entries}
 use Rattle.bindings_literals.specs.Judging.{matches, is_among, key_fault, repeated_in}
 use Rattle.bindings_literals.proofs.LiteralLaws.{View, a_scalar, a_list, a_map, another, view}
@@ -48,10 +47,10 @@ module _ (t x : List ℕ) (small : (i : ℕ) → get_or t i 0 < 256) where
     among-is (suc n) q es = rw (one q (view t x q small es.0), among-is n (after t (after t q)) es.2)
 
   module _ (n first p : ℕ) (es : Entries t x n first) (v : Value) (is : v ≡ literal_value t p) where
-    abbrev Says : Fault → Type 0
+    abbrev Says : Option ℕ → Type 0
     Says f = f ≡ key_fault (keys_from t x n first) (literal_in (expr_of t x p))
 
-    no-key-by : View t x p → is_key v ≡ false → Says (At p)
+    no-key-by : View t x p → is_key v ≡ false → Says (Some p)
     unfolding key_fault literal_in key_in
     no-key-by (a_scalar s e h) k = let g : is_some (key_in s) ≡ false = sym h.key ∙ (rw (← is) k) in rw (e, g)
     no-key-by (a_list b e ls f) k = rw f
@@ -61,14 +60,14 @@ module _ (t x : List ℕ) (small : (i : ℕ) → get_or t i 0 < 256) where
     absent-key : literal_value t p ≡ Value.Absent → is_key v ≡ false
     absent-key e = rw (is, e)
 
-    key-by : View t x p → is_key v ≡ true → (b : Bool) → repeated_in t x v n first ≡ b → Says (cond b (At p) Nowhere)
+    key-by : View t x p → is_key v ≡ true → (b : Bool) → repeated_in t x v n first ≡ b → Says (cond b (Some p) None)
     unfolding key_fault literal_in
     key-by (a_scalar s e h) k b r =
         let g : is_some (key_in s) ≡ true = sym h.key ∙ (rw (← is) k) in
         let m : is_among s (keys_from t x n first) ≡ b = sym (among-is s v (rw is h.seen) g n first es) ∙ r in
         rw (e, g, m) (flipped b)
       where
-        flipped : (b : Bool) → cond b (At p) Nowhere ≡ cond (not b) Nowhere (At p)
+        flipped : (b : Bool) → cond b (Some p) None ≡ cond (not b) None (Some p)
         flipped true = refl
         flipped false = refl
     key-by (a_list b e ls f) k c r = never k (absent-key e)
@@ -76,11 +75,11 @@ module _ (t x : List ℕ) (small : (i : ℕ) → get_or t i 0 < 256) where
     key-by (another e f g) k c r = never k (absent-key e)
 
     module _ (s : Sound t x p) where
-      pub no_key : is_key v ≡ false → Says (At p)
+      pub no_key : is_key v ≡ false → Says (Some p)
       no_key k = no-key-by (view t x p small s) k
 
-      pub key-again : is_key v ≡ true → repeated_in t x v n first ≡ true → Says (At p)
+      pub key-again : is_key v ≡ true → repeated_in t x v n first ≡ true → Says (Some p)
       key-again k r = key-by (view t x p small s) k true r
 
-      pub key-new : is_key v ≡ true → repeated_in t x v n first ≡ false → Says Nowhere
+      pub key-new : is_key v ≡ true → repeated_in t x v n first ≡ false → Says None
       key-new k r = key-by (view t x p small s) k false r

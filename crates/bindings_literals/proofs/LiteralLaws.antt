@@ -3,7 +3,7 @@ use Prim.Native.Nat.{ℕ, zero, suc, ◌+◌, ◌^◌, ◌≤◌, ◌<◌}
 use mathlib.Core.Path.{◌≡◌, refl, sym, ap, ◌∙◌}
 use mathlib.Core.List.{List, []}
 use mathlib.Core.Bool.{true, false}
-use mathlib.Core.Option.{Option, none, some}
+use Rattle.std.specs.Prelude.{Option, None, Some}
 use native.Mathlib.Omega.{arith}
 use lib.Dec.{eqb}
 use lib.ListN.{length, take, drop, get_or, set, length-take, length-drop}
@@ -14,7 +14,7 @@ use mir.Val.{to_z}
 use Rattle.numbers.specs.declared.double.Double.{Double}
 use Rattle.numbers.specs.Double.{bits_of, double_of}
 use Rattle.numbers.proofs.DoubleLaws.{bits_back}
-use Rattle.meaning.specs.Errors.{NotALiteral}
+use Rattle.meaning.specs.declared.refusal.Reason.TheVariants.{NotALiteral}
 use Rattle.meaning.specs.Value.{Scalar, null, bool, int, uint, double, string, bytes, key_in}
 use Rattle.meaning.specs.Expr.{literal}
 use Rattle.meaning.specs.Kinds.{ExprKind, null_kind, bool_kind, int_kind, uint_kind, double_kind, string_kind, bytes_kind, name_kind, unary_kind, binary_kind, conditional_kind, select_kind, list_kind, map_kind, comprehension_kind, function_kind, Called, to_one, to_none, to_two, numbered, functions}
@@ -27,7 +27,7 @@ use Rattle.table_check.specs.Fits.{is_some}
 use Rattle.table_layout.specs.Layout.{long_at}
 use Rattle.table_check.specs.Records.{expr_of, call_of, Sound, kind_byte}
 use Rattle.table_check.specs.Opened.{Opened}
-use Rattle.table_layout.proofs.NumberLiteralLaws.{four_is, long-is}
+use Rattle.table_layout.proofs.WordLaws.{long_is}
 use Rattle.table_check.proofs.FieldLaws.{span-inside}
 use Rattle.table_check.proofs.Opened.{opened}
 use Rattle.table_check.proofs.Parts.{sound-kind}
@@ -39,6 +39,7 @@ use Rattle.bindings_sound.specs.Fits.{is_absent}
 use Rattle.rooms_taking.specs.Taking.{pasted}
 use Rattle.bindings_literals.specs.Literals.{literal_in, literal_value, text_length, text_first, moved_to}
 use Rattle.bindings_literals.specs.Laying.{Room, room, typed, laid_scalar}
+use Rattle.rooms.specs.Spans.{span}
 
 pub no-literal : (t : List ℕ) (p n : ℕ) → n ≡ get_or t p 0 → (n ≡ 0 → ⊥) → (n ≡ 1 → ⊥) → (n ≡ 2 → ⊥) → (n ≡ 3 → ⊥) → (n ≡ 4 → ⊥) → (n ≡ 5 → ⊥) →
     (n ≡ 6 → ⊥) → Value.Absent ≡ literal_value t p
@@ -97,7 +98,7 @@ shows-text : (x t : List ℕ) (o to n : ℕ) → o + n ≤ length x →
     (typed t to (take n (drop o x)) ≡ pasted x [] Text.Literal t o to n) × (length (take n (drop o x)) ≡ n)
 shows-text x t o to n h = (pasted-typed x t o to n h, simp (length-take, length-drop) (omega arith))
 
-shows-string : (x : List ℕ) (o n : ℕ) → o + n ≤ length x → Shows x (string (take n (drop o x))) (Value.String Text.Literal o n)
+shows-string : (x : List ℕ) (o n : ℕ) → o + n ≤ length x → Shows x (string (take n (drop o x))) (Value.String (span Text.Literal o n))
 unfolding key_in text_bytes laid_scalar
 shows-string x o n h =
     record {
@@ -108,7 +109,7 @@ shows-string x o n h =
       laid = λ r. let s = shows-text x r.text o r.bytes n h in rw (s.0, s.1);
     }
 
-shows-bytes : (x : List ℕ) (o n : ℕ) → o + n ≤ length x → Shows x (bytes (take n (drop o x))) (Value.Bytes Text.Literal o n)
+shows-bytes : (x : List ℕ) (o n : ℕ) → o + n ≤ length x → Shows x (bytes (take n (drop o x))) (Value.Bytes (span Text.Literal o n))
 unfolding key_in text_bytes laid_scalar
 shows-bytes x o n h =
     record {
@@ -121,8 +122,8 @@ shows-bytes x o n h =
 
 some-span : (o : Option (List ℕ)) → is_some (utf8 o) ≡ true → is_some o ≡ true
 unfolding utf8
-some-span none e = e
-some-span (some s) e = refl
+some-span None e = e
+some-span (Some s) e = refl
 
 -- ---- the kinds of records
 
@@ -138,17 +139,15 @@ module _ (t x : List ℕ) (p : ℕ) (small : (i : ℕ) → get_or t i 0 < 256) (
   long-small i =
       omega (
         arith,
-        long-is t i,
-        four_is t i,
-        four_is t (i + 4),
+        long_is t i,
         small i,
         small (i + 1),
         small (i + 2),
         small (i + 3),
         small (i + 4),
-        small (i + 4 + 1),
-        small (i + 4 + 2),
-        small (i + 4 + 3),
+        small (i + 5),
+        small (i + 6),
+        small (i + 7),
       )
 
   -- a record that is no literal and no container
@@ -161,10 +160,10 @@ module _ (t x : List ℕ) (p : ℕ) (small : (i : ℕ) → get_or t i 0 < 256) (
 
   called : (c : Option Called) → (literal_in (call_of t x p c) ≡ scalar_at p null) × (literal_of (call_of t x p c) ≡ refused NotALiteral p)
   unfolding literal_in literal_of
-  called none = (refl, refl)
-  called (some (to_one f)) = (refl, refl)
-  called (some to_none) = (refl, refl)
-  called (some to_two) = (refl, refl)
+  called None = (refl, refl)
+  called (Some (to_one f)) = (refl, refl)
+  called (Some to_none) = (refl, refl)
+  called (Some to_two) = (refl, refl)
 
   by_kind : (k : ExprKind) → get_or t p 0 ≡ kind_byte k → View t x p
   unfolding literal_value literal_in literal_of key_in text_bytes laid_scalar
@@ -182,11 +181,11 @@ module _ (t x : List ℕ) (p : ℕ) (small : (i : ℕ) → get_or t i 0 < 256) (
       shown double_kind b (double_value (double_of (long_at t (p + 3)))) (double (long_at t (p + 3))) (rw b) (o double_kind b).is
       (shows-double x (long_at t (p + 3)) (long-small (p + 3)))
   by_kind string_kind b =
-      shown string_kind b (Value.String Text.Literal (word_at t (p + 3)) (word_at t (p + 5))) (string (take (word_at t (p + 5)) (drop (word_at t (p + 3)) x)))
+      shown string_kind b (Value.String (span Text.Literal (word_at t (p + 3)) (word_at t (p + 5)))) (string (take (word_at t (p + 5)) (drop (word_at t (p + 3)) x)))
       (rw b) (o string_kind b).is
       (shows-string x (word_at t (p + 3)) (word_at t (p + 5)) (span-inside x (word_at t (p + 3)) (word_at t (p + 5)) (some-span _ (o string_kind b).fits)))
   by_kind bytes_kind b =
-      shown bytes_kind b (Value.Bytes Text.Literal (word_at t (p + 3)) (word_at t (p + 5))) (bytes (take (word_at t (p + 5)) (drop (word_at t (p + 3)) x))) (rw b)
+      shown bytes_kind b (Value.Bytes (span Text.Literal (word_at t (p + 3)) (word_at t (p + 5)))) (bytes (take (word_at t (p + 5)) (drop (word_at t (p + 3)) x))) (rw b)
       (o bytes_kind b).is (shows-bytes x (word_at t (p + 3)) (word_at t (p + 5)) (span-inside x (word_at t (p + 3)) (word_at t (p + 5)) (o bytes_kind b).fits))
   by_kind name_kind b = another (rw b) (rw (o name_kind b).is) (rw (o name_kind b).is)
   by_kind unary_kind b = another (rw b) (rw (o unary_kind b).is) (rw (o unary_kind b).is)

@@ -3,10 +3,11 @@
 use Prim.Native.Nat.{ℕ}
 use mathlib.Core.Path.{◌≡◌, refl, sym, ap, ◌∙◌}
 use mathlib.Core.List.{List, [], ◌∷◌, ◌++◌}
-use mathlib.Core.Option.{Option, none, some}
+use Rattle.std.specs.Option.{option_or}
+use Rattle.std.specs.Prelude.{Option, None, Some}
 use mathlib.Core.Bool.{Bool, true, false, not, ◌&&◌, ◌||◌, cond}
 use native.Mathlib.Omega.{arith}
-use Rattle.meaning.specs.Errors.{UnsoundBinding}
+use Rattle.meaning.specs.declared.refusal.Reason.TheVariants.{UnsoundBinding}
 use Rattle.meaning.specs.Value.{Scalar, null, bool, int, uint, double, string, bytes, Key, int_key, uint_key, bool_key, string_key, key_scalar, key_in, Value, scalar, list, map, Values, nil, cons, Entries, empty, entry, add_entry}
 use Rattle.meaning.specs.Comparison.{scalar_equal, tick, find}
 use Rattle.meaning.specs.Maps.{is_found}
@@ -18,10 +19,8 @@ use Rattle.meaning.specs.Spelling.{Literal, scalar_at, list_at, map_at, Literals
 use Rattle.meaning_laws.specs.Each.{Reads}
 use Rattle.meaning_laws.proofs.Reading.{reads-got, reads-refused, reads-bind, reads_then, reads-demand, reads-weaker, was_read}
 use Rattle.table_check.specs.Fits.{is_some}
-use Rattle.bindings_literals.specs.declared.judgement.Fault.{Fault}
-use Rattle.bindings_literals.specs.declared.judgement.Fault.TheVariants.{At, Nowhere}
 use Rattle.bindings_literals.specs.Literals.{literal_in, literals_in, literal_pairs_in}
-use Rattle.bindings_literals.specs.Judging.{first_of, fault_in, matches, is_among, key_fault, keys_in, keys_among, keys_over, cells_for, cells_among, cells_over, bytes_for, bytes_among, bytes_over}
+use Rattle.bindings_literals.specs.Judging.{fault_in, matches, is_among, key_fault, keys_in, keys_among, keys_over, cells_for, cells_among, cells_over, bytes_for, bytes_among, bytes_over}
 use Rattle.bindings_literals.proofs.JudgeLaws.{fault-map}
 
 -- ---- a table of literals is what its records are
@@ -73,14 +72,14 @@ unfolding is_among
 among-added x [] l = or-false (matches x l)
 among-added x (m ∷ ls) l = ap (λ b. matches x m || b) (among-added x ls l) ∙ sym (or-again (matches x m) (is_among x ls) (matches x l))
 
-found-cond : (b : Bool) (v : Value) (o : ℕ × Option Value) → is_found (tick (cond b (0, some v) o)).1 ≡ (b || is_found o.1)
+found-cond : (b : Bool) (v : Value) (o : ℕ × Option Value) → is_found (tick (cond b (0, Some v) o)).1 ≡ (b || is_found o.1)
 unfolding is_found tick
 found-cond true v o = refl
 found-cond false v o = refl
 
 found-added : (x : Scalar) (es : Entries) (k : Key) (v : Value) → is_found (find x (add_entry es k v)).1 ≡ (is_found (find x es).1 || scalar_equal x (key_scalar k))
 unfolding find add_entry is_found
-found-added x empty k v = found-cond (scalar_equal x (key_scalar k)) v (0, none) ∙ or-false (scalar_equal x (key_scalar k))
+found-added x empty k v = found-cond (scalar_equal x (key_scalar k)) v (0, None) ∙ or-false (scalar_equal x (key_scalar k))
 found-added x (entry j w es) k v =
     found-cond (scalar_equal x (key_scalar j)) w (find x (add_entry es k v))
     ∙ (ap (λ b. scalar_equal x (key_scalar j) || b) (found-added x es k v)
@@ -93,7 +92,7 @@ unfolding matches
 matching-added before es p k v m x =
     among-added x before (scalar_at p (key_scalar k)) ∙ (ap (λ b. b || scalar_equal x (key_scalar k)) (m x) ∙ sym (found-added x es k v))
 
-key-scalar : (x : Scalar) (k : Key) → key_in x ≡ some k → x ≡ key_scalar k
+key-scalar : (x : Scalar) (k : Key) → key_in x ≡ Some k → x ≡ key_scalar k
 unfolding key_in key_scalar
 key-scalar null k e = let z : ◌≡◌ {A = ℕ} 0 1 = cc in absurd (omega arith)
 key-scalar (bool b) k e = let f : bool_key b ≡ k = cc in ap key_scalar f
@@ -103,18 +102,18 @@ key-scalar (double d) k e = let z : ◌≡◌ {A = ℕ} 0 1 = cc in absurd (omeg
 key-scalar (string s) k e = let f : string_key s ≡ k = cc in ap key_scalar f
 key-scalar (bytes s) k e = let z : ◌≡◌ {A = ℕ} 0 1 = cc in absurd (omega arith)
 
-demanded : (b : Bool) (p : ℕ) (k : Key) → fault_in (◌>>◌ (demand (not b) UnsoundBinding p) (got k)) ≡ cond (not b) Nowhere (At p)
+demanded : (b : Bool) (p : ℕ) (k : Key) → fault_in (◌>>◌ (demand (not b) UnsoundBinding p) (got k)) ≡ cond (not b) None (Some p)
 unfolding demand ◌>>◌ ◌>>=◌
 demanded true p k = refl
 demanded false p k = refl
 
 new-fault : (before : List Literal) (es : Entries) → Matching before es → (p : ℕ) (x : Scalar) (o : Option Key) → key_in x ≡ o →
-    fault_in (new_key es p o) ≡ cond (is_some o && not (is_among x before)) Nowhere (At p)
+    fault_in (new_key es p o) ≡ cond (is_some o && not (is_among x before)) None (Some p)
 unfolding new_key
-new-fault before es m p x none e = refl
-new-fault before es m p x (some k) e =
+new-fault before es m p x None e = refl
+new-fault before es m p x (Some k) e =
     let f : is_found (find (key_scalar k) es).1 ≡ is_among x before = ap (λ (y : Scalar). is_found (find y es).1) (sym (key-scalar x k e)) ∙ sym (m x) in
-    demanded (is_found (find (key_scalar k) es).1) p k ∙ ap (λ b. cond (not b) Nowhere (At p)) f
+    demanded (is_found (find (key_scalar k) es).1) p k ∙ ap (λ b. cond (not b) None (Some p)) f
 
 key-fault : (before : List Literal) (es : Entries) → Matching before es → (l : Literal) → fault_in (key_literal es l) ≡ key_fault before l
 unfolding key_literal key_fault
@@ -128,8 +127,8 @@ KeyAt l k = (p : ℕ) × (l ≡ scalar_at p (key_scalar k))
 
 new-read : (es : Entries) (p : ℕ) (x : Scalar) (o : Option Key) → key_in x ≡ o → Reads (λ k. KeyAt (scalar_at p x) k) (new_key es p o)
 unfolding new_key
-new-read es p x none e = reads-refused
-new-read es p x (some k) e = reads-demand _ UnsoundBinding p (λ d. reads-got k (p, ap (λ (y : Scalar). scalar_at p y) (key-scalar x k e)))
+new-read es p x None e = reads-refused
+new-read es p x (Some k) e = reads-demand _ UnsoundBinding p (λ d. reads-got k (p, ap (λ (y : Scalar). scalar_at p y) (key-scalar x k e)))
 
 key-read : (es : Entries) (l : Literal) → Reads (λ k. KeyAt l k) (key_literal es l)
 unfolding key_literal
@@ -139,8 +138,8 @@ key-read es (map_at p ls) = reads-refused
 
 -- ---- the first fault of the keys
 
-fault-bind : {A B : Type 0} (g : Got A) (k : A → Got B) (f h : Fault) → fault_in g ≡ f → ((a : A) → g ≡ got a → fault_in (k a) ≡ h) →
-    fault_in (◌>>=◌ g k) ≡ first_of f h
+fault-bind : {A B : Type 0} (g : Got A) (k : A → Got B) (f h : Option ℕ) → fault_in g ≡ f → ((a : A) → g ≡ got a → fault_in (k a) ≡ h) →
+    fault_in (◌>>=◌ g k) ≡ option_or f h
 unfolding ◌>>=◌
 fault-bind (got a) k f h e i = rw (← e) (i a refl)
 fault-bind (refused r p) k f h e i = rw (← e)
@@ -165,7 +164,7 @@ mutual
   entries-fault : (ls : LiteralPairs) (before : List Literal) (es : Entries) → Matching before es → fault_in (spelled_entries ls es) ≡ keys_over before ls
   entries-fault no_literal_pairs before es m = refl
   entries-fault (literal_pairs l n ls) before es m =
-      fault-bind (key_literal es l) _ (key_fault before l) (first_of (keys_in l) (first_of (keys_in n) (keys_over (before ++ (l ∷ [])) ls))) (key-fault before es m l)
+      fault-bind (key_literal es l) _ (key_fault before l) (option_or (keys_in l) (option_or (keys_in n) (keys_over (before ++ (l ∷ [])) ls))) (key-fault before es m l)
       (λ k e. let a = was_read (key-read es l) e in
       rw a.1
       (fault-bind (spelled n) _ (keys_in n) (keys_over (before ++ (scalar_at a.0 (key_scalar k) ∷ [])) ls) (spelled-fault n)

@@ -1,6 +1,7 @@
 -- What a table comes to as a binding, in the order in which it is judged: the first record that is no literal, List or Map; how deep it
 -- nests; the first key that is none or that matches one before it; and how many cells and bytes it takes.
-use Rattle.std.specs.Prelude.{ℕ, zero, suc, ◌+◌, ◌*◌, ◌≤◌, max, List, [], ◌∷◌, ◌++◌, Bool, false, not, ◌&&◌, ◌||◌, cond}
+use Rattle.std.specs.Prelude.{ℕ, zero, suc, ◌+◌, ◌*◌, ◌≤◌, max, List, [], ◌∷◌, ◌++◌, Bool, false, not, ◌&&◌, ◌||◌, cond, Option, None, Some}
+use Rattle.std.specs.Option.{option_or}
 use Rattle.meaning.specs.Value.{Scalar, key_in}
 use Rattle.meaning.specs.Comparison.{scalar_equal}
 use Rattle.meaning.specs.Expr.{Expr, Elements, Pairs}
@@ -8,8 +9,6 @@ use Rattle.meaning.specs.Heads.{Got, got, refused}
 use Rattle.meaning.specs.Table.{Part, bare, marked}
 use Rattle.meaning.specs.Bindings.{text_bytes}
 use Rattle.meaning.specs.Spelling.{Literal, scalar_at, list_at, map_at, Literals, no_literals, literals, LiteralPairs, no_literal_pairs, literal_pairs, literal_of, literals_of, literal_pairs_of, literal_nesting, literals_nesting, literal_pairs_nesting}
-use Rattle.bindings_literals.specs.declared.judgement.Fault.{Fault}
-use Rattle.bindings_literals.specs.declared.judgement.Fault.TheVariants.{At, Nowhere}
 use Rattle.bindings_literals.specs.declared.judgement.Judged.{Judged}
 use Rattle.bindings_literals.specs.Literals.{literal_in, literals_in, literal_pairs_in, literal_value, text_length}
 use Rattle.table_check.specs.Fits.{is_some}
@@ -19,13 +18,9 @@ use Rattle.rooms.specs.Value.{plain_of}
 use Rattle.rooms_comparison.specs.Seen.{seen_of, same_seen}
 use Rattle.bindings_sound.specs.Fits.{is_absent}
 
-abbrev pub first_of : Fault → Fault → Fault
-first_of (At p) f = At p
-first_of Nowhere f = f
-
-abbrev pub fault_in : {A : Type 0} → Got A → Fault
-fault_in (got a) = Nowhere
-fault_in (refused r p) = At p
+abbrev pub fault_in : {A : Type 0} → Got A → Option ℕ
+fault_in (got a) = None
+fault_in (refused r p) = Some p
 
 -- ---- keys
 
@@ -40,26 +35,26 @@ is_among x [] = false
 is_among x (l ∷ ls) = matches x l || is_among x ls
 
 -- the fault of a key, behind others
-unfoldable pub key_fault : List Literal → Literal → Fault
-key_fault before (scalar_at p x) = cond (is_some (key_in x) && not (is_among x before)) Nowhere (At p)
-key_fault before (list_at p ls) = At p
-key_fault before (map_at p ls) = At p
+unfoldable pub key_fault : List Literal → Literal → Option ℕ
+key_fault before (scalar_at p x) = cond (is_some (key_in x) && not (is_among x before)) None (Some p)
+key_fault before (list_at p ls) = Some p
+key_fault before (map_at p ls) = Some p
 
 -- the first in the order of the table
 unfoldable mutual
-  pub keys_in : Literal → Fault
-  keys_in (scalar_at p x) = Nowhere
+  pub keys_in : Literal → Option ℕ
+  keys_in (scalar_at p x) = None
   keys_in (list_at p ls) = keys_among ls
   keys_in (map_at p ls) = keys_over [] ls
 
-  pub keys_among : Literals → Fault
-  keys_among no_literals = Nowhere
-  keys_among (literals l ls) = first_of (keys_in l) (keys_among ls)
+  pub keys_among : Literals → Option ℕ
+  keys_among no_literals = None
+  keys_among (literals l ls) = option_or (keys_in l) (keys_among ls)
 
   -- of entries behind those whose keys are given
-  pub keys_over : List Literal → LiteralPairs → Fault
-  keys_over before no_literal_pairs = Nowhere
-  keys_over before (literal_pairs l m ls) = first_of (key_fault before l) (first_of (keys_in l) (first_of (keys_in m) (keys_over (before ++ (l ∷ [])) ls)))
+  pub keys_over : List Literal → LiteralPairs → Option ℕ
+  keys_over before no_literal_pairs = None
+  keys_over before (literal_pairs l m ls) = option_or (key_fault before l) (option_or (keys_in l) (option_or (keys_in m) (keys_over (before ++ (l ∷ [])) ls)))
 
 -- ---- room
 
@@ -94,31 +89,31 @@ unfoldable mutual
 -- ---- what records come to together
 
 abbrev pub nothing_judged : Judged
-nothing_judged = record { other = Nowhere; key = Nowhere; nesting = 0; cells = 0; bytes = 0 }
+nothing_judged = record { other = None; key = None; nesting = 0; cells = 0; bytes = 0 }
 
 -- one part more
 abbrev pub joined_of : Judged → Judged → Judged
 joined_of s j =
     record {
-      other = first_of s.other j.other;
-      key = first_of s.key j.key;
+      other = option_or s.other j.other;
+      key = option_or s.key j.key;
       nesting = max s.nesting j.nesting;
       cells = s.cells + j.cells + 1;
       bytes = s.bytes + j.bytes;
     }
 
-abbrev pub with_key : Judged → Fault → Judged
-with_key s f = record { other = s.other; key = first_of s.key f; nesting = s.nesting; cells = s.cells; bytes = s.bytes }
+abbrev pub with_key : Judged → Option ℕ → Judged
+with_key s f = record s { key = option_or s.key f }
 
 -- the container of these parts
 abbrev pub deepened_of : Judged → Judged
-deepened_of s = record { other = s.other; key = s.key; nesting = s.nesting + 1; cells = s.cells; bytes = s.bytes }
+deepened_of s = record s { nesting = s.nesting + 1 }
 
-abbrev pub other_fault : Value → ℕ → Fault
-other_fault v p = cond (is_absent v) (At p) Nowhere
+abbrev pub other_fault : Value → ℕ → Option ℕ
+other_fault v p = cond (is_absent v) (Some p) None
 
 abbrev pub without_parts : Value → ℕ → Judged
-without_parts v p = record { other = other_fault v p; key = Nowhere; nesting = 0; cells = 0; bytes = text_length v }
+without_parts v p = record nothing_judged { other = other_fault v p; bytes = text_length v }
 
 -- bounded by the bytes that the records take
 pub record Small (j : Judged) (n : ℕ) : Type 0 where
@@ -146,7 +141,7 @@ judged_of e =
 -- a mark is no literal
 unfoldable pub judged_part : Part → Judged
 judged_part (bare e) = judged_of e
-judged_part (marked p e) = record { other = At p; key = Nowhere; nesting = 0; cells = 0; bytes = 0 }
+judged_part (marked p e) = record nothing_judged { other = Some p }
 
 -- without the container that they are in
 unfoldable pub judged_elements : Elements → Judged

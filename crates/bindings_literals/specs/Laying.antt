@@ -9,6 +9,7 @@ use Rattle.rooms.specs.declared.value.TextSpace.TheVariants as Text
 use Rattle.rooms.specs.declared.value.CellSpace.TheVariants as Cells
 use Rattle.rooms.specs.Value.{double_value}
 use Rattle.rooms.specs.Cells.{written_in}
+use Rattle.rooms.specs.Spans.{span, row}
 
 -- the lent words and text, and how much of them is used
 pub record Room : Type 0 where
@@ -41,8 +42,8 @@ laid_scalar (bool b) r = (Value.Bool b, r)
 laid_scalar (int z) r = (Value.Int z, r)
 laid_scalar (uint n) r = (Value.Uint n, r)
 laid_scalar (double d) r = (double_value (double_of d), r)
-laid_scalar (string s) r = (Value.String Text.Binding r.bytes (length s), with_text r s)
-laid_scalar (bytes s) r = (Value.Bytes Text.Binding r.bytes (length s), with_text r s)
+laid_scalar (string s) r = (Value.String (span Text.Binding r.bytes (length s)), with_text r s)
+laid_scalar (bytes s) r = (Value.Bytes (span Text.Binding r.bytes (length s)), with_text r s)
 
 unfoldable pub count_literals : Literals → ℕ
 count_literals no_literals = 0
@@ -56,9 +57,9 @@ unfoldable mutual
   pub laid : Literal → Room → Value × Room
   laid (scalar_at p x) r = laid_scalar x r
   laid (list_at p ls) r =
-      (Value.List (suc (literals_nesting ls)) Cells.Binding r.cells (count_literals ls), laid_row ls r.cells (taking r (count_literals ls)))
+      (Value.List (suc (literals_nesting ls)) (row Cells.Binding r.cells (count_literals ls)), laid_row ls r.cells (taking r (count_literals ls)))
   laid (map_at p ls) r =
-      (Value.Map (suc (literal_pairs_nesting ls)) Cells.Binding r.cells (count_pairs ls), laid_pairs ls r.cells (taking r (2 * count_pairs ls)))
+      (Value.Map (suc (literal_pairs_nesting ls)) (row Cells.Binding r.cells (count_pairs ls)), laid_pairs ls r.cells (taking r (2 * count_pairs ls)))
 
   -- parts, whose cells begin at a place
   pub laid_row : Literals → ℕ → Room → Room

@@ -12,6 +12,7 @@ use Rattle.table_check.specs.Records.{expr_of, part_of, Sound, SoundPart}
 use Rattle.rooms.specs.declared.value.Value.{Value}
 use Rattle.rooms.specs.declared.value.TextSpace.TheVariants as Text
 use Rattle.rooms.specs.Value.{double_value}
+use Rattle.rooms.specs.Spans.{span}
 
 -- ---- expressions
 
@@ -86,8 +87,8 @@ literal_value t p =
     (cond (eqb (get_or t p 0) 2) (Value.Int (to_z w64 (long_at t (p + fields_at))))
     (cond (eqb (get_or t p 0) 3) (Value.Uint (long_at t (p + fields_at)))
     (cond (eqb (get_or t p 0) 4) (double_value (double_of (long_at t (p + fields_at))))
-    (cond (eqb (get_or t p 0) 5) (Value.String Text.Literal (word_at t (p + fields_at)) (word_at t (p + (fields_at + word_bytes))))
-    (cond (eqb (get_or t p 0) 6) (Value.Bytes Text.Literal (word_at t (p + fields_at)) (word_at t (p + (fields_at + word_bytes)))) Value.Absent))))))
+    (cond (eqb (get_or t p 0) 5) (Value.String (span Text.Literal (word_at t (p + fields_at)) (word_at t (p + (fields_at + word_bytes)))))
+    (cond (eqb (get_or t p 0) 6) (Value.Bytes (span Text.Literal (word_at t (p + fields_at)) (word_at t (p + (fields_at + word_bytes))))) Value.Absent))))))
 
 abbrev pub text_length : Value → ℕ
 text_length Value.Null = 0
@@ -96,10 +97,10 @@ text_length (Value.Int z) = 0
 text_length (Value.Uint n) = 0
 text_length (Value.Double x) = 0
 text_length (Value.Nan b) = 0
-text_length (Value.String s a n) = n
-text_length (Value.Bytes s a n) = n
-text_length (Value.List d s a n) = 0
-text_length (Value.Map d s a n) = 0
+text_length (Value.String sp) = sp.length
+text_length (Value.Bytes sp) = sp.length
+text_length (Value.List d ro) = 0
+text_length (Value.Map d ro) = 0
 text_length Value.OptionalNone = 0
 text_length (Value.OptionalOf d s a) = 0
 text_length Value.Absent = 0
@@ -112,10 +113,10 @@ text_first (Value.Int z) = 0
 text_first (Value.Uint n) = 0
 text_first (Value.Double x) = 0
 text_first (Value.Nan b) = 0
-text_first (Value.String s a n) = a
-text_first (Value.Bytes s a n) = a
-text_first (Value.List d s a n) = 0
-text_first (Value.Map d s a n) = 0
+text_first (Value.String sp) = sp.first
+text_first (Value.Bytes sp) = sp.first
+text_first (Value.List d ro) = 0
+text_first (Value.Map d ro) = 0
 text_first Value.OptionalNone = 0
 text_first (Value.OptionalOf d s a) = 0
 text_first Value.Absent = 0
@@ -128,10 +129,10 @@ moved_to to (Value.Int z) = Value.Int z
 moved_to to (Value.Uint n) = Value.Uint n
 moved_to to (Value.Double x) = Value.Double x
 moved_to to (Value.Nan b) = Value.Nan b
-moved_to to (Value.String s a n) = Value.String Text.Binding to n
-moved_to to (Value.Bytes s a n) = Value.Bytes Text.Binding to n
-moved_to to (Value.List d s a n) = Value.List d s a n
-moved_to to (Value.Map d s a n) = Value.Map d s a n
+moved_to to (Value.String sp) = Value.String (span Text.Binding to sp.length)
+moved_to to (Value.Bytes sp) = Value.Bytes (span Text.Binding to sp.length)
+moved_to to (Value.List d ro) = Value.List d ro
+moved_to to (Value.Map d ro) = Value.Map d ro
 moved_to to Value.OptionalNone = Value.OptionalNone
 moved_to to (Value.OptionalOf d s a) = Value.OptionalOf d s a
 moved_to to Value.Absent = Value.Null

@@ -12,9 +12,9 @@ ghost use Rattle.std.specs.Prelude.{◌≡◌, [], ◌+◌, ◌-◌, ◌<◌, �
 ghost use Rattle.table_layout.specs.Layout.{word_at};
 ghost use Rattle.table_check.specs.Records.{SoundPart, part_of, elements_of, pairs_of};
 ghost use Rattle.bindings_literals.specs.Literals.{Operands, Entries, row_bytes, entry_bytes};
-ghost use Rattle.bindings_literals.specs.Judging.{other_fault, without_parts, Small, judged_part, judged_elements, judged_pairs};
+ghost use Rattle.bindings_literals.specs.Judging.{without_parts, Small, judged_part, judged_elements, judged_pairs};
 
-use crate::judgement::{Fault, Judged, deepened, joined, nothing_judged, with_key};
+use crate::judgement::Judged;
 use crate::keys::key_fault;
 use crate::literals::{literal_at, text_length};
 use bindings_sound::values::is_absent;
@@ -23,26 +23,14 @@ use table_layout::fields::count_at;
 use table_layout::kinds::{LIST, MAP};
 use table_layout::outline::{end_at, first_operand, kind_at};
 
-fn other_fault(v: Value, at: usize) -> Fault
-    ensures { result ≡ other_fault v at }
-{
-    if is_absent(v) {
-        Fault::At(at)
-    } else {
-        Fault::Nowhere
-    }
-}
-
 fn without_parts(v: Value, at: usize) -> Judged
     ensures { (result ≡ without_parts v at) × (result.bytes < 65536) }
 {
-    let other = other_fault(v, at);
+    let other = if is_absent(v) { Some(at) } else { None };
     Judged {
         other,
-        key: Fault::Nowhere,
-        nesting: 0,
-        cells: 0,
         bytes: text_length(v),
+        ..Judged::NOTHING
     }
 }
 
@@ -55,11 +43,11 @@ pub fn judge(table: &[u8], literal: &[u8], at: usize) -> Judged
     let kind = kind_at(table, at);
     if kind == LIST {
         let first = first_operand(table, at);
-        return deepened(judge_elements(table, literal, first, count_at(table, at)));
+        return judge_elements(table, literal, first, count_at(table, at)).deepened();
     }
     if kind == MAP {
         let first = first_operand(table, at);
-        return deepened(judge_entries(table, literal, first, count_at(table, at)));
+        return judge_entries(table, literal, first, count_at(table, at)).deepened();
     }
     without_parts(literal_at(table, at), at)
 }
@@ -69,13 +57,11 @@ fn judge_elements(table: &[u8], literal: &[u8], first: usize, count: usize) -> J
     requires { Operands table.now literal.now count first × (first + row_bytes table.now count first ≤ length table.now) × (length table.now ≤ 16384) }
     ensures { (result ≡ judged_elements (elements_of table.now literal.now count first)) × Small result (row_bytes table.now count first) }
 {
-    let mut sum = nothing_judged();
+    let mut sum = Judged::NOTHING;
     let mut at = first;
-    let mut left = count;
-    while 0 < left {
-        sum = joined(sum, judge(table, literal, at));
+    for _ in 0..count {
+        sum = sum.joined(judge(table, literal, at));
         at = end_at(table, at);
-        left -= 1;
     }
     sum
 }
@@ -85,16 +71,14 @@ fn judge_entries(table: &[u8], literal: &[u8], first: usize, count: usize) -> Ju
     requires { Entries table.now literal.now count first × (first + entry_bytes table.now count first ≤ length table.now) × (length table.now ≤ 16384) }
     ensures { (result ≡ judged_pairs [] (pairs_of table.now literal.now count first)) × Small result (entry_bytes table.now count first) }
 {
-    let mut sum = nothing_judged();
+    let mut sum = Judged::NOTHING;
     let mut at = first;
-    let mut left = count;
-    while 0 < left {
+    for entry in 0..count {
         let value = end_at(table, at);
-        let fault = key_fault(table, literal, first, count - left, at);
-        sum = joined(with_key(sum, fault), judge(table, literal, at));
-        sum = joined(sum, judge(table, literal, value));
+        let fault = key_fault(table, literal, first, entry, at);
+        sum = sum.with_key(fault).joined(judge(table, literal, at));
+        sum = sum.joined(judge(table, literal, value));
         at = end_at(table, value);
-        left -= 1;
     }
     sum
 }

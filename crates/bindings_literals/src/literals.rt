@@ -3,7 +3,7 @@ ghost use Rattle.std.specs.Prelude.{◌≡◌, ◌+◌, ◌<◌, ◌≤◌, leng
 ghost use Rattle.table_layout.specs.Layout.{kind_numbers, head_bytes};
 ghost use Rattle.bindings_literals.specs.Literals.{literal_value, text_length, text_first, moved_to};
 
-use rooms::value::{TextSpace, Value, double_value};
+use rooms::value::{Span, TextSpace, Value, double_value};
 use table_layout::fields::{number_at, span_at};
 use table_layout::kinds::{BOOL, BYTES, DOUBLE, INT, NULL, STRING, UINT};
 use table_layout::number_literals::{bits_at, int_at};
@@ -22,11 +22,19 @@ pub fn literal_at(table: &[u8], at: usize) -> Value
         DOUBLE => double_value(bits_at(table, at)),
         STRING => {
             let span = span_at(table, at);
-            Value::String(TextSpace::Literal, span.offset as u16, span.size as u16)
+            Value::String(Span {
+                space: TextSpace::Literal,
+                first: span.offset as u16,
+                length: span.size as u16,
+            })
         }
         BYTES => {
             let span = span_at(table, at);
-            Value::Bytes(TextSpace::Literal, span.offset as u16, span.size as u16)
+            Value::Bytes(Span {
+                space: TextSpace::Literal,
+                first: span.offset as u16,
+                length: span.size as u16,
+            })
         }
         _ => Value::Absent,
     }
@@ -37,19 +45,8 @@ pub fn text_length(v: Value) -> usize
     ensures { (result ≡ text_length v) × (result < 65536) }
 {
     match v {
-        Value::Null => 0,
-        Value::Bool(_) => 0,
-        Value::Int(_) => 0,
-        Value::Uint(_) => 0,
-        Value::Double(_) => 0,
-        Value::Nan(_) => 0,
-        Value::String(_, _, length) => length as usize,
-        Value::Bytes(_, _, length) => length as usize,
-        Value::List(_, _, _, _) => 0,
-        Value::Map(_, _, _, _) => 0,
-        Value::OptionalNone => 0,
-        Value::OptionalOf(_, _, _) => 0,
-        Value::Absent => 0,
+        Value::String(span) | Value::Bytes(span) => span.length as usize,
+        _ => 0,
     }
 }
 
@@ -58,19 +55,8 @@ pub fn text_first(v: Value) -> u16
     ensures { result ≡ text_first v }
 {
     match v {
-        Value::Null => 0,
-        Value::Bool(_) => 0,
-        Value::Int(_) => 0,
-        Value::Uint(_) => 0,
-        Value::Double(_) => 0,
-        Value::Nan(_) => 0,
-        Value::String(_, first, _) => first,
-        Value::Bytes(_, first, _) => first,
-        Value::List(_, _, _, _) => 0,
-        Value::Map(_, _, _, _) => 0,
-        Value::OptionalNone => 0,
-        Value::OptionalOf(_, _, _) => 0,
-        Value::Absent => 0,
+        Value::String(span) | Value::Bytes(span) => span.first,
+        _ => 0,
     }
 }
 
@@ -79,18 +65,17 @@ pub fn moved_to(to: u16, v: Value) -> Value
     ensures { result ≡ moved_to to v }
 {
     match v {
-        Value::Null => Value::Null,
-        Value::Bool(b) => Value::Bool(b),
-        Value::Int(z) => Value::Int(z),
-        Value::Uint(n) => Value::Uint(n),
-        Value::Double(float) => Value::Double(float),
-        Value::Nan(bits) => Value::Nan(bits),
-        Value::String(_, _, length) => Value::String(TextSpace::Binding, to, length),
-        Value::Bytes(_, _, length) => Value::Bytes(TextSpace::Binding, to, length),
-        Value::List(nesting, space, first, length) => Value::List(nesting, space, first, length),
-        Value::Map(nesting, space, first, length) => Value::Map(nesting, space, first, length),
-        Value::OptionalNone => Value::OptionalNone,
-        Value::OptionalOf(nesting, space, cell) => Value::OptionalOf(nesting, space, cell),
+        Value::String(span) => Value::String(Span {
+            space: TextSpace::Binding,
+            first: to,
+            length: span.length,
+        }),
+        Value::Bytes(span) => Value::Bytes(Span {
+            space: TextSpace::Binding,
+            first: to,
+            length: span.length,
+        }),
         Value::Absent => Value::Null,
+        _ => v,
     }
 }

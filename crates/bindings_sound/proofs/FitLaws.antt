@@ -4,8 +4,8 @@ use mathlib.Core.Path.{◌≡◌, refl, sym, ap, ◌∙◌}
 use mathlib.Core.List.{List}
 use mathlib.Core.Bool.{Bool, true, false, ◌&&◌, cond}
 use native.Mathlib.Omega.{arith}
-use lib.Dec.{leb, eqb, ltb}
-use borrow.Author.Tests.{le-leb, leb-true, le-ltb, eqb-true, eqb-false, ltb-false}
+use lib.Dec.{leb, eqb}
+use borrow.Author.Tests.{le-leb, leb-true, eqb-true, eqb-false}
 use Rattle.text.specs.Utf8.{well_formed}
 use Rattle.rooms.specs.declared.value.Value.{Value}
 use Rattle.rooms.specs.declared.value.TextSpace.{TextSpace}
@@ -19,10 +19,10 @@ use Rattle.rooms.specs.Rooms.{part}
 use Rattle.rooms_taking.specs.Taking.{cell_room, text_room}
 use Rattle.rooms.specs.Scope.{slot_of}
 use Rattle.bindings_sound.specs.declared.Bindings.{Bindings}
-use Rattle.bindings_sound.specs.declared.Soundness.TheVariants.{Sound, Unsound}
+use Rattle.std.specs.Prelude.{Option, None, Some, Ok}
 use Rattle.bindings_sound.specs.Keys.{keys_fit}
 use Rattle.bindings_sound.specs.Fits.{deepest_in, span_fits, string_fits, row_fits, map_fits, value_fits, slot_fits}
-use Rattle.bindings_sound.specs.Sound.{cell_fits, first_bad, slots_fit, used_cells, used_bytes, sound_of}
+use Rattle.bindings_sound.specs.Sound.{verdict, cell_fits, first_bad, slots_fit, used_cells, used_bytes, sound_of}
 use Rattle.bindings_sound.specs.SoundRoom.{SoundRoom}
 
 never : {A : Type 0} {b : Bool} → b ≡ true → b ≡ false → A
@@ -89,17 +89,17 @@ deepest-part w a (suc n) (suc i) h =
 -- ---- a room
 
 module _ (w t : List ℕ) (used bytes : ℕ) where
-  good-by : (i j n x : ℕ) (b : Bool) → cell_fits w t used bytes i ≡ b → i + suc n ≤ cond b x i → (c : Bool) → eqb i j ≡ c →
-      (suc i + n ≤ x → (i ≡ j → ⊥) → cell_fits w t used bytes j ≡ true) → cell_fits w t used bytes j ≡ true
-  good-by i j n x true e m true f rest = rw (eqb-true i j f) at e
-  good-by i j n x true e m false f rest = rest (omega (arith, m)) (eqb-false i j f)
-  good-by i j n x false e m c f rest = absurd (omega (arith, m))
+  good-by : (i j n : ℕ) (b : Bool) → cell_fits w t used bytes i ≡ b → cond b (first_bad w t used bytes (suc i) n) (Some i) ≡ None → (c : Bool) → eqb i j ≡ c →
+      (first_bad w t used bytes (suc i) n ≡ None → (i ≡ j → ⊥) → cell_fits w t used bytes j ≡ true) → cell_fits w t used bytes j ≡ true
+  good-by i j n true e m true f rest = rw (eqb-true i j f) at e
+  good-by i j n true e m false f rest = rest m (eqb-false i j f)
+  good-by i j n false e m c f rest = cc
 
-  all-good : (i n : ℕ) → i + n ≤ first_bad w t used bytes i n → (j : ℕ) → i ≤ j → j < i + n → cell_fits w t used bytes j ≡ true
+  pub all-good : (i n : ℕ) → first_bad w t used bytes i n ≡ None → (j : ℕ) → i ≤ j → j < i + n → cell_fits w t used bytes j ≡ true
   unfolding first_bad
   all-good i zero h j k l = absurd (omega arith)
   all-good i (suc n) h j k l =
-      good-by i j n (first_bad w t used bytes (suc i) n) (cell_fits w t used bytes i) refl h (eqb i j) refl
+      good-by i j n (cell_fits w t used bytes i) refl h (eqb i j) refl
       (λ m d. all-good (suc i) n m j (omega (arith, d)) (omega arith))
 
   slot-by : (s : Scope) (i j n : ℕ) → slot_fits w t used bytes (slot_of s i) ≡ true → (c : Bool) → eqb i j ≡ c →
@@ -114,9 +114,10 @@ module _ (w t : List ℕ) (used bytes : ℕ) where
       let f = both_true e in slot-by s i j n f.0 (eqb i j) refl (λ d. slots-good s (suc i) n f.1 j (omega (arith, d)) (omega arith))
 
 -- A room that is sound has good cells, slots and used counts.
-pub sound-room : (w t : List ℕ) (b : Bindings) → sound_of w t b ≡ Sound → SoundRoom w t b
+pub sound-room : (w t : List ℕ) (b : Bindings) → sound_of w t b ≡ Ok tt → SoundRoom w t b
 unfolding sound_of cell_fits
-sound-room w t b s = by_tests (ltb bad used) refl (leb b.cells (cell_room w) && (leb b.bytes (text_room t) && slots_fit w t used bytes b.scope 0 128)) refl s
+sound-room w t b s =
+    by_tests (first_bad w t used bytes 0 used) refl (leb b.cells (cell_room w) && (leb b.bytes (text_room t) && slots_fit w t used bytes b.scope 0 128)) refl s
   where
     used : ℕ
     used = used_cells w t b
@@ -124,15 +125,11 @@ sound-room w t b s = by_tests (ltb bad used) refl (leb b.cells (cell_room w) && 
     bytes : ℕ
     bytes = used_bytes w t b
 
-    bad : ℕ
-    bad = first_bad w t used bytes 0 used
-
-    by_tests : (p : Bool) → ltb bad used ≡ p → (q : Bool) →
-        (leb b.cells (cell_room w) && (leb b.bytes (text_room t) && slots_fit w t used bytes b.scope 0 128)) ≡ q →
-        cond p (Unsound bad) (cond q Sound (Unsound 0)) ≡ Sound → SoundRoom w t b
-    by_tests true e q f g = let z : ◌≡◌ {A = ℕ} 0 1 = cc in absurd (omega arith)
-    by_tests false e false f g = let z : ◌≡◌ {A = ℕ} 0 1 = cc in absurd (omega arith)
-    by_tests false e true f g =
+    by_tests : (o : Option ℕ) → first_bad w t used bytes 0 used ≡ o → (q : Bool) →
+        (leb b.cells (cell_room w) && (leb b.bytes (text_room t) && slots_fit w t used bytes b.scope 0 128)) ≡ q → verdict o q ≡ Ok tt → SoundRoom w t b
+    by_tests (Some p) e q f g = let z : ◌≡◌ {A = ℕ} 0 1 = cc in absurd (omega arith)
+    by_tests None e false f g = let z : ◌≡◌ {A = ℕ} 0 1 = cc in absurd (omega arith)
+    by_tests None e true f g =
         let h = both_true f in
         let i = both_true h.1 in
         let c = leb-true b.cells (cell_room w) h.0 in
@@ -142,20 +139,17 @@ sound-room w t b s = by_tests (ltb bad used) refl (leb b.cells (cell_room w) && 
         record {
           cells_in = c;
           bytes_in = d;
-          cells = λ j k. rw (u, v) at (all-good w t used bytes 0 used (omega (arith, ltb-false bad used e)) j (omega arith) (omega (arith, k, u)));
+          cells = λ j k. rw (u, v) at (all-good w t used bytes 0 used e j (omega arith) (omega (arith, k, u)));
           slots = λ n k. rw (u, v) at (slots-good w t used bytes b.scope 0 128 i.1 n (omega arith) (omega (arith, k)));
         }
 
 -- ---- and the other way
 
 module _ (w t : List ℕ) (used bytes : ℕ) where
-  none-bad : (i n : ℕ) → ((j : ℕ) → i ≤ j → j < i + n → cell_fits w t used bytes j ≡ true) → first_bad w t used bytes i n ≡ i + n
+  none-bad : (i n : ℕ) → ((j : ℕ) → i ≤ j → j < i + n → cell_fits w t used bytes j ≡ true) → first_bad w t used bytes i n ≡ None
   unfolding first_bad
-  none-bad i zero h = omega arith
-  none-bad i (suc n) h = rw (h i (omega arith) (omega arith)) (none-bad (suc i) n (λ j a b. h j (omega arith) (omega arith)) ∙ further i n)
-    where
-      further : (i n : ℕ) → suc i + n ≡ i + suc n
-      further i n = omega arith
+  none-bad i zero h = refl
+  none-bad i (suc n) h = rw (h i (omega arith) (omega arith)) (none-bad (suc i) n (λ j a b. h j (omega arith) (omega arith)))
 
   all_slots : (s : Scope) (i n : ℕ) → ((j : ℕ) → i ≤ j → j < i + n → slot_fits w t used bytes (slot_of s j) ≡ true) → slots_fit w t used bytes s i n ≡ true
   unfolding slots_fit
@@ -163,17 +157,14 @@ module _ (w t : List ℕ) (used bytes : ℕ) where
   all_slots s i (suc n) h = rw (h i (omega arith) (omega arith)) (all_slots s (suc i) n (λ j a b. h j (omega arith) (omega arith)))
 
 -- A room with good cells, slots and used counts is sound.
-pub room-sound : (w t : List ℕ) (b : Bindings) → SoundRoom w t b → sound_of w t b ≡ Sound
+pub room-sound : (w t : List ℕ) (b : Bindings) → SoundRoom w t b → sound_of w t b ≡ Ok tt
 unfolding sound_of cell_fits
 room-sound w t b r =
     let u : used_cells w t b ≡ b.cells = omega (arith, r.cells_in) in
     let v : used_bytes w t b ≡ b.bytes = omega (arith, r.bytes_in) in
-    let i : first_bad w t b.cells b.bytes 0 b.cells ≡ b.cells = none-bad w t b.cells b.bytes 0 b.cells (λ j a c. r.cells j (omega (arith, c))) ∙ from_nothing b.cells in
+    let i = none-bad w t b.cells b.bytes 0 b.cells (λ j a c. r.cells j (omega (arith, c))) in
     let s = all_slots w t b.cells b.bytes b.scope 0 128 (λ j a c. r.slots j (omega (arith, c))) in
-    rw (u, v, i, le-ltb b.cells b.cells (omega arith), le-leb b.cells (cell_room w) r.cells_in, le-leb b.bytes (text_room t) r.bytes_in, s)
-  where
-    from_nothing : (n : ℕ) → 0 + n ≡ n
-    from_nothing n = omega arith
+    rw (u, v, i, le-leb b.cells (cell_room w) r.cells_in, le-leb b.bytes (text_room t) r.bytes_in, s)
 
 -- nothing that fits nests too deep
 pub fits-nesting : (w t : List ℕ) (used bytes least : ℕ) (v : Value) → value_fits w t used bytes least v ≡ true → nesting_of v ≤ 32
@@ -183,10 +174,10 @@ fits-nesting w t used bytes least (Value.Int z) e = omega arith
 fits-nesting w t used bytes least (Value.Uint n) e = omega arith
 fits-nesting w t used bytes least (Value.Double x) e = omega arith
 fits-nesting w t used bytes least (Value.Nan b) e = omega arith
-fits-nesting w t used bytes least (Value.String s a n) e = omega arith
-fits-nesting w t used bytes least (Value.Bytes s a n) e = omega arith
-fits-nesting w t used bytes least (Value.List d s a n) e = (row-good w used least d s a n e).shallow
-fits-nesting w t used bytes least (Value.Map d s a n) e = (map-good w t used least d s a n e).0.shallow
+fits-nesting w t used bytes least (Value.String sp) e = omega arith
+fits-nesting w t used bytes least (Value.Bytes sp) e = omega arith
+fits-nesting w t used bytes least (Value.List d ro) e = (row-good w used least d ro.space ro.first ro.length e).shallow
+fits-nesting w t used bytes least (Value.Map d ro) e = (map-good w t used least d ro.space ro.first ro.length e).0.shallow
 fits-nesting w t used bytes least Value.OptionalNone e = omega arith
 fits-nesting w t used bytes least (Value.OptionalOf d s a) e = never e refl
 fits-nesting w t used bytes least Value.Absent e = omega arith

@@ -24,6 +24,7 @@ use Rattle.bindings_sound.specs.Keys.{repeated_in, keys_fit}
 use Rattle.bindings_sound.specs.Fits.{deepest_in, value_fits}
 use Rattle.bindings_sound.specs.Held.{alive_below}
 use Rattle.bindings_sound.proofs.FitLaws.{both_true, Span, span-good, string-good, row-good, map-good}
+use Rattle.rooms.specs.Spans.{span, row}
 
 never : {A : Type 0} {b : Bool} → b ≡ true → b ≡ false → A
 never e f = let z : true ≡ false = sym e ∙ f in let y : ◌≡◌ {A = ℕ} 1 0 = ap (λ b. cond b 1 0) z in absurd (omega arith)
@@ -34,11 +35,11 @@ part_length t a n h = simp (length-take, length-drop) (omega arith)
 entry-nests : {a b c x y : ℕ} → a ≡ 0 → b ≡ x → y ≡ c → max x y ≡ max a (max b c)
 entry-nests e f g = omega arith
 
-list-is : {k j n m : ℕ} {s : CellSpace} (a : ℕ) → k ≡ j → s ≡ Cells.Binding → n ≡ m → Value.List k s a n ≡ Value.List j Cells.Binding a m
-list-is a p q r i = Value.List (p i) (q i) a (r i)
+list-is : {k j n m : ℕ} {s : CellSpace} (a : ℕ) → k ≡ j → s ≡ Cells.Binding → n ≡ m → Value.List k (row s a n) ≡ Value.List j (row Cells.Binding a m)
+list-is a p q r i = Value.List (p i) (row (q i) a (r i))
 
-map_is : {k j n m : ℕ} {s : CellSpace} (a : ℕ) → k ≡ j → s ≡ Cells.Binding → n ≡ m → Value.Map k s a n ≡ Value.Map j Cells.Binding a m
-map_is a p q r i = Value.Map (p i) (q i) a (r i)
+map_is : {k j n m : ℕ} {s : CellSpace} (a : ℕ) → k ≡ j → s ≡ Cells.Binding → n ≡ m → Value.Map k (row s a n) ≡ Value.Map j (row Cells.Binding a m)
+map_is a p q r i = Value.Map (p i) (row (q i) a (r i))
 
 module _ (w t : List ℕ) (used bytes : ℕ) where
   -- in rooms with these binding cells and this binding text
@@ -67,13 +68,13 @@ module _ (w t : List ℕ) (used bytes : ℕ) where
     text-held s a n g l e x = record { within = tt; spells = ap (λ m. part t a m) (part_length t a n (omega (arith, g.inside))) }
 
     string-held : (s : TextSpace) (a n : ℕ) → Span bytes s a n → (l e x : List ℕ) →
-        StandsScalar (string (part t a n)) (alive_below used) (rooms l w t e x) (Value.String s a n)
+        StandsScalar (string (part t a n)) (alive_below used) (rooms l w t e x) (Value.String (span s a n))
     unfolding StandsScalar
     string-held s a n g l e x =
         (Text.Binding, a, (rw (g.bound, part_length t a n (omega (arith, g.inside)))), text-held s a n g l e x)
 
     bytes-held : (s : TextSpace) (a n : ℕ) → Span bytes s a n → (l e x : List ℕ) →
-        StandsScalar (Meaning.bytes (part t a n)) (alive_below used) (rooms l w t e x) (Value.Bytes s a n)
+        StandsScalar (Meaning.bytes (part t a n)) (alive_below used) (rooms l w t e x) (Value.Bytes (span s a n))
     unfolding StandsScalar
     bytes-held s a n g l e x =
         (Text.Binding, a, (rw (g.bound, part_length t a n (omega (arith, g.inside)))), text-held s a n g l e x)
@@ -93,11 +94,11 @@ module _ (w t : List ℕ) (used bytes : ℕ) where
     key-held (Value.Uint n) least k e = record { key = uint_key n; stands = λ l e x. refl; flat = refl }
     key-held (Value.Double y) least k e = never k refl
     key-held (Value.Nan b) least k e = never k refl
-    key-held (Value.String s a n) least k e =
-        record { key = string_key (part t a n); stands = string-held s a n (string-good t bytes s a n e).0; flat = refl }
-    key-held (Value.Bytes s a n) least k e = never k refl
-    key-held (Value.List d s a n) least k e = never k refl
-    key-held (Value.Map d s a n) least k e = never k refl
+    key-held (Value.String sp) least k e =
+        record { key = string_key (part t sp.first sp.length); stands = string-held sp.space sp.first sp.length (string-good t bytes sp.space sp.first sp.length e).0; flat = refl }
+    key-held (Value.Bytes sp) least k e = never k refl
+    key-held (Value.List d ro) least k e = never k refl
+    key-held (Value.Map d ro) least k e = never k refl
     key-held Value.OptionalNone least k e = never k refl
     key-held (Value.OptionalOf d s a) least k e = never k refl
     key-held Value.Absent least k e = never k refl
@@ -149,23 +150,23 @@ module _ (w t : List ℕ) (used bytes : ℕ) where
         by_value (Value.Uint n) least h e = record { value = scalar (uint n); stands = λ l e x. refl }
         by_value (Value.Double y) least h e = record { value = scalar (double (bits_of (Double.Plain y))); stands = λ l e x. (Double.Plain y, refl, refl) }
         by_value (Value.Nan b) least h e = record { value = scalar (double b); stands = λ l e x. (Double.Nan b, refl, refl) }
-        by_value (Value.String s a n) least h e =
-            record { value = scalar (string (part t a n)); stands = string-held s a n (string-good t bytes s a n e).0 }
-        by_value (Value.Bytes s a n) least h e = record { value = scalar (Meaning.bytes (part t a n)); stands = bytes-held s a n (span-good bytes s a n e) }
-        by_value (Value.List k s a n) least h e =
-            let r = row-good w used least k s a n e in
-            let c = cells-held n a r.inside (omega (arith, r.nests, h)) in
+        by_value (Value.String sp) least h e =
+            record { value = scalar (string (part t sp.first sp.length)); stands = string-held sp.space sp.first sp.length (string-good t bytes sp.space sp.first sp.length e).0 }
+        by_value (Value.Bytes sp) least h e = record { value = scalar (Meaning.bytes (part t sp.first sp.length)); stands = bytes-held sp.space sp.first sp.length (span-good bytes sp.space sp.first sp.length e) }
+        by_value (Value.List k ro) least h e =
+            let r = row-good w used least k ro.space ro.first ro.length e in
+            let c = cells-held ro.length ro.first r.inside (omega (arith, r.nests, h)) in
             record {
               value = list c.values;
-              stands = λ l e x. (Cells.Binding, a, list-is a (r.nests ∙ ap suc (sym c.nests)) r.bound (sym c.long), c.stands l e x);
+              stands = λ l e x. (Cells.Binding, ro.first, list-is ro.first (r.nests ∙ ap suc (sym c.nests)) r.bound (sym c.long), c.stands l e x);
             }
-        by_value (Value.Map k s a n) least h e =
-            let m = map-good w t used least k s a n e in
+        by_value (Value.Map k ro) least h e =
+            let m = map-good w t used least k ro.space ro.first ro.length e in
             let r = m.0 in
-            let c = entries-held n a r.inside (omega (arith, r.nests, h)) m.1 in
+            let c = entries-held ro.length ro.first r.inside (omega (arith, r.nests, h)) m.1 in
             record {
               value = map c.entries;
-              stands = λ l e x. (Cells.Binding, a, map_is a (r.nests ∙ ap suc (sym c.nests)) r.bound (sym c.long), c.stands l e x);
+              stands = λ l e x. (Cells.Binding, ro.first, map_is ro.first (r.nests ∙ ap suc (sym c.nests)) r.bound (sym c.long), c.stands l e x);
             }
         by_value Value.OptionalNone least h e = never e refl
         by_value (Value.OptionalOf k s a) least h e = never e refl

@@ -3,7 +3,7 @@
 use Prim.Native.Nat.{ℕ, zero, suc, ◌+◌, ◌≤◌, ◌<◌}
 use mathlib.Core.Path.{◌≡◌, refl, sym, ◌∙◌}
 use mathlib.Core.List.{List, []}
-use mathlib.Core.Option.{Option, none, some}
+use Rattle.std.specs.Prelude.{Option, None, Some, Ok}
 use mathlib.Core.Bool.{Bool, true, false, ◌||◌}
 use native.Mathlib.Omega.{arith}
 use lib.Dec.{eqb, ltb}
@@ -22,7 +22,6 @@ use Rattle.rooms.proofs.Depths.{stands-nesting}
 use Rattle.rooms.proofs.ReadBack.{reads}
 use Rattle.rooms.proofs.Scopes.{no_slot}
 use Rattle.bindings_sound.specs.declared.Bindings.{Bindings}
-use Rattle.bindings_sound.specs.declared.Soundness.TheVariants.{Sound}
 use Rattle.bindings_sound.specs.Fits.{value_fits, is_absent, slot_fits}
 use Rattle.bindings_sound.specs.Sound.{sound_of}
 use Rattle.bindings_sound.specs.Held.{binding_rooms, held_scope, also_bound, bound_from, room_of, alive_below}
@@ -39,19 +38,19 @@ absent-is (Value.Int n) e = let z : ◌≡◌ {A = ℕ} 0 1 = cc in absurd (omeg
 absent-is (Value.Uint n) e = let z : ◌≡◌ {A = ℕ} 0 1 = cc in absurd (omega arith)
 absent-is (Value.Double x) e = let z : ◌≡◌ {A = ℕ} 0 1 = cc in absurd (omega arith)
 absent-is (Value.Nan b) e = let z : ◌≡◌ {A = ℕ} 0 1 = cc in absurd (omega arith)
-absent-is (Value.String s a n) e = let z : ◌≡◌ {A = ℕ} 0 1 = cc in absurd (omega arith)
-absent-is (Value.Bytes s a n) e = let z : ◌≡◌ {A = ℕ} 0 1 = cc in absurd (omega arith)
-absent-is (Value.List d s a n) e = let z : ◌≡◌ {A = ℕ} 0 1 = cc in absurd (omega arith)
-absent-is (Value.Map d s a n) e = let z : ◌≡◌ {A = ℕ} 0 1 = cc in absurd (omega arith)
+absent-is (Value.String sp) e = let z : ◌≡◌ {A = ℕ} 0 1 = cc in absurd (omega arith)
+absent-is (Value.Bytes sp) e = let z : ◌≡◌ {A = ℕ} 0 1 = cc in absurd (omega arith)
+absent-is (Value.List d ro) e = let z : ◌≡◌ {A = ℕ} 0 1 = cc in absurd (omega arith)
+absent-is (Value.Map d ro) e = let z : ◌≡◌ {A = ℕ} 0 1 = cc in absurd (omega arith)
 absent-is Value.OptionalNone e = let z : ◌≡◌ {A = ℕ} 0 1 = cc in absurd (omega arith)
 absent-is (Value.OptionalOf d s a) e = let z : ◌≡◌ {A = ℕ} 0 1 = cc in absurd (omega arith)
 absent-is Value.Absent e = refl
 
-pub beyond : (w t : List ℕ) (b : Bindings) (n : ℕ) → slot_of b.scope n ≡ Value.Absent → held_scope w t b n ≡ none
+pub beyond : (w t : List ℕ) (b : Bindings) (n : ℕ) → slot_of b.scope n ≡ Value.Absent → held_scope w t b n ≡ None
 unfolding held_scope reading read_to
 beyond w t b n e = rw e
 
-module _ (w t : List ℕ) (b : Bindings) (s : sound_of w t b ≡ Sound) where
+module _ (w t : List ℕ) (b : Bindings) (s : sound_of w t b ≡ Ok tt) where
   room : SoundRoom w t b
   room = sound-room w t b s
 
@@ -60,7 +59,7 @@ module _ (w t : List ℕ) (b : Bindings) (s : sound_of w t b ≡ Sound) where
   fits-held v least e =
       held w t b.cells b.bytes (omega (arith, room.bytes_in)) room.cells 33 v least (omega (arith, fits-nesting w t b.cells b.bytes least v e)) e
 
-  pub held-read : (n : ℕ) → (h : HeldBy w t b.cells b.bytes (slot_of b.scope n)) → held_scope w t b n ≡ some h.value
+  pub held-read : (n : ℕ) → (h : HeldBy w t b.cells b.bytes (slot_of b.scope n)) → held_scope w t b n ≡ Some h.value
   unfolding held_scope
   held-read n h = reads (alive_below b.cells) (binding_rooms w t) h.value (slot_of b.scope n) (h.stands [] [] [])
 
@@ -87,14 +86,14 @@ module _ (w t : List ℕ) (b : Bindings) (s : sound_of w t b ≡ Sound) where
 -- ---- a binding room of the definition
 
 module _ (s : Loops.Scope) where
-  bound-before : (m n k : ℕ) → m < n → bound_in (bound_from s n k) m ≡ none
+  bound-before : (m n k : ℕ) → m < n → bound_in (bound_from s n k) m ≡ None
   unfolding bound_from bound_in empty_scope store
   bound-before m n zero h = refl
   bound-before m n (suc k) h = by-slot (s n) (bound-before m (suc n) k (omega arith))
     where
-      by-slot : (o : Option Meaning.Value) → bound_in (bound_from s (suc n) k) m ≡ none → bound_in (also_bound n o (bound_from s (suc n) k)) m ≡ none
-      by-slot none e = e
-      by-slot (some v) e = rw (ne_eqb m n (λ z. omega (arith, z, h))) e
+      by-slot : (o : Option Meaning.Value) → bound_in (bound_from s (suc n) k) m ≡ None → bound_in (also_bound n o (bound_from s (suc n) k)) m ≡ None
+      by-slot None e = e
+      by-slot (Some v) e = rw (ne_eqb m n (λ z. omega (arith, z, h))) e
 
   -- each name from n on has what it has in the scope
   bound-has : (m n k : ℕ) → n ≤ m → m < n + k → bound_in (bound_from s n k) m ≡ s m
@@ -102,21 +101,21 @@ module _ (s : Loops.Scope) where
   bound-has m n zero h i = absurd (omega arith)
   bound-has m n (suc k) h i = by-slot (s n) refl (eqb m n) refl (bound-before m (suc n) k) (bound-has m (suc n) k)
     where
-      by-slot : (o : Option Meaning.Value) → s n ≡ o → (c : Bool) → eqb m n ≡ c → (m < suc n → bound_in (bound_from s (suc n) k) m ≡ none) →
+      by-slot : (o : Option Meaning.Value) → s n ≡ o → (c : Bool) → eqb m n ≡ c → (m < suc n → bound_in (bound_from s (suc n) k) m ≡ None) →
           (suc n ≤ m → m < suc n + k → bound_in (bound_from s (suc n) k) m ≡ s m) → bound_in (also_bound n o (bound_from s (suc n) k)) m ≡ s m
-      by-slot none e true c f g = let z = eqb-true m n c in f (omega (arith, z)) ∙ (rw z (sym e))
-      by-slot none e false c f g = g (omega (arith, eqb-false m n c)) (omega arith)
-      by-slot (some v) e true c f g = rw (c, eqb-true m n c) (sym e)
-      by-slot (some v) e false c f g = rw c (g (omega (arith, eqb-false m n c)) (omega arith))
+      by-slot None e true c f g = let z = eqb-true m n c in f (omega (arith, z)) ∙ (rw z (sym e))
+      by-slot None e false c f g = g (omega (arith, eqb-false m n c)) (omega arith)
+      by-slot (Some v) e true c f g = rw (c, eqb-true m n c) (sym e)
+      by-slot (Some v) e false c f g = rw c (g (omega (arith, eqb-false m n c)) (omega arith))
 
-  bound-after : (m n k : ℕ) → n + k ≤ m → bound_in (bound_from s n k) m ≡ none
+  bound-after : (m n k : ℕ) → n + k ≤ m → bound_in (bound_from s n k) m ≡ None
   unfolding bound_from bound_in empty_scope store
   bound-after m n zero h = refl
   bound-after m n (suc k) h = by-slot (s n) (bound-after m (suc n) k (omega arith))
     where
-      by-slot : (o : Option Meaning.Value) → bound_in (bound_from s (suc n) k) m ≡ none → bound_in (also_bound n o (bound_from s (suc n) k)) m ≡ none
-      by-slot none e = e
-      by-slot (some v) e = rw (ne_eqb m n (λ z. omega (arith, z, h))) e
+      by-slot : (o : Option Meaning.Value) → bound_in (bound_from s (suc n) k) m ≡ None → bound_in (also_bound n o (bound_from s (suc n) k)) m ≡ None
+      by-slot None e = e
+      by-slot (Some v) e = rw (ne_eqb m n (λ z. omega (arith, z, h))) e
 
 -- The room that a lent one stands for has the same scope.
 pub room-scope : (w t : List ℕ) (b : Bindings) → length b.scope.slots ≡ 128 → (n : ℕ) → scope_of (room_of w t b) n ≡ held_scope w t b n

@@ -1,6 +1,5 @@
 -- What a sound room holds: a value for each name that has one, read out of the lent memory, as a room and a scope of the definition.
-use Rattle.std.specs.Prelude.{ℕ, zero, suc, ◌<◌, List, [], ◌∷◌}
-use Rattle.std.proofs.Math.Option.{Option, none, some}
+use Rattle.std.specs.Prelude.{ℕ, zero, suc, ◌<◌, List, [], ◌∷◌, Option, None, Some}
 use Rattle.meaning.specs.Limits.{names}
 use Rattle.meaning.specs.Value as Meaning
 use Rattle.meaning.specs.Comprehension as Loops
@@ -22,8 +21,8 @@ unfoldable pub held_scope : (words text : List ℕ) → Bindings → Loops.Scope
 held_scope w t b n = reading (binding_rooms w t) (slot_of b.scope n)
 
 abbrev pub also_bound : ℕ → Option Meaning.Value → List (ℕ × Meaning.Value) → List (ℕ × Meaning.Value)
-also_bound n none bs = bs
-also_bound n (some v) bs = (n, v) ∷ bs
+also_bound n None bs = bs
+also_bound n (Some v) bs = (n, v) ∷ bs
 
 -- `count` names from n on
 unfoldable pub bound_from : Loops.Scope → (n count : ℕ) → List (ℕ × Meaning.Value)

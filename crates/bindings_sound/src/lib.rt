@@ -1,17 +1,19 @@
 // A binding room as a caller lends it, with any contents: whether it is one that bindings make, and if not, the first bad cell.
-// Here: the verdict on the whole room. `values` judges what a cell or a slot holds, `references` what that refers to, and `map_keys` the keys of a
-// Map.
-#![tactic(auto)]
+// Here: the verdict on the whole `room`. `values` judges what a cell or a slot holds, `references` what that refers to, and `map_keys` the keys of
+// a Map.
+#![tactic(auto, using(crate::proofs::SoundSteps::bad_turn, crate::proofs::SoundSteps::bad_none, crate::proofs::SoundSteps::slots_turn, crate::proofs::SoundSteps::slots_none), unfolding(crate::specs::Sound::sound_of))]
 
 pub mod map_keys;
 pub mod references;
+pub mod room;
 pub mod values;
 
-ghost use Rattle.std.specs.Prelude.{◌≡◌, min, ◌<◌};
+ghost use Rattle.std.specs.Prelude.{◌≡◌};
 ghost use Rattle.meaning.specs.Limits.{names};
 ghost use Rattle.bindings_sound.specs.Sound.{first_bad, slots_fit, sound_of};
 
-use rooms::scope::{NAMES, Scope};
+use crate::room::Room;
+use rooms::scope::Scope;
 use rooms_cells::read_cell;
 use rooms_taking::{cell_room, text_room};
 
@@ -23,75 +25,50 @@ pub struct Bindings {
     pub bytes: usize,
 }
 
-#[derive(Clone, Copy)]
-pub enum Soundness {
-    Sound,
-    // The first bad cell; 0 where no cell is bad, but a slot or a used count.
-    Unsound(usize),
-}
-
-fn lesser(one: usize, other: usize) -> usize
-    ensures { result ≡ min one other }
+// The first bad cell, if there is one. A cell may refer only to later ones.
+fn first_bad(room: Room) -> Option<usize>
+    ensures { result ≡ first_bad room.entry.cells.now room.entry.text.now room.entry.used room.entry.bytes 0 room.entry.used }
 {
-    if one < other { one } else { other }
-}
-
-// The first bad cell; where there is none, the used count.
-fn first_bad(cells: &[u64], text: &[u8], used: usize, bytes: usize) -> usize
-    ensures { result ≡ first_bad cells.now text.now used bytes 0 used }
-{
-    let mut at = 0;
-    let mut left = used;
-    while 0 < left {
-        let v = read_cell(cells, at);
-        if !crate::values::value_fits(cells, text, used, bytes, at + 1, v) {
-            return at;
+    for at in 0..room.used {
+        if !room.value_fits(at + 1, read_cell(room.cells, at)) {
+            return Some(at);
         }
-        at += 1;
-        left -= 1;
     }
-    at
+    None
 }
 
-fn slots_fit(cells: &[u64], text: &[u8], used: usize, bytes: usize, scope: Scope) -> bool
-    ensures { result ≡ slots_fit cells.now text.now used bytes scope 0 names }
+fn slots_fit(room: Room, scope: Scope) -> bool
+    ensures { result ≡ slots_fit room.entry.cells.now room.entry.text.now room.entry.used room.entry.bytes scope 0 names }
 {
-    let mut at = 0;
-    let mut left = NAMES;
-    while 0 < left {
-        let slot = scope.slots[at];
-        let value = slot.value;
-        if !crate::values::slot_fits(cells, text, used, bytes, value) {
+    for slot in &scope.slots {
+        if !room.slot_fits(slot.value) {
             return false;
         }
-        at += 1;
-        left -= 1;
     }
     true
 }
 
 // The cells below the used count are judged one by one, each by what it says and what the cells it refers to say.
-// The slots are judged first, which saves a copy of the scope; a bad cell is answered all the same.
-pub fn sound(cells: &[u64], text: &[u8], bindings: Bindings) -> Soundness
+// The error is the first bad cell; 0 where no cell is bad, but a slot or a used count.
+// The slots are judged first, which saves a copy of the scope.
+pub fn sound(cells: &[u64], text: &[u8], bindings: Bindings) -> Result<(), usize>
     ensures { result ≡ sound_of cells.now text.now bindings }
 {
-    let used = lesser(bindings.cells, cell_room(cells));
-    let bytes = lesser(bindings.bytes, text_room(text));
-    let scope = bindings.scope;
-    let fit = slots_fit(cells, text, used, bytes, scope);
-    let bad = first_bad(cells, text, used, bytes);
-    if bad < used {
-        return Soundness::Unsound(bad);
+    let room = Room {
+        cells,
+        text,
+        used: bindings.cells.min(cell_room(cells)),
+        bytes: bindings.bytes.min(text_room(text)),
+    };
+    let fit = slots_fit(room, bindings.scope);
+    if let Some(bad) = first_bad(room) {
+        return Err(bad);
     }
-    if used < bindings.cells {
-        return Soundness::Unsound(0);
+    if room.used < bindings.cells {
+        return Err(0);
     }
-    if bytes < bindings.bytes {
-        return Soundness::Unsound(0);
+    if room.bytes < bindings.bytes {
+        return Err(0);
     }
-    if fit {
-        Soundness::Sound
-    } else {
-        Soundness::Unsound(0)
-    }
+    if fit { Ok(()) } else { Err(0) }
 }

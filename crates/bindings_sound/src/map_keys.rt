@@ -1,7 +1,10 @@
 // The keys of a Map where they lie: their kinds, and that no two of them match.
+#![tactic(auto, using(crate::proofs::KeySteps::repeated_turn, crate::proofs::KeySteps::repeated_none, crate::proofs::KeySteps::keys_turn, crate::proofs::KeySteps::keys_none))]
+
 ghost use Rattle.std.specs.Prelude.{◌≡◌, ◌+◌, ◌*◌, ◌<◌};
 ghost use Rattle.bindings_sound.specs.Keys.{repeated_in, keys_fit};
 
+use rooms::memory::View;
 use rooms::value::{Value, is_key};
 use rooms_cells::read_cell;
 use rooms_comparison::plain::key_equal;
@@ -11,15 +14,18 @@ fn repeated(cells: &[u64], text: &[u8], key: Value, first: usize, count: usize) 
     requires { first + 2 * count < 262144 }
     ensures { result ≡ repeated_in cells.now text.now key first count }
 {
-    let mut at = first;
-    let mut left = count;
-    while 0 < left {
-        let other = read_cell(cells, at);
-        if key_equal(b"", text, b"", key, other) {
+    let view = View {
+        literal: b"",
+        binding_cells: cells,
+        binding_text: text,
+        cells: &[],
+        text: b"",
+    };
+    for entry in 0..count {
+        let other = read_cell(cells, first + 2 * entry);
+        if key_equal(&view, key, other) {
             return true;
         }
-        at += 2;
-        left -= 1;
     }
     false
 }
@@ -28,18 +34,16 @@ fn repeated(cells: &[u64], text: &[u8], key: Value, first: usize, count: usize) 
 pub fn keys_fit(cells: &[u64], text: &[u8], first: u16, length: u16) -> bool
     ensures { result ≡ keys_fit cells.now text.now first length }
 {
-    let mut at = first as usize;
-    let mut left = length as usize;
-    while 0 < left {
+    let count = length as usize;
+    for entry in 0..count {
+        let at = first as usize + 2 * entry;
         let key = read_cell(cells, at);
         if !is_key(key) {
             return false;
         }
-        if repeated(cells, text, key, at + 2, left - 1) {
+        if repeated(cells, text, key, at + 2, count - entry - 1) {
             return false;
         }
-        at += 2;
-        left -= 1;
     }
     true
 }

@@ -13,16 +13,16 @@ use Rattle.board_state.specs.State.{bindings_in}
 use Rattle.board_words.specs.Answers.{which_answer, report_answer}
 use Rattle.board_words.specs.Evaluation.{answered_into, evaluates, EvaluatesInto}
 
-module _ (table state : List ℕ) (steps : ℕ) (lent : Rooms) (answer : List ℕ) where
-  pub evaluates-none : length answer < 8 → EvaluatesInto table state steps lent answer no_room answer lent
+module _ {table state : List ℕ} {steps : ℕ} {lent : Rooms} {answer : List ℕ} where
+  pub evaluates_none : length answer < 8 → EvaluatesInto table state steps lent answer no_room answer lent
   unfolding evaluates
-  evaluates-none h = record { exactly = rw (lt-ltb (length answer) 8 h) refl; says = λ k. absurd (omega (arith, h, k)) }
+  evaluates_none h = record { exactly = rw (lt-ltb (length answer) 8 h) refl; says = λ k. absurd (omega (arith, h, k)) }
 
-  pub evaluates-so : (said : Answers.Answer) (left : Rooms) (returned : ℕ) (answer_left : List ℕ) → 8 ≤ length answer
+  pub evaluates-so : {said : Answers.Answer} {left : Rooms} {returned : ℕ} {answer_left : List ℕ} → 8 ≤ length answer
       → Evaluates table (bindings_in state) steps lent said left → ◌≡◌ {A = ℕ × List ℕ} (returned, answer_left) (handed (which_answer said) (report_answer said) answer)
       → EvaluatesInto table state steps lent answer returned answer_left left
   unfolding evaluates
-  evaluates-so said left returned answer_left h g f =
+  evaluates-so {said} {left} {returned} {answer_left} h g f =
       record {
         exactly =
             ap (λ (k : ℕ × List ℕ). (k, left)) f

@@ -1,5 +1,6 @@
 // The evaluator for callers in C and Rust: numbers and slices only. Whatever is lent, there is an answer. The crate `board_c` exports these
 // functions, and include/ombravelik.h says how they are called.
+// The C interface lends slices side by side and takes numbers for answers, so these functions do so too.
 #![tactic(auto)]
 
 ghost use Rattle.std.specs.Prelude.{◌≡◌, List, ℕ};
@@ -83,6 +84,7 @@ fn evaluate_over(
 }
 
 // Evaluates a rule over a binding room.
+#[tactic(auto, using(crate::proofs::EvaluationSteps::evaluates_none))]
 pub fn ombravelik_evaluate(
     table: &[u8],
     literal: &[u8],

@@ -1,5 +1,5 @@
 // The library for callers in C and Rust: each function of `board` under its name, by the C calling convention. include/ombravelik.h says how they
-// are called.
+// are called. Parameters and results are those of the C interface, so slices and numbers stand side by side.
 #![tactic(auto)]
 
 ghost use Rattle.std.specs.Prelude.{◌≡◌, List, ℕ};

@@ -1,3 +1,2 @@
--- What each function does, from what those that it calls say, of the module `intake` (`IntakeSteps`) and of `readout` (`ReadOutSteps`).
+-- What is put into a state of the right length (`IntakeSteps`), for the proof of `intake::empty`.
 pub mod IntakeSteps
-pub mod ReadOutSteps

@@ -1,13 +1,12 @@
 -- What each function of `intake` returns and leaves in lent memory, from what the crates below it say.
-use Rattle.std.specs.Prelude.{ℕ, List, cond, ltb, eqb, length}
+use Rattle.std.specs.Prelude.{ℕ, List, cond, ltb, eqb, length, Result}
 use Rattle.table_check.specs.Check.{check_of}
-use Rattle.bindings.specs.declared.admission.Answer.{Answer}
-use Rattle.bindings.specs.declared.admission.Answer.TheVariants as Bringing
+use Rattle.meaning.specs.declared.refusal.Refusal.{Refusal}
 use Rattle.bindings.specs.Bringing.{emptied}
 use Rattle.board_words.specs.Overlay.{no_room, handed}
 use Rattle.board_state.specs.State.{state_words, state_of}
 use Rattle.board_state.specs.Bringing.{BindingRoom, stows}
-use Rattle.board_words.specs.Answers.{which_done, which_refused, done, refusal, which_checked, report_checked}
+use Rattle.board_words.specs.Answers.{which_done, which_checked, report_checked}
 
 -- ---- a table, a state
 
@@ -21,11 +20,10 @@ empties state = cond (eqb (length state) state_words) (which_done, state_of empt
 
 -- ---- bringing in: what is returned with the answer's words; and the binding room
 
-abbrev pub hands_brought : Answer → (answer : List ℕ) → ℕ × List ℕ
-hands_brought Bringing.Done answer = handed which_done done answer
-hands_brought (Bringing.Refused number place) answer = handed which_refused (refusal number place) answer
+abbrev pub hands_brought : Result (Unit {0}) Refusal → (answer : List ℕ) → ℕ × List ℕ
+hands_brought said answer = handed (which_checked said) (report_checked said) answer
 
-abbrev pub brought_into : Answer × BindingRoom → (answer : List ℕ) → (ℕ × List ℕ) × BindingRoom
+abbrev pub brought_into : Result (Unit {0}) Refusal × BindingRoom → (answer : List ℕ) → (ℕ × List ℕ) × BindingRoom
 brought_into b answer = (hands_brought b.0 answer, b.1)
 
 -- without room for an answer nothing is done

@@ -3,9 +3,8 @@ ghost use Rattle.std.specs.Prelude.{◌≡◌, List, ℕ};
 ghost use Rattle.board_state.specs.Bringing.{BindingRoom, binding_room};
 ghost use Rattle.board_calls.specs.Intake.{checks, empties, brings};
 
-use bindings::admission::Answer;
 use board_state::STATE_WORDS;
-use board_words::answers::{ANSWER_WORDS, DONE};
+use board_words::answers::{ANSWER_WORDS, Which};
 use board_words::overlay::NO_ROOM;
 
 // Whether a table is accepted, with its literal text.
@@ -17,6 +16,7 @@ pub fn check(table: &[u8], literal: &[u8], answer: &mut [u64]) -> u8
 }
 
 // A state of no bindings, whatever it was.
+#[tactic(auto, using(crate::proofs::IntakeSteps::put_whole))]
 pub fn empty(state: &mut [u64]) -> u8
     ensures { ◌≡◌ {A = ℕ × List ℕ} (result, state.new) (empties state.old) }
 {
@@ -24,10 +24,11 @@ pub fn empty(state: &mut [u64]) -> u8
         return NO_ROOM;
     }
     board_state::put_bindings(state, bindings::empty());
-    DONE
+    Which::Done.number()
 }
 
 // Brings the value that a table spells into a binding room, under a name that has none.
+#[tactic(auto, unfolding(crate::specs::Intake::brings))]
 pub fn bring_in(
     state: &mut [u64],
     binding_cells: &mut [u64],
@@ -50,8 +51,5 @@ pub fn bring_in(
         table,
         literal,
     );
-    match said {
-        Answer::Done => board_words::answers::put_done(answer),
-        Answer::Refused(number, place) => board_words::answers::put_refusal(answer, number, place),
-    }
+    board_words::answers::put_checked(answer, said)
 }

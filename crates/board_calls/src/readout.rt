@@ -1,4 +1,5 @@
 // What comes out: a value and its parts, read off their two words, as words.
+// The C interface lends words and slices side by side: each function has the parameters and the contract of its namesake in `board`.
 ghost use Rattle.std.specs.Prelude.{◌≡◌, List, ℕ};
 ghost use Rattle.rooms.specs.Cells.{cell_of};
 ghost use Rattle.rooms.specs.Value.{parts_of};

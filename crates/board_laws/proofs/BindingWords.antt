@@ -5,7 +5,7 @@ use mathlib.Core.Path.{◌≡◌, refl, sym, ap, ap₂, ◌∙◌}
 use mathlib.Core.Logic.{◌⊎◌, inl, inr, ◌↔◌}
 use mathlib.Core.Bool.{Bool, true, false, ◌||◌, true≢false}
 use mathlib.Core.List.{List, []}
-use mathlib.Core.Option.{none, some}
+use Rattle.std.specs.Prelude.{None, Some}
 use native.Mathlib.Omega.{arith}
 use lib.ListN.{get_or}
 use Rattle.meaning.specs.Value.{Value as Meant}
@@ -34,7 +34,7 @@ absent-words : cell_of 16 0 ≡ Value.Absent
 unfolding cell_of value_of bare_of
 absent-words = refl
 
-absent-reads : (lent : Rooms) → reading lent Value.Absent ≡ none
+absent-reads : (lent : Rooms) → reading lent Value.Absent ≡ None
 unfolding reading read_to
 absent-reads lent = refl
 
@@ -109,15 +109,15 @@ module _ (r : BindingRoom) (room : Meaning.BindingRoom) (stands : Stands r room)
           reads (alive_below bindings.cells) lent k.value slot (k.stands literal cells text) ∙ sym (held-read r.cells r.text bindings stands.sound n k)
 
   -- A name that has no value there has the words 16 and 0, and no other name has.
-  pub unbound-words : (scope_of room n ≡ none) ↔ ((get_or r.state (2 * n) 0 ≡ 16) × (get_or r.state (2 * n + 1) 0 ≡ 0))
+  pub unbound-words : (scope_of room n ≡ None) ↔ ((get_or r.state (2 * n) 0 ≡ 16) × (get_or r.state (2 * n + 1) 0 ≡ 0))
   unbound-words = (λ e. slot-words.absent (by-held e slot_held), λ w. sym (binding-read-out [] [] []) ∙ ap (reading none_lent) (ap₂ cell_of w.0 w.1 ∙ absent-words) ∙ absent-reads none_lent)
     where
       none_lent : Rooms
       none_lent = rooms [] r.cells r.text [] []
 
-      unlike : (v : Meant) → some v ≡ none → ⊥
+      unlike : (v : Meant) → Some v ≡ None → ⊥
       unlike v e = let z : ◌≡◌ {A = ℕ} 0 1 = cc in omega arith
 
-      by-held : scope_of room n ≡ none → (slot ≡ Value.Absent) ⊎ HeldBy r.cells r.text bindings.cells bindings.bytes slot → is_absent slot ≡ true
+      by-held : scope_of room n ≡ None → (slot ≡ Value.Absent) ⊎ HeldBy r.cells r.text bindings.cells bindings.bytes slot → is_absent slot ≡ true
       by-held e (inl a) = ap is_absent a
       by-held e (inr k) = absurd (unlike k.value (sym (held-read r.cells r.text bindings stands.sound n k) ∙ stands.scope n ∙ e))

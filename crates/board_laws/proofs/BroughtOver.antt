@@ -6,15 +6,17 @@ use mathlib.Core.List.{List}
 use lib.Dec.{ltb}
 use lib.ListN.{length}
 use borrow.Author.Tests.{lt-ltb, le-ltb, eq-eqb}
-use Rattle.meaning.specs.Errors.{UnsoundBinding, refusal_number}
+use Rattle.meaning.specs.Errors.{refusal_number, refusal_at}
+use Rattle.meaning.specs.declared.refusal.Reason.{Reason}
+use Rattle.meaning.specs.declared.refusal.Reason.TheVariants.{UnsoundBinding}
 use Rattle.meaning.specs.Heads.{Got, got, refused}
 use Rattle.meaning.specs.Spelling.{Literal}
 use Rattle.meaning.specs.Bindings as Meaning
 use Rattle.meaning.specs.Bindings.{bring}
 use Rattle.meaning.specs.WellFormed.{AllBytes}
 use Rattle.bindings_sound.specs.declared.Bindings.{Bindings}
-use Rattle.bindings.specs.declared.admission.Answer.{Answer}
-use Rattle.bindings.specs.declared.admission.Answer.TheVariants.{Done, Refused}
+use Rattle.std.specs.Prelude.{Result, Ok, Err}
+use Rattle.meaning.specs.declared.refusal.Refusal.{Refusal}
 use Rattle.bindings.specs.Bringing.{accepted, Outcome, after, outcome_of}
 use Rattle.bindings_laws.specs.Brings as Lower
 use Rattle.bindings_laws.specs.Brings.{StandsFor, Kept}
@@ -40,9 +42,9 @@ module _ (before : BindingRoom) (name : ℕ) (table literal : List ℕ) where
   o = outcome_of before.cells before.text b name table literal
 
   -- a refusal of the bindings is one of the state
-  refused_over : (n p : ℕ) → o ≡ Lower.refusal before.cells before.text b n p → ◌≡◌ {A = Answer × BindingRoom} (stows before name table literal) (Refused n p, before)
+  refused_over : (why : Reason) (p : ℕ) → o ≡ Lower.refusal before.cells before.text b why p → ◌≡◌ {A = Result (Unit {0}) Refusal × BindingRoom} (stows before name table literal) (Err (refusal_at why p), before)
   unfolding stows
-  refused_over n p e = ap (λ (x : Outcome). stowed x before.state) e
+  refused_over why p e = ap (λ (x : Outcome). stowed x before.state) e
 
   -- what is written back stands for what the bindings became
   module _ (words : Words before.state) (table_bytes : AllBytes table) (text_bytes : AllBytes literal) (room : Meaning.BindingRoom) (stands : Stands before room)
@@ -50,26 +52,26 @@ module _ (before : BindingRoom) (name : ℕ) (table literal : List ℕ) where
     is : is_state before.state ≡ true
     is = sound-state before.state before.cells before.text stands.sound
 
-    slots : length o.brought.bindings.scope.slots ≡ 128
+    slots : length o.bindings.scope.slots ≡ 128
     slots = outcome-slots before.cells before.text b name table literal ∙ state-slots before.state
 
-    fit : AllFit o.brought.bindings.scope.slots
+    fit : AllFit o.bindings.scope.slots
     fit = outcome_fits before.cells before.text b name table literal table_bytes text_bytes (state-fits before.state words)
 
-    written : binding_room (state_after o.brought.answer o.brought.bindings before.state) o.words o.text ≡ binding_room (state_of o.brought.bindings) o.words o.text
+    written : binding_room (state_after o.answer o.bindings before.state) o.words o.text ≡ binding_room (state_of o.bindings) o.words o.text
     unfolding state_put
     written =
-        ap (λ (a : Answer). binding_room (state_after a o.brought.bindings before.state) o.words o.text) holds.done
+        ap (λ (a : Result (Unit {0}) Refusal). binding_room (state_after a o.bindings before.state) o.words o.text) holds.done
         ∙ (rw (eq-eqb (length before.state) 259 (state-long before.state is)) refl)
 
-    done-over : ◌≡◌ {A = Answer × BindingRoom} (stows before name table literal) (Done, binding_room (state_of o.brought.bindings) o.words o.text)
+    done-over : ◌≡◌ {A = Result (Unit {0}) Refusal × BindingRoom} (stows before name table literal) (Ok tt, binding_room (state_of o.bindings) o.words o.text)
     unfolding stows
-    done-over = ap₂ (λ (a : Answer) (r : BindingRoom). (a, r)) holds.done written
+    done-over = ap₂ (λ (a : Result (Unit {0}) Refusal) (r : BindingRoom). (a, r)) holds.done written
 
-    stands-over : Stands (binding_room (state_of o.brought.bindings) o.words o.text) more
+    stands-over : Stands (binding_room (state_of o.bindings) o.words o.text) more
     stands-over =
-        subst (λ (c : Bindings). StandsFor o.words o.text c more) (sym (round_trip o.brought.bindings slots fit))
-        ((settled-stands o.words o.text o.brought.bindings (each_fits o.brought.bindings.scope.slots fit) more).1 holds.stands)
+        subst (λ (c : Bindings). StandsFor o.words o.text c more) (sym (round_trip o.bindings slots fit))
+        ((settled-stands o.words o.text o.bindings (each_fits o.bindings.scope.slots fit) more).1 holds.stands)
 
   -- ---- the call
 
@@ -83,25 +85,25 @@ module _ (before : BindingRoom) (name : ℕ) (table literal : List ℕ) where
       unfolding brings
       long-brings = rw (le-ltb (length answer) 8 long) refl
 
-      done-handed : hands_brought Done answer ≡ (which_done, over done answer)
+      done-handed : hands_brought (Ok tt) answer ≡ (which_done, over done answer)
       done-handed = rw (le-ltb (length answer) 8 long) refl
 
-      refused-handed : (n p : ℕ) → hands_brought (Refused n p) answer ≡ (which_refused, over (refusal n p) answer)
-      refused-handed n p = rw (le-ltb (length answer) 8 long) refl
+      refused-handed : (why : Reason) (p : ℕ) → hands_brought (Err (refusal_at why p)) answer ≡ (which_refused, over (refusal (refusal_number why) p) answer)
+      refused-handed why p = rw (le-ltb (length answer) 8 long) refl
 
       module _ (left : Left) (e : left ≡ left_by (brings before name table literal answer)) where
-        refused-left : (n p : ℕ) → o ≡ Lower.refusal before.cells before.text b n p → RefusedAt n p before answer left
-        refused-left n p f =
-            let g : left ≡ record { returned = which_refused; answer = over (refusal n p) answer; room = before } =
-            e ∙ ap left_by (long-brings ∙ ap (λ (x : Answer × BindingRoom). brought_into x answer) (refused_over n p f)) ∙ ap (λ (h : ℕ × List ℕ). left_by (h, before)) (refused-handed n p) in
+        refused-left : (why : Reason) (p : ℕ) → o ≡ Lower.refusal before.cells before.text b why p → RefusedAt (refusal_number why) p before answer left
+        refused-left why p f =
+            let g : left ≡ record { returned = which_refused; answer = over (refusal (refusal_number why) p) answer; room = before } =
+            e ∙ ap left_by (long-brings ∙ ap (λ (x : Result (Unit {0}) Refusal × BindingRoom). brought_into x answer) (refused_over why p f)) ∙ ap (λ (h : ℕ × List ℕ). left_by (h, before)) (refused-handed why p) in
             record { returns = ap (λ (l : Left). l.returned) g; answers = ap (λ (l : Left). l.answer) g; unchanged = ap (λ (l : Left). l.room) g }
 
         module _ (words : Words before.state) (table_bytes : AllBytes table) (text_bytes : AllBytes literal) (room : Meaning.BindingRoom) (stands : Stands before room) where
           done-left : (more : Meaning.BindingRoom) → Lower.Holds before.cells before.text b more o → BroughtIn before room more answer left
           done-left more h =
-              let r = binding_room (state_of o.brought.bindings) o.words o.text in
+              let r = binding_room (state_of o.bindings) o.words o.text in
               let g : left ≡ record { returned = which_done; answer = over done answer; room = r } =
-              e ∙ ap left_by (long-brings ∙ ap (λ (x : Answer × BindingRoom). brought_into x answer) (done-over words table_bytes text_bytes room stands more h)) ∙ ap (λ (k : ℕ × List ℕ). left_by (k, r)) done-handed in
+              e ∙ ap left_by (long-brings ∙ ap (λ (x : Result (Unit {0}) Refusal × BindingRoom). brought_into x answer) (done-over words table_bytes text_bytes room stands more h)) ∙ ap (λ (k : ℕ × List ℕ). left_by (k, r)) done-handed in
               record {
                 returns = ap (λ (l : Left). l.returned) g;
                 answers = ap (λ (l : Left). l.answer) g;
@@ -116,7 +118,7 @@ module _ (before : BindingRoom) (name : ℕ) (table literal : List ℕ) where
 
           as-meant : (g : Got Meaning.BindingRoom) → Lower.Brings before.cells before.text b g o → AsMeant g before room answer left
           as-meant (got more) h = done-left more h
-          as-meant (refused why p) h = refused-left (refusal_number why) p h
+          as-meant (refused why p) h = refused-left why p h
 
 -- Bringing in over a state: refused where the definition refuses, with its number and place, and nothing has changed; and where the definition
 -- gives a room, the state with its cells and text stands for it, and nothing is written but what it takes.
@@ -125,7 +127,7 @@ pub bring-in-means : (before : BindingRoom) (name : ℕ) (table literal answer :
 bring-in-means before name table literal answer left e words table_bytes text_bytes =
     record {
       short = λ h. e ∙ ap left_by (short-brings before name table literal answer h);
-      unsound = λ h p u. refused-left before name table literal answer h left e (refusal_number UnsoundBinding) p (means.unsound p u);
+      unsound = λ h p u. refused-left before name table literal answer h left e UnsoundBinding p (means.unsound p u);
       sound = λ h room s. as-meant before name table literal answer h left e words table_bytes text_bytes room s (bring (length before.cells / 2) (length before.text) room name table literal) (means.sound room s);
     }
   where

@@ -14,12 +14,12 @@ use Rattle.rooms.specs.declared.value.TextSpace.{TextSpace}
 use Rattle.rooms.specs.declared.value.TextSpace.TheVariants as Text
 use Rattle.rooms.specs.declared.value.CellSpace.{CellSpace}
 use Rattle.rooms.specs.declared.value.CellSpace.TheVariants as Cells
-use Rattle.rooms.specs.declared.places.TextPlace.TheVariants as TextPlace
-use Rattle.rooms.specs.declared.places.CellPlace.TheVariants as CellPlace
 use Rattle.rooms.specs.Value.{double_value}
 use Rattle.rooms.specs.Cells.{word_of, signed_of, text_number, cell_number, packed, head_of, payload_of, text_place, cell_place, bare_of, text_of, container_of, value_of, cell_of}
 use Rattle.machine.proofs.AnyCells.{either}
 use Rattle.board_laws.specs.ValueWords.{Written}
+use Rattle.rooms.specs.Spans.{span, row}
+use Rattle.std.specs.Prelude.{Some}
 
 no_value : {h x : ℕ} → Written h x Value.Absent
 no_value = record { words = λ e. absurd (true≢false e) }
@@ -30,11 +30,11 @@ is-value v e f = record { words = λ g. (e, f) }
 -- ---- text
 
 module _ (k s d n h x : ℕ) (e : h ≡ packed k s d n)
-    (heads : (space : TextSpace) → Written (packed k (text_number space) 0 n) x (cond (eqb k 5) (Value.String space x n) (Value.Bytes space x n))) where
-  text_at : (space : TextSpace) → s ≡ text_number space → Written h x (text_of k d (TextPlace.At space x n))
+    (heads : (space : TextSpace) → Written (packed k (text_number space) 0 n) x (cond (eqb k 5) (Value.String (span space x n)) (Value.Bytes (span space x n)))) where
+  text_at : (space : TextSpace) → s ≡ text_number space → Written h x (text_of k d (Some (span space x n)))
   unfolding text_of
   text_at space f =
-      either (Written h x) (eqb d 0) (λ g. subst (λ (y : ℕ). Written y x (cond (eqb k 5) (Value.String space x n) (Value.Bytes space x n))) (sym (e ∙ (λ i. packed k (f i) (eqb-true d 0 g i) n))) (heads space))
+      either (Written h x) (eqb d 0) (λ g. subst (λ (y : ℕ). Written y x (cond (eqb k 5) (Value.String (span space x n)) (Value.Bytes (span space x n)))) (sym (e ∙ (λ i. packed k (f i) (eqb-true d 0 g i) n))) (heads space))
       (λ g. no_value)
 
   text-written : Written h x (text_of k d (text_place s x n))
@@ -49,9 +49,9 @@ module _ (k s d n h x : ℕ) (e : h ≡ packed k s d n)
 -- ---- cells
 
 module _ (k s d n h x : ℕ) (e : h ≡ packed k s d n)
-    (heads : (space : CellSpace) → Written (packed k (cell_number space) d n) x (container_of k d (CellPlace.At space x n))) where
-  cells_at : (space : CellSpace) → s ≡ cell_number space → Written h x (container_of k d (CellPlace.At space x n))
-  cells_at space f = subst (λ (y : ℕ). Written y x (container_of k d (CellPlace.At space x n))) (sym (e ∙ (λ i. packed k (f i) d n))) (heads space)
+    (heads : (space : CellSpace) → Written (packed k (cell_number space) d n) x (container_of k d (Some (row space x n)))) where
+  cells_at : (space : CellSpace) → s ≡ cell_number space → Written h x (container_of k d (Some (row space x n)))
+  cells_at space f = subst (λ (y : ℕ). Written y x (container_of k d (Some (row space x n)))) (sym (e ∙ (λ i. packed k (f i) d n))) (heads space)
 
   container-written : Written h x (container_of k d (cell_place s x n))
   unfolding cell_place container_of
@@ -62,16 +62,16 @@ module _ (k s d n h x : ℕ) (e : h ≡ packed k s d n)
       (λ l. either (λ c. Written h x (container_of k d c)) (eqb s 1) (λ m. cells_at Cells.Evaluation (eqb-true s 1 m)) (λ m. no_value))))
 
 module _ (d n x : ℕ) (space : CellSpace) where
-  list-head : Written (packed 12 (cell_number space) d n) x (container_of 12 d (CellPlace.At space x n))
+  list-head : Written (packed 12 (cell_number space) d n) x (container_of 12 d (Some (row space x n)))
   unfolding container_of
-  list-head = either (Written (packed 12 (cell_number space) d n) x) (ltb 255 d) (λ e. no_value) (λ e. is-value (Value.List d space x n) refl refl)
+  list-head = either (Written (packed 12 (cell_number space) d n) x) (ltb 255 d) (λ e. no_value) (λ e. is-value (Value.List d (row space x n)) refl refl)
 
-  map-head : Written (packed 13 (cell_number space) d n) x (container_of 13 d (CellPlace.At space x n))
+  map-head : Written (packed 13 (cell_number space) d n) x (container_of 13 d (Some (row space x n)))
   unfolding container_of
-  map-head = either (Written (packed 13 (cell_number space) d n) x) (ltb 255 d) (λ e. no_value) (λ e. is-value (Value.Map d space x n) refl refl)
+  map-head = either (Written (packed 13 (cell_number space) d n) x) (ltb 255 d) (λ e. no_value) (λ e. is-value (Value.Map d (row space x n)) refl refl)
 
   -- a present Optional has no length
-  optional-head : Written (packed 15 (cell_number space) d n) x (container_of 15 d (CellPlace.At space x n))
+  optional-head : Written (packed 15 (cell_number space) d n) x (container_of 15 d (Some (row space x n)))
   unfolding container_of
   optional-head =
       either (Written (packed 15 (cell_number space) d n) x) (ltb 255 d) (λ e. no_value)
@@ -111,18 +111,18 @@ bare-written k x h =
 value_written : (h k s d n x : ℕ) → x < 2 ^ 64 → h ≡ packed k s d n → Written h x (value_of h k s d n x)
 unfolding value_of
 value_written h k s d n x l e =
-    either (Written h x) (eqb k 5) (λ f. text-kind 5 (eqb-true k 5 f) (λ space. is-value (Value.String space x n) refl refl))
-    (λ _. either (Written h x) (eqb k 6) (λ f. text-kind 6 (eqb-true k 6 f) (λ space. is-value (Value.Bytes space x n) refl refl))
+    either (Written h x) (eqb k 5) (λ f. text-kind 5 (eqb-true k 5 f) (λ space. is-value (Value.String (span space x n)) refl refl))
+    (λ _. either (Written h x) (eqb k 6) (λ f. text-kind 6 (eqb-true k 6 f) (λ space. is-value (Value.Bytes (span space x n)) refl refl))
     (λ _. either (Written h x) (eqb k 12) (λ f. cells-kind 12 (eqb-true k 12 f) (λ space. list-head d n x space))
     (λ _. either (Written h x) (eqb k 13) (λ f. cells-kind 13 (eqb-true k 13 f) (λ space. map-head d n x space))
     (λ _. either (Written h x) (eqb k 15) (λ f. cells-kind 15 (eqb-true k 15 f) (λ space. optional-head d n x space))
     (λ _. either (Written h x) (eqb k h) (λ f. subst (λ (y : ℕ). Written y x (bare_of k x)) (eqb-true k h f) (bare-written k x l)) (λ _. no_value))))))
   where
-    text-kind : (j : ℕ) → k ≡ j → ((space : TextSpace) → Written (packed j (text_number space) 0 n) x (cond (eqb j 5) (Value.String space x n) (Value.Bytes space x n)))
+    text-kind : (j : ℕ) → k ≡ j → ((space : TextSpace) → Written (packed j (text_number space) 0 n) x (cond (eqb j 5) (Value.String (span space x n)) (Value.Bytes (span space x n))))
         → Written h x (text_of k d (text_place s x n))
     text-kind j f heads = subst (λ (y : ℕ). Written h x (text_of y d (text_place s x n))) (sym f) (text-written j s d n h x (e ∙ (λ i. packed (f i) s d n)) heads)
 
-    cells-kind : (j : ℕ) → k ≡ j → ((space : CellSpace) → Written (packed j (cell_number space) d n) x (container_of j d (CellPlace.At space x n)))
+    cells-kind : (j : ℕ) → k ≡ j → ((space : CellSpace) → Written (packed j (cell_number space) d n) x (container_of j d (Some (row space x n))))
         → Written h x (container_of k d (cell_place s x n))
     cells-kind j f heads = subst (λ (y : ℕ). Written h x (container_of y d (cell_place s x n))) (sym f) (container-written j s d n h x (e ∙ (λ i. packed (f i) s d n)) heads)
 

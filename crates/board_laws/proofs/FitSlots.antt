@@ -116,20 +116,20 @@ module _ (w t : List ℕ) (b : Bindings) (name : ℕ) (table literal : List ℕ)
       literal-fits l (room w t b.cells b.bytes) (was_read (literal-sound (expr_of table literal 0) (was_read (table-formed table literal table_bytes text_bytes) f.read.is)) f.literals)
       f.nests (omega (arith, f.cells)) (omega (arith, f.bytes))
 
-  after-fits : (g : Got Literal) → accepted w t b name table literal ≡ g → AllFit (after w t b name g).brought.bindings.scope.slots
+  after-fits : (g : Got Literal) → accepted w t b name table literal ≡ g → AllFit (after w t b name g).bindings.scope.slots
   after-fits (refused r p) e = fit
   after-fits (got l) e = set-fits b.scope.slots name (laid l (room w t b.cells b.bytes)).0 fit (laid-fits l (was_read (accepted-fits w t b name table literal) e))
 
   -- The slots after bringing in hold values that words can hold.
-  pub outcome_fits : AllFit (outcome_of w t b name table literal).brought.bindings.scope.slots
+  pub outcome_fits : AllFit (outcome_of w t b name table literal).bindings.scope.slots
   unfolding outcome_of
   outcome_fits = after-fits (accepted w t b name table literal) refl
 
 -- and are as many as before
-pub outcome-slots : (w t : List ℕ) (b : Bindings) (name : ℕ) (table literal : List ℕ) → length (outcome_of w t b name table literal).brought.bindings.scope.slots ≡ length b.scope.slots
+pub outcome-slots : (w t : List ℕ) (b : Bindings) (name : ℕ) (table literal : List ℕ) → length (outcome_of w t b name table literal).bindings.scope.slots ≡ length b.scope.slots
 unfolding outcome_of
 outcome-slots w t b name table literal = by_read (accepted w t b name table literal)
   where
-    by_read : (g : Got Literal) → length (after w t b name g).brought.bindings.scope.slots ≡ length b.scope.slots
+    by_read : (g : Got Literal) → length (after w t b name g).bindings.scope.slots ≡ length b.scope.slots
     by_read (refused r p) = refl
     by_read (got l) = length-set b.scope.slots name _

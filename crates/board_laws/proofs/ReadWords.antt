@@ -4,7 +4,7 @@ use Prim.Native.Nat.{ℕ, ◌+◌, ◌*◌, ◌^◌, ◌<◌}
 use mathlib.Core.Path.{◌≡◌, refl, sym, ap, ap₂, ◌∙◌}
 use mathlib.Core.Bool.{Bool, true, false, cond}
 use mathlib.Core.List.{List}
-use mathlib.Core.Option.{some}
+use Rattle.std.specs.Prelude.{Some}
 use lib.Dec.{ltb}
 use lib.ListN.{get_or}
 use Rattle.meaning.specs.Value as Meaning
@@ -61,32 +61,32 @@ module _ (b w : List ℕ) (binding_words : Words b) (words : Words w) where
 
   -- The words of a part that `ombravelik_element`, `ombravelik_key`, `ombravelik_value` and `ombravelik_present` hand out are read as that part.
   pub element-again : (p : Parts) (i : ℕ) → ReadAgain (element_in b w p i)
-  element-again (Parts.Elements s a n) i = perhaps-again (words_of b w s) (each-words s) (ltb i n) (a + i)
-  element-again (Parts.Entries s a n) i = absent-again
+  element-again (Parts.Elements ro) i = perhaps-again (words_of b w ro.space) (each-words ro.space) (ltb i ro.length) (ro.first + i)
+  element-again (Parts.Entries ro) i = absent-again
   element-again (Parts.Present s a) i = absent-again
   element-again Parts.Nothing i = absent-again
 
   pub key-again : (p : Parts) (i : ℕ) → ReadAgain (key_in b w p i)
-  key-again (Parts.Elements s a n) i = absent-again
-  key-again (Parts.Entries s a n) i = perhaps-again (words_of b w s) (each-words s) (ltb i n) (a + 2 * i)
+  key-again (Parts.Elements ro) i = absent-again
+  key-again (Parts.Entries ro) i = perhaps-again (words_of b w ro.space) (each-words ro.space) (ltb i ro.length) (ro.first + 2 * i)
   key-again (Parts.Present s a) i = absent-again
   key-again Parts.Nothing i = absent-again
 
   pub value-again : (p : Parts) (i : ℕ) → ReadAgain (value_in b w p i)
-  value-again (Parts.Elements s a n) i = absent-again
-  value-again (Parts.Entries s a n) i = perhaps-again (words_of b w s) (each-words s) (ltb i n) (a + 1 + 2 * i)
+  value-again (Parts.Elements ro) i = absent-again
+  value-again (Parts.Entries ro) i = perhaps-again (words_of b w ro.space) (each-words ro.space) (ltb i ro.length) (ro.first + 1 + 2 * i)
   value-again (Parts.Present s a) i = absent-again
   value-again Parts.Nothing i = absent-again
 
   pub present-again : (p : Parts) → ReadAgain (present_in b w p)
-  present-again (Parts.Elements s a n) = absent-again
-  present-again (Parts.Entries s a n) = absent-again
+  present-again (Parts.Elements ro) = absent-again
+  present-again (Parts.Entries ro) = absent-again
   present-again (Parts.Present s a) = cell-again (words_of b w s) (each-words s) a
   present-again Parts.Nothing = absent-again
 
 -- ---- a value read out
 
 -- Two words that read as a value of the definition show it: `ombravelik_read` its kind, number, text and count, the other four each of its parts.
-pub words-show : (r : Rooms) (head payload : ℕ) (v : Meaning.Value) → reading r (cell_of head payload) ≡ some v → Shows (nesting_of (cell_of head payload)) r (cell_of head payload) v
+pub words-show : (r : Rooms) (head payload : ℕ) (v : Meaning.Value) → reading r (cell_of head payload) ≡ Some v → Shows (nesting_of (cell_of head payload)) r (cell_of head payload) v
 unfolding reading
 words-show r head payload v e = shows (nesting_of (cell_of head payload)) r (cell_of head payload) v e

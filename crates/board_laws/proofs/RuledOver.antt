@@ -4,7 +4,7 @@
 use Prim.Native.Nat.{ℕ, ◌≤◌}
 use mathlib.Core.Path.{◌≡◌, refl, sym, ap, ◌∙◌, subst}
 use mathlib.Core.List.{List}
-use mathlib.Core.Option.{some}
+use Rattle.std.specs.Prelude.{Some}
 use native.Mathlib.Omega.{arith}
 use lib.ListN.{length, length-replicate}
 use borrow.Author.Tests.{eq-eqb, le-ltb}
@@ -78,13 +78,13 @@ module _ (left : Rooms) (answer : List ℕ) (long : 8 ≤ length answer) where
 
   -- what tells the definition's answer is handed as its words
   told-words : (a : Answer) (m : Meant.Answer) → FitsAnswer a → told left a ≡ told_by m → Handed m a
-  told-words (Answer.Refused number place) (refusal why p) f e =
-      let n : number ≡ refusal_number why = cc in
-      let q : place ≡ p = cc in
+  told-words (Answer.Refused r) (refusal why p) f e =
+      let n : refusal_number r.reason ≡ refusal_number why = cc in
+      let q : r.place ≡ p = cc in
       rw (le-ltb (length answer) 8 long) (refl, λ i. over (Report.refusal (n i) (q i)) answer)
   told-words (Answer.Value x u) (ran (Limited.value v c)) f e =
       let d : counts_used u ≡ c = cc in
-      let r : reading left x ≡ some v = cc in
+      let r : reading left x ≡ Some v = cc in
       rw (le-ltb (length answer) 8 long) (
         x,
         refl,
@@ -100,9 +100,9 @@ module _ (left : Rooms) (answer : List ℕ) (long : 8 ≤ length answer) where
       let d : counts_used u ≡ c = cc in
       let n : limit_meant x ≡ y = cc in
       rw (le-ltb (length answer) 8 long) (refl, λ i. over (report which_exhausted (limit_number (n i)) 0 (used_of (d i)) Value.Absent) answer)
-  told-words (Answer.Refused number place) (ran (Limited.value v c)) f e = let z : ◌≡◌ {A = ℕ} 0 1 = cc in absurd (omega arith)
-  told-words (Answer.Refused number place) (ran (Limited.error v c)) f e = let z : ◌≡◌ {A = ℕ} 0 1 = cc in absurd (omega arith)
-  told-words (Answer.Refused number place) (ran (Limited.exhausted y c)) f e = let z : ◌≡◌ {A = ℕ} 0 1 = cc in absurd (omega arith)
+  told-words (Answer.Refused r) (ran (Limited.value v c)) f e = let z : ◌≡◌ {A = ℕ} 0 1 = cc in absurd (omega arith)
+  told-words (Answer.Refused r) (ran (Limited.error v c)) f e = let z : ◌≡◌ {A = ℕ} 0 1 = cc in absurd (omega arith)
+  told-words (Answer.Refused r) (ran (Limited.exhausted y c)) f e = let z : ◌≡◌ {A = ℕ} 0 1 = cc in absurd (omega arith)
   told-words (Answer.Value x u) (refusal why p) f e = let z : ◌≡◌ {A = ℕ} 0 1 = cc in absurd (omega arith)
   told-words (Answer.Value x u) (ran (Limited.error v c)) f e = let z : ◌≡◌ {A = ℕ} 0 1 = cc in absurd (omega arith)
   told-words (Answer.Value x u) (ran (Limited.exhausted y c)) f e = let z : ◌≡◌ {A = ℕ} 0 1 = cc in absurd (omega arith)
@@ -159,7 +159,7 @@ module _ (table state : List ℕ) (steps : ℕ) (lent : Rooms) (answer : List �
         (meant-over table (bindings_in state) steps lent room (record { slots = state-slots state; sound = stands.sound; scope = stands.scope })) evaluate-answers
 
     -- Whatever the state's words are, a value that comes back is well formed.
-    pub evaluate-formed : (v : Value) (c : Counts) → told left said ≡ Told.value (some v) c → WellFormed v
+    pub evaluate-formed : (v : Value) (c : Counts) → told left said ≡ Told.value (Some v) c → WellFormed v
     evaluate-formed =
         says-formed table (bindings_in state) steps lent all.table_bytes all.literal_bytes
         (record { words = all.binding_words; text = all.binding_bytes; slots = state-slots state; values = each_fits (bindings_in state).scope.slots (state-fits state all.state_words) })

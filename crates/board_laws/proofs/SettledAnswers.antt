@@ -5,7 +5,7 @@ use mathlib.Core.Path.{◌≡◌, refl, sym, ap, ◌∙◌, subst}
 use mathlib.Core.Logic.{◌↔◌}
 use mathlib.Core.List.{List, [], ◌∷◌, map}
 use lib.ListN.{length, get_or, set}
-use Rattle.meaning.specs.Errors.{WrongField, NameBound}
+use Rattle.meaning.specs.declared.refusal.Reason.TheVariants.{WrongField, NameBound}
 use Rattle.meaning.specs.Value.{Scalar, null, bool, int, uint, double, string, bytes}
 use Rattle.meaning.specs.Kinds.{name_of}
 use Rattle.meaning.specs.Heads.{Got, got, refused, ◌>>=◌, ◌>>◌, demand, or_refuse, start}
@@ -75,15 +75,12 @@ module _ (w t : List ℕ) (b : Bindings) (name : ℕ) (table literal : List ℕ)
   after-alike (refused r p) = refl
   after-alike (got l) =
       λ i. record {
-        brought =
+        answer = Bringing.said (got l);
+        bindings =
             record {
-              answer = Bringing.said (got l);
-              bindings =
-                  record {
-                    scope = record { slots = (ap (λ (v : Value). set (map settled_slot b.scope.slots) name (record { value = v })) (sym (laid-settled l r)) ∙ sym (set-settled b.scope.slots name (record { value = (laid l r).0 }))) i };
-                    cells = (laid l r).1.cells;
-                    bytes = (laid l r).1.bytes;
-                  };
+              scope = record { slots = (ap (λ (v : Value). set (map settled_slot b.scope.slots) name (record { value = v })) (sym (laid-settled l r)) ∙ sym (set-settled b.scope.slots name (record { value = (laid l r).0 }))) i };
+              cells = (laid l r).1.cells;
+              bytes = (laid l r).1.bytes;
             };
         words = (laid l r).1.words;
         text = (laid l r).1.text;

@@ -4,7 +4,7 @@ use Prim.Native.Nat.{ℕ, zero, suc, ◌^◌, ◌<◌}
 use mathlib.Core.Path.{◌≡◌, refl, sym, ap, ap₂, ◌∙◌}
 use mathlib.Core.Bool.{true, false, ◌&&◌, ◌||◌}
 use mathlib.Core.List.{List, [], ◌∷◌, ◌++◌, map}
-use mathlib.Core.Option.{some}
+use Rattle.std.specs.Prelude.{Some}
 use lib.Ieee.{binary64}
 use lib.Ieee.Bits.{to_bits-lt}
 use lib.ListN.{get_or-map}
@@ -45,16 +45,16 @@ double-nesting : (d : Double) → nesting_of (double_value d) ≡ 0
 double-nesting (Plain x) = refl
 double-nesting (Nan b) = refl
 
-double-read : (f : Reader) (r : Rooms) (d : Double) → read_by f r (double_value d) ≡ some (scalar (double (bits_of d)))
+double-read : (f : Reader) (r : Rooms) (d : Double) → read_by f r (double_value d) ≡ Some (scalar (double (bits_of d)))
 double-read f r (Plain x) = refl
 double-read f r (Nan b) = refl
 
 double-reading : (r : Rooms) (d e : Double) → bits_of d ≡ bits_of e → reading r (double_value d) ≡ reading r (double_value e)
 unfolding reading read_to
 double-reading r d e h =
-    double-at d ∙ ap (λ (n : ℕ). some (scalar (double n))) h ∙ sym (double-at e)
+    double-at d ∙ ap (λ (n : ℕ). Some (scalar (double n))) h ∙ sym (double-at e)
   where
-    double-at : (d : Double) → read_to (suc (nesting_of (double_value d))) r (double_value d) ≡ some (scalar (double (bits_of d)))
+    double-at : (d : Double) → read_to (suc (nesting_of (double_value d))) r (double_value d) ≡ Some (scalar (double (bits_of d)))
     double-at (Plain x) = refl
     double-at (Nan b) = refl
 
@@ -75,10 +75,10 @@ settled-absent (Value.Int z) = refl
 settled-absent (Value.Uint n) = refl
 settled-absent (Value.Double x) = double-absent (double_of (bits_of (Plain x)))
 settled-absent (Value.Nan b) = double-absent (double_of b)
-settled-absent (Value.String s a n) = refl
-settled-absent (Value.Bytes s a n) = refl
-settled-absent (Value.List d s a n) = refl
-settled-absent (Value.Map d s a n) = refl
+settled-absent (Value.String sp) = refl
+settled-absent (Value.Bytes sp) = refl
+settled-absent (Value.List d ro) = refl
+settled-absent (Value.Map d ro) = refl
 settled-absent Value.OptionalNone = refl
 settled-absent (Value.OptionalOf d s a) = refl
 settled-absent Value.Absent = refl
@@ -90,10 +90,10 @@ settled-fits w t used bytes least (Value.Int z) = refl
 settled-fits w t used bytes least (Value.Uint n) = refl
 settled-fits w t used bytes least (Value.Double x) = double-fits w t used bytes least (double_of (bits_of (Plain x)))
 settled-fits w t used bytes least (Value.Nan b) = double-fits w t used bytes least (double_of b)
-settled-fits w t used bytes least (Value.String s a n) = refl
-settled-fits w t used bytes least (Value.Bytes s a n) = refl
-settled-fits w t used bytes least (Value.List d s a n) = refl
-settled-fits w t used bytes least (Value.Map d s a n) = refl
+settled-fits w t used bytes least (Value.String sp) = refl
+settled-fits w t used bytes least (Value.Bytes sp) = refl
+settled-fits w t used bytes least (Value.List d ro) = refl
+settled-fits w t used bytes least (Value.Map d ro) = refl
 settled-fits w t used bytes least Value.OptionalNone = refl
 settled-fits w t used bytes least (Value.OptionalOf d s a) = refl
 settled-fits w t used bytes least Value.Absent = refl
@@ -106,10 +106,10 @@ settled-reading r (Value.Int z) f = refl
 settled-reading r (Value.Uint n) f = refl
 settled-reading r (Value.Double x) f = double-reading r (double_of (bits_of (Plain x))) (Plain x) (bits_back (bits_of (Plain x)) (bits_in (Plain x) f))
 settled-reading r (Value.Nan b) f = double-reading r (double_of b) (Nan b) (bits_back b (bits_in (Nan b) f))
-settled-reading r (Value.String s a n) f = refl
-settled-reading r (Value.Bytes s a n) f = refl
-settled-reading r (Value.List d s a n) f = refl
-settled-reading r (Value.Map d s a n) f = refl
+settled-reading r (Value.String sp) f = refl
+settled-reading r (Value.Bytes sp) f = refl
+settled-reading r (Value.List d ro) f = refl
+settled-reading r (Value.Map d ro) f = refl
 settled-reading r Value.OptionalNone f = refl
 settled-reading r (Value.OptionalOf d s a) f = refl
 settled-reading r Value.Absent f = refl
@@ -129,10 +129,10 @@ settled-words (Value.Int z) f = (refl, refl)
 settled-words (Value.Uint n) f = (refl, refl)
 settled-words (Value.Double x) f = double-words (double_of (bits_of (Plain x))) (Plain x) (bits_back (bits_of (Plain x)) (bits_in (Plain x) f))
 settled-words (Value.Nan b) f = double-words (double_of b) (Nan b) (bits_back b (bits_in (Nan b) f))
-settled-words (Value.String s a n) f = (refl, refl)
-settled-words (Value.Bytes s a n) f = (refl, refl)
-settled-words (Value.List d s a n) f = (refl, refl)
-settled-words (Value.Map d s a n) f = (refl, refl)
+settled-words (Value.String sp) f = (refl, refl)
+settled-words (Value.Bytes sp) f = (refl, refl)
+settled-words (Value.List d ro) f = (refl, refl)
+settled-words (Value.Map d ro) f = (refl, refl)
 settled-words Value.OptionalNone f = (refl, refl)
 settled-words (Value.OptionalOf d s a) f = (refl, refl)
 settled-words Value.Absent f = (refl, refl)

@@ -14,7 +14,7 @@ use Rattle.rooms.specs.declared.scope.Slot.{Slot}
 use Rattle.rooms.specs.Cells.{head_of, payload_of, bare_of, value_of, cell_of, has_cell, cell_in}
 use Rattle.rooms.specs.Scope.{slot_of}
 use Rattle.bindings_sound.specs.declared.Bindings.{Bindings}
-use Rattle.bindings_sound.specs.declared.Soundness.TheVariants.{Sound, Unsound}
+use Rattle.std.specs.Prelude.{Result, Ok, Err}
 use Rattle.bindings_sound.specs.Fits.{is_absent, slot_fits}
 use Rattle.bindings_sound.specs.Sound.{sound_of}
 use Rattle.bindings_sound.proofs.FitLaws.{both_true, sound-room}
@@ -165,10 +165,10 @@ unfolding scope_in
 slot-in w s n h = ap (λ (b : Bindings). slot_of b.scope n) (is-bindings w s) ∙ slot_is w 0 128 n _ h ∙ ap (slot_in w) {x = 0 + n} {y = n} (omega arith)
 
 -- words that some room is sound with are a state
-pub sound-state : (w cells text : List ℕ) → sound_of cells text (bindings_in w) ≡ Sound → is_state w ≡ true
+pub sound-state : (w cells text : List ℕ) → sound_of cells text (bindings_in w) ≡ Ok tt → is_state w ≡ true
 sound-state w cells text s = by_state (is_state w) refl
   where
-    unlike : Sound ≡ Unsound 0 → ⊥
+    unlike : ◌≡◌ {A = Result (Unit {0}) ℕ} (Ok tt) (Err 0) → ⊥
     unlike e = let z : ◌≡◌ {A = ℕ} 0 1 = cc in omega arith
 
     by_state : (b : Bool) → is_state w ≡ b → is_state w ≡ true
@@ -176,12 +176,12 @@ sound-state w cells text s = by_state (is_state w) refl
     by_state false e = absurd (unlike (sym s ∙ no-state w cells text e))
 
 -- A state that is accepted over some cells and text is in order.
-pub sound-order : (w cells text : List ℕ) → sound_of cells text (bindings_in w) ≡ Sound → InOrder w
+pub sound-order : (w cells text : List ℕ) → sound_of cells text (bindings_in w) ≡ Ok tt → InOrder w
 sound-order w cells text s =
     let t = sound-state w cells text s in
     let r = sound-room cells text (bindings_in w) s in
     record { state = t; slots = λ n h. or-absent w cells text (bindings_in w).cells (bindings_in w).bytes n (ap (slot_fits cells text (bindings_in w).cells (bindings_in w).bytes) (sym (slot-in w t n h)) ∙ r.slots n h) }
 
 -- So its words come back as they were.
-pub accepted-again : (w cells text : List ℕ) → Words w → sound_of cells text (bindings_in w) ≡ Sound → state_of (bindings_in w) ≡ w
+pub accepted-again : (w cells text : List ℕ) → Words w → sound_of cells text (bindings_in w) ≡ Ok tt → state_of (bindings_in w) ≡ w
 accepted-again w cells text words s = (words-again w words).0 (sound-order w cells text s)

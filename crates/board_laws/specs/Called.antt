@@ -1,9 +1,9 @@
 -- What a call of the interface in C comes to, said of the room of the definition that a state, its cells and its text stand for.
 -- In order: standing for a room; a binding brought in; one that is refused; every call that brings in; an evaluation;
 -- the states that calls make, each with the definition's room.
-use Rattle.std.specs.Prelude.{ℕ, ◌*◌, ◌/◌, ◌≤◌, ◌<◌, ◌≡◌, List, length}
-use Rattle.std.proofs.Math.Option.{some}
-use Rattle.meaning.specs.Errors.{UnsoundBinding, error_number, refusal_number}
+use Rattle.std.specs.Prelude.{ℕ, ◌*◌, ◌/◌, ◌≤◌, ◌<◌, ◌≡◌, List, length, Some}
+use Rattle.meaning.specs.Errors.{error_number, refusal_number}
+use Rattle.meaning.specs.declared.refusal.Reason.TheVariants.{UnsoundBinding}
 use Rattle.meaning.specs.Limited as Limited
 use Rattle.meaning.specs.Heads.{Got, got, refused}
 use Rattle.meaning.specs.Bindings as Meaning
@@ -15,7 +15,7 @@ use Rattle.rooms.specs.declared.value.Value.{Value}
 use Rattle.rooms.specs.Cells.{head_of, payload_of, cell_of}
 use Rattle.rooms.specs.Rooms.{Rooms}
 use Rattle.rooms.specs.Reading.{reading}
-use Rattle.bindings_sound.specs.declared.Soundness.TheVariants.{Unsound}
+use Rattle.std.specs.Prelude.{Err}
 use Rattle.bindings_sound.specs.Sound.{sound_of}
 use Rattle.bindings_laws.specs.Brings.{StandsFor, Kept}
 use Rattle.machine.specs.Refines.{used_of}
@@ -66,7 +66,7 @@ pub record BringsIn (before : BindingRoom) (name : ℕ) (table literal answer : 
   -- without room for an answer nothing is done
   pub short : length answer < answer_words → left ≡ record { returned = no_room; answer = answer; room = before }
   -- a room that is not sound is refused before anything else
-  pub unsound : answer_words ≤ length answer → (place : ℕ) → sound_of before.cells before.text (bindings_in before.state) ≡ Unsound place
+  pub unsound : answer_words ≤ length answer → (place : ℕ) → sound_of before.cells before.text (bindings_in before.state) ≡ Err place
       → RefusedAt (refusal_number UnsoundBinding) place before answer left
   -- in every other the definition decides
   pub sound : answer_words ≤ length answer → (room : Meaning.BindingRoom) → Stands before room
@@ -88,7 +88,7 @@ abbrev pub AnswersAs : Answer → (answer : List ℕ) → (returned : ℕ) → (
 AnswersAs (Answers.refusal why place) answer returned answer_left left =
     (returned ≡ which_refused) × (answer_left ≡ over (refusal (refusal_number why) place) answer)
 AnswersAs (ran (Limited.value v c)) answer returned answer_left left =
-    (m : Value) × (returned ≡ which_value) × (answer_left ≡ over (report which_value 0 0 (used_of c) m) answer) × (reading left (cell_of (head_of m) (payload_of m)) ≡ some v)
+    (m : Value) × (returned ≡ which_value) × (answer_left ≡ over (report which_value 0 0 (used_of c) m) answer) × (reading left (cell_of (head_of m) (payload_of m)) ≡ Some v)
 AnswersAs (ran (Limited.error e c)) answer returned answer_left left =
     (returned ≡ which_error) × (answer_left ≡ over (report which_error (error_number e.error) e.place (used_of c) Value.Absent) answer)
 AnswersAs (ran (Limited.exhausted x c)) answer returned answer_left left =

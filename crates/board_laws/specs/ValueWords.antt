@@ -12,7 +12,7 @@ pub record Written (h x : ℕ) (v : Value) : Type 0 where
 
 -- the same answer, cells and text, with settled bindings
 abbrev pub settled_outcome : Outcome → Outcome
-settled_outcome o = record { brought = record { answer = o.brought.answer; bindings = settled_bindings o.brought.bindings }; words = o.words; text = o.text }
+settled_outcome o = record o { bindings = settled_bindings o.bindings }
 
 -- v is read back from its words
 abbrev pub ReadAgain : Value → Type 0

@@ -4,9 +4,9 @@ use mathlib.Core.Path.{◌≡◌, refl, ap, ◌∙◌}
 use mathlib.Core.Bool.{Bool, true, false, ◌&&◌}
 use mathlib.Core.List.{List}
 use native.Mathlib.Omega.{arith}
-use lib.Dec.{ltb, leb}
+use lib.Dec.{leb}
 use Rattle.rooms_taking.specs.Taking.{cell_room, text_room}
-use Rattle.bindings_sound.specs.declared.Soundness.TheVariants.{Unsound}
+use Rattle.std.specs.Prelude.{None, Err}
 use Rattle.bindings_sound.specs.Fits.{slot_fits}
 use Rattle.bindings_sound.specs.Sound.{first_bad, slots_fit, used_cells, used_bytes, sound_of}
 use Rattle.board_state.specs.State.{no_bindings, is_state, bindings_in}
@@ -29,11 +29,11 @@ and-bad true false c h = refl
 and-bad false b c h = refl
 
 -- no cell is looked at
-none-bad : (words text : List ℕ) (used bytes : ℕ) → used ≡ 0 → ltb (first_bad words text used bytes 0 used) used ≡ false
+none-bad : (words text : List ℕ) (used bytes : ℕ) → used ≡ 0 → first_bad words text used bytes 0 used ≡ None
 unfolding first_bad
-none-bad words text used bytes e = ap (λ (u : ℕ). ltb (first_bad words text u bytes 0 u) u) e
+none-bad words text used bytes e = ap (λ (u : ℕ). first_bad words text u bytes 0 u) e
 
-unsound : (words text : List ℕ) → sound_of words text no_bindings ≡ Unsound 0
+unsound : (words text : List ℕ) → sound_of words text no_bindings ≡ Err 0
 unfolding sound_of
 unsound words text =
     rw (none-bad words text (used_cells words text no_bindings) (used_bytes words text no_bindings) nothing)
@@ -44,6 +44,6 @@ unsound words text =
     nothing = min-none no_bindings.cells (cell_room words) no_cells
 
 -- Words that are no state: refusal 8 at place 0, whatever the room holds.
-pub no-state : (words cells text : List ℕ) → is_state words ≡ false → sound_of cells text (bindings_in words) ≡ Unsound 0
+pub no-state : (words cells text : List ℕ) → is_state words ≡ false → sound_of cells text (bindings_in words) ≡ Err 0
 unfolding bindings_in
 no-state words cells text h = ap (sound_of cells text) (rw h refl) ∙ unsound cells text

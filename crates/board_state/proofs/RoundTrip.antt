@@ -61,10 +61,10 @@ module _ (p r : List ℕ) (i : ℕ) (e : length p ≡ i * 2) where
   slot-again (Value.Uint n) f = value-again (Value.Uint n) f refl
   slot-again (Value.Double x) f = value-again (Value.Double x) f (double-there (double_of (bits_of (Plain x))))
   slot-again (Value.Nan b) f = value-again (Value.Nan b) f (double-there (double_of b))
-  slot-again (Value.String s a n) f = value-again (Value.String s a n) f refl
-  slot-again (Value.Bytes s a n) f = value-again (Value.Bytes s a n) f refl
-  slot-again (Value.List d s a n) f = value-again (Value.List d s a n) f refl
-  slot-again (Value.Map d s a n) f = value-again (Value.Map d s a n) f refl
+  slot-again (Value.String sp) f = value-again (Value.String sp) f refl
+  slot-again (Value.Bytes sp) f = value-again (Value.Bytes sp) f refl
+  slot-again (Value.List d ro) f = value-again (Value.List d ro) f refl
+  slot-again (Value.Map d ro) f = value-again (Value.Map d ro) f refl
   slot-again Value.OptionalNone f = value-again Value.OptionalNone f refl
   slot-again (Value.OptionalOf d s a) f = value-again (Value.OptionalOf d s a) f refl
   slot-again Value.Absent f = sym (slot-absent (behind Value.Absent) i says_so)

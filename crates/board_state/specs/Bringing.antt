@@ -1,8 +1,7 @@
 -- Bringing in over a state: what the bindings that it stands for become is written back to it.
-use Rattle.std.specs.Prelude.{ℕ, List}
+use Rattle.std.specs.Prelude.{ℕ, List, Result, Ok, Err}
 use Rattle.bindings_sound.specs.declared.Bindings.{Bindings}
-use Rattle.bindings.specs.declared.admission.Answer.{Answer}
-use Rattle.bindings.specs.declared.admission.Answer.TheVariants.{Done, Refused}
+use Rattle.meaning.specs.declared.refusal.Refusal.{Refusal}
 use Rattle.bindings.specs.Bringing.{Outcome, outcome_of}
 use Rattle.board_state.specs.State.{bindings_in, state_put}
 
@@ -15,13 +14,13 @@ abbrev pub binding_room : (state cells text : List ℕ) → BindingRoom
 binding_room s c t = record { state = s; cells = c; text = t }
 
 -- a refusal leaves the state as it is
-abbrev pub state_after : Answer → Bindings → (state : List ℕ) → List ℕ
-state_after Done b state = state_put state b
-state_after (Refused number place) b state = state
+abbrev pub state_after : Result (Unit {0}) Refusal → Bindings → (state : List ℕ) → List ℕ
+state_after (Ok u) b state = state_put state b
+state_after (Err f) b state = state
 
-abbrev pub stowed : Outcome → (state : List ℕ) → Answer × BindingRoom
-stowed o state = (o.brought.answer, binding_room (state_after o.brought.answer o.brought.bindings state) o.words o.text)
+abbrev pub stowed : Outcome → (state : List ℕ) → Result (Unit {0}) Refusal × BindingRoom
+stowed o state = (o.answer, binding_room (state_after o.answer o.bindings state) o.words o.text)
 
 -- the answer, and the room afterwards
-unfoldable pub stows : BindingRoom → (name : ℕ) → (table literal : List ℕ) → Answer × BindingRoom
+unfoldable pub stows : BindingRoom → (name : ℕ) → (table literal : List ℕ) → Result (Unit {0}) Refusal × BindingRoom
 stows room name table literal = stowed (outcome_of room.cells room.text (bindings_in room.state) name table literal) room.state

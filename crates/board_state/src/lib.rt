@@ -61,17 +61,12 @@ fn scope_in(words: &[u64]) -> Scope
     ensures { result ≡ scope_in words.now }
 {
     let mut scope = Scope::empty();
-    let mut at = 0;
-    let mut left = NAMES;
-    while 0 < left {
-        if !says_absent(words, at) {
-            let slot = Slot {
-                value: slot_in(words, at),
+    for name in 0..NAMES {
+        if !says_absent(words, name) {
+            scope.slots[name] = Slot {
+                value: slot_in(words, name),
             };
-            scope.slots[at] = slot;
         }
-        at += 1;
-        left -= 1;
     }
     scope
 }
@@ -108,12 +103,8 @@ fn put_scope(words: &mut [u64], scope: Scope)
     requires { cells_at ≤ length words.old }
     ensures { words.new ≡ slot_words scope.slots ++ drop cells_at words.old }
 {
-    let mut at = 0;
-    while at < NAMES {
-        let slot = scope.slots[at];
-        let value = slot.value;
-        write_cell(words, at, value);
-        at += 1;
+    for name in 0..NAMES {
+        write_cell(words, name, scope.slots[name].value);
     }
 }
 

@@ -1,4 +1,2 @@
--- What the functions' proofs share: words laid over lent ones (`OverlaySteps`), a value's words (`ShapeLaws`), an answer's words (`AnswerSteps`).
+-- What the functions' proofs share: words laid over lent ones, a cell by itself (`OverlaySteps`).
 pub mod OverlaySteps
-pub mod ShapeLaws
-pub mod AnswerSteps

@@ -6,28 +6,33 @@ ghost use Rattle.board_words.specs.Shapes.{number_word, span_words, shape_of, pa
 
 use crate::overlay::{hand, words_of};
 use answer_values::kinds::kind_of;
-use answer_values::spans_and_counts::{Span, count_of, text_of};
-use rooms::value::Value;
-use rooms_cells::packing::text_number;
-use table_layout::kinds::DOUBLE;
+use answer_values::spans_and_counts::{count_of, text_of};
+use rooms::value::{Span, Value};
+use rooms_cells::packing::{payload_of, text_number};
 
 fn number_word(value: Value) -> u64
     ensures { result ≡ number_word value }
 {
-    let words = words_of(value);
-    // the kinds up to this one are Null, Bools and numbers
-    if DOUBLE < kind_of(value) {
-        return 0;
+    match value {
+        Value::Bool(_) => payload_of(value),
+        Value::Int(_) => payload_of(value),
+        Value::Uint(_) => payload_of(value),
+        Value::Double(_) => payload_of(value),
+        Value::Nan(_) => payload_of(value),
+        _ => 0,
     }
-    words[1]
 }
 
-fn span_words(span: Span) -> [u64; 3]
+fn span_words(span: Option<Span>) -> [u64; 3]
     ensures { result ≡ span_words span }
 {
     match span {
-        Span::At(space, first, length) => [text_number(space), first as u64, length as u64],
-        Span::NoText => [0, 0, 0],
+        Some(span) => [
+            text_number(span.space),
+            span.first as u64,
+            u64::from(span.length),
+        ],
+        None => [0, 0, 0],
     }
 }
 
@@ -39,7 +44,14 @@ pub fn put_shape(lent: &mut [u64], value: Value) -> u8
     let number = number_word(value);
     let span = span_words(text_of(value));
     let count = count_of(value);
-    let words = [kind as u64, number, span[0], span[1], span[2], count as u64];
+    let words = [
+        u64::from(kind),
+        number,
+        span[0],
+        span[1],
+        span[2],
+        u64::from(count),
+    ];
     hand(lent, &words, kind)
 }
 

@@ -13,8 +13,8 @@ abbrev pub sum_plain : ℕ → Value → Value → Plain → Used → Rooms → 
 sum_plain p v w Plain.Null u r = (no_overload p u, r)
 sum_plain p v w (Plain.Bool b) u r = (no_overload p u, r)
 sum_plain p v w (Plain.Number a) u r = (no_overload p u, r)
-sum_plain p v w (Plain.String s a n) u r = string_sum p s a n (plain_of w) u r
-sum_plain p v w (Plain.Bytes s a n) u r = bytes_sum p s a n (plain_of w) u r
+sum_plain p v w (Plain.String sp) u r = string_sum p sp.space sp.first sp.length (plain_of w) u r
+sum_plain p v w (Plain.Bytes sp) u r = bytes_sum p sp.space sp.first sp.length (plain_of w) u r
 sum_plain p v w Plain.OptionalNone u r = (no_overload p u, r)
 sum_plain p v w Plain.Other u r = sum_parts p v w (parts_of v) u r
 

@@ -1,6 +1,6 @@
 // Arithmetic on two numbers of one kind, by the rules of the crate numbers, and its answers as outcomes.
 ghost use Rattle.std.specs.Prelude.{◌≡◌};
-ghost use Rattle.machine.specs.Numbers.{int_out, uint_out, double_out, doubles_out};
+ghost use Rattle.machine.specs.Numbers.{answer_out, double_out, doubles_out};
 ghost use Rattle.eval_outcomes.specs.Seen.{arith_seen};
 ghost use Rattle.meaning.specs.Numbers.{int_arith, uint_arith};
 
@@ -8,25 +8,15 @@ use eval_outcomes::operators::Arith;
 use eval_outcomes::outcomes::no_overload;
 use machine::outcome::{Error, Outcome, Used};
 use numbers::double::Double;
-use numbers::int::IntAnswer;
-use numbers::uint::UintAnswer;
+use numbers::error::ArithmeticError;
 use rooms::value::Value;
 
-pub fn int_outcome(answer: IntAnswer, at: usize, used: Used) -> Outcome
-    ensures { result ≡ int_out at used answer }
+pub fn answer_outcome(answer: Result<Value, ArithmeticError>, at: usize, used: Used) -> Outcome
+    ensures { result ≡ answer_out at used answer }
 {
     match answer {
-        IntAnswer::Value(z) => Outcome::Value(Value::Int(z), used),
-        IntAnswer::Error(error) => Outcome::Error(Error::Arithmetic(error), at, used),
-    }
-}
-
-pub fn uint_outcome(answer: UintAnswer, at: usize, used: Used) -> Outcome
-    ensures { result ≡ uint_out at used answer }
-{
-    match answer {
-        UintAnswer::Value(n) => Outcome::Value(Value::Uint(n), used),
-        UintAnswer::Error(error) => Outcome::Error(Error::Arithmetic(error), at, used),
+        Ok(value) => Outcome::Value(value, used),
+        Err(error) => Outcome::Error(Error::Arithmetic(error), at, used),
     }
 }
 
@@ -39,7 +29,8 @@ pub fn double_outcome(answer: Double, used: Used) -> Outcome
     }
 }
 
-pub fn ints(operator: Arith, a: i64, b: i64) -> IntAnswer
+#[tactic(auto, unfolding(meaning::specs::Numbers::int_arith))]
+pub fn ints(operator: Arith, a: i64, b: i64) -> Result<i64, ArithmeticError>
     ensures { result ≡ int_arith (arith_seen operator) a b }
 {
     match operator {
@@ -51,7 +42,9 @@ pub fn ints(operator: Arith, a: i64, b: i64) -> IntAnswer
     }
 }
 
-pub fn uints(operator: Arith, a: u64, b: u64) -> UintAnswer
+// Apart from `ints`: the five operations of the two kinds have nothing in common but their names, and a trait would list them three times more.
+#[tactic(auto, unfolding(meaning::specs::Numbers::uint_arith))]
+pub fn uints(operator: Arith, a: u64, b: u64) -> Result<u64, ArithmeticError>
     ensures { result ≡ uint_arith (arith_seen operator) a b }
 {
     match operator {
@@ -67,10 +60,10 @@ pub fn doubles(operator: Arith, a: Double, b: Double, at: usize, used: Used) -> 
     ensures { result ≡ doubles_out at used (arith_seen operator) a b }
 {
     match operator {
-        Arith::Add => double_outcome(numbers::double::add(a, b), used),
-        Arith::Subtract => double_outcome(numbers::double::sub(a, b), used),
-        Arith::Divide => double_outcome(numbers::double::div(a, b), used),
-        Arith::Multiply => double_outcome(numbers::double::mul(a, b), used),
+        Arith::Add => double_outcome(a + b, used),
+        Arith::Subtract => double_outcome(a - b, used),
+        Arith::Divide => double_outcome(a / b, used),
+        Arith::Multiply => double_outcome(a * b, used),
         Arith::Remainder => no_overload(at, used),
     }
 }

@@ -4,10 +4,11 @@
 
 pub mod membership;
 
-ghost use Rattle.std.specs.Prelude.{◌≡◌, List, ℕ};
+ghost use Rattle.std.specs.Prelude.{◌≡◌};
 ghost use Rattle.std.specs.Bool.{beq};
 ghost use Rattle.meaning.specs.Comparison.{holds};
-ghost use Rattle.rooms.specs.Rooms.{rooms};
+ghost use Rattle.rooms.specs.Memory.{rooms_seen};
+ghost use Rattle.meaning.specs.Comparison.{holds};
 ghost use Rattle.machine.specs.Outcomes.{truth_out};
 ghost use Rattle.machine.specs.Comparison.{on_pairs, equal_out, ordered_out, compare_out};
 ghost use Rattle.eval_outcomes.specs.Seen.{comparison_seen};
@@ -15,10 +16,12 @@ ghost use Rattle.eval_outcomes.specs.Seen.{comparison_seen};
 use eval_outcomes::operators::Comparison;
 use eval_outcomes::outcomes::{no_overload, out_of_steps, truth_out, with_steps};
 use machine::outcome::{Error, Outcome, Used};
-use numbers::order::Order;
+use rooms::memory::View;
 use rooms::value::Value;
+use rooms_comparison::equality::equal;
 use rooms_comparison::ordering::Compared;
 use rooms_comparison::pairs::Pairs;
+use std::cmp::Ordering;
 
 // `same` is what two equal values give.
 fn from_pairs(pairs: Pairs, same: bool, used: Used) -> Outcome
@@ -32,90 +35,52 @@ fn from_pairs(pairs: Pairs, same: bool, used: Used) -> Outcome
 }
 
 pub fn equals(
-    literal: &[u8],
-    binding_cells: &[u64],
-    binding_text: &[u8],
-    cells: &[u64],
-    text: &[u8],
+    view: &View,
     limit: usize,
     same: bool,
     left: Value,
     right: Value,
     used: Used,
 ) -> Outcome
-    ensures { result ≡ equal_out limit same left right used (rooms literal.now binding_cells.now binding_text.now cells.now text.now) }
+    ensures { result ≡ equal_out limit same left right used (rooms_seen view.now) }
 {
-    let pairs = rooms_comparison::equality::equal(
-        literal,
-        binding_cells,
-        binding_text,
-        cells,
-        text,
-        limit,
-        left,
-        right,
-        used.steps,
-    );
-    from_pairs(pairs, same, used)
+    from_pairs(equal(view, limit, left, right, used.steps), same, used)
 }
 
-fn holds_less(operator: Comparison) -> bool
-    ensures { result ≡ holds (comparison_seen operator) Order.Less }
+// Whether the operator holds of two values in this order.
+#[tactic(auto, unfolding(meaning::specs::Comparison::holds))]
+fn holds(operator: Comparison, order: Ordering) -> bool
+    ensures { result ≡ holds (comparison_seen operator) order }
 {
     match operator {
-        Comparison::Less => true,
-        Comparison::LessEquals => true,
-        Comparison::Greater => false,
-        Comparison::GreaterEquals => false,
+        Comparison::Less => order.is_lt(),
+        Comparison::LessEquals => order.is_le(),
+        Comparison::Greater => order.is_gt(),
+        Comparison::GreaterEquals => order.is_ge(),
     }
 }
 
-fn holds_equal(operator: Comparison) -> bool
-    ensures { result ≡ holds (comparison_seen operator) Order.Equal }
-{
-    match operator {
-        Comparison::Less => false,
-        Comparison::LessEquals => true,
-        Comparison::Greater => false,
-        Comparison::GreaterEquals => true,
-    }
-}
-
-fn holds_greater(operator: Comparison) -> bool
-    ensures { result ≡ holds (comparison_seen operator) Order.Greater }
-{
-    match operator {
-        Comparison::Less => false,
-        Comparison::LessEquals => false,
-        Comparison::Greater => true,
-        Comparison::GreaterEquals => true,
-    }
-}
-
-fn ordered(operator: Comparison, order: Order, at: usize, used: Used) -> Outcome
+fn ordered(operator: Comparison, order: Option<Ordering>, at: usize, used: Used) -> Outcome
     ensures { result ≡ ordered_out (comparison_seen operator) at used order }
 {
     match order {
-        Order::Less => truth_out(holds_less(operator), used),
-        Order::Equal => truth_out(holds_equal(operator), used),
-        Order::Greater => truth_out(holds_greater(operator), used),
-        Order::Unordered => Outcome::Error(Error::Unordered, at, used),
+        Some(order) => truth_out(holds(operator, order), used),
+        None => Outcome::Error(Error::Unordered, at, used),
     }
 }
 
+#[tactic(auto, unfolding(rooms_comparison::specs::Seen::seen_in))]
 pub fn compare(
-    literal: &[u8],
-    binding_text: &[u8],
-    text: &[u8],
+    view: &View,
     operator: Comparison,
     left: Value,
     right: Value,
     at: usize,
     used: Used,
 ) -> Outcome
-    ensures { (b c : List ℕ) → result ≡ compare_out (comparison_seen operator) at left right used (rooms literal.now b binding_text.now c text.now) }
+    ensures { result ≡ compare_out (comparison_seen operator) at left right used (rooms_seen view.now) }
 {
-    match rooms_comparison::ordering::compare(literal, binding_text, text, left, right) {
+    match rooms_comparison::ordering::compare(view, left, right) {
         Compared::Is(order) => ordered(operator, order, at, used),
         Compared::Unlike => no_overload(at, used),
     }

@@ -1,128 +1,120 @@
 // The append path of a comprehension: the runs of cells that it has collected, and the list of them all.
-ghost use Rattle.std.specs.Prelude.{◌≡◌, List, ℕ, ◌<◌, ◌^◌, eqb, get_or, set};
-ghost use Rattle.rooms.specs.Rooms.{rooms};
-ghost use Rattle.machine.specs.Comprehension.{add_run, runs_copied, gathered};
+ghost use Rattle.std.specs.Prelude.{◌≡◌, ◌<◌, ◌^◌, eqb, get_or, set};
+ghost use Rattle.rooms.specs.Memory.{Changes};
+ghost use Rattle.machine.specs.Comprehension.{add_run, gathered, nothing_gathered};
 ghost use Rattle.eval_outcomes.specs.Gives.{Gives};
-ghost use Rattle.eval_comprehension.specs.AppendResult.{gathered_in};
+ghost use Rattle.eval_comprehension.specs.AppendResult.{no_run, gathered_in, copies_of};
 
 use eval_outcomes::outcomes::{out_of_cells, with_cells};
 use machine::outcome::{Outcome, Used};
-use rooms::value::{CellSpace, Value, deeper};
+use rooms::memory::Lent;
+use rooms::value::{CellSpace, Row, Value};
 use rooms_taking::copying::copy_cells;
-use rooms_taking::{Taken, take_cells};
+use rooms_taking::take_cells;
 
 // A turn that gathers takes at least two cells, and there are at most 4,096: so many runs are enough.
-pub const MOST_RUNS: usize = 2048;
+const MOST_RUNS: usize = 2048;
 
-// How many runs of cells, how many elements in them, and the nesting of a list of those.
+// Cells of the evaluation, one after the other: the first, and how many.
 #[derive(Clone, Copy)]
+pub struct Run {
+    pub first: u16,
+    pub length: u16,
+}
+
+const NO_RUN: Run = Run {
+    first: 0,
+    length: 0,
+};
+
+// The runs, how many there are, how many elements in them, and the nesting of a list of those.
+#[derive(Drop)]
 pub struct Collected {
+    pub list: [Run; MOST_RUNS],
     pub runs: usize,
     pub count: usize,
     pub nesting: u8,
 }
 
-// An element becomes `number`, where it is there.
-fn store_run(list: &mut [u16], index: usize, number: u16)
-    ensures { list.new ≡ set list.old index number }
+// An element becomes `run`, where it is there.
+fn store_run(list: &mut [Run], index: usize, run: Run)
+    ensures { list.new ≡ set list.old index run }
 {
     if index < list.len() {
-        list[index] = number;
+        list[index] = run;
     }
 }
 
-fn run_at(list: &[u16], index: usize) -> u16
-    ensures { result ≡ get_or list.now index 0 }
-{
-    if index < list.len() { list[index] } else { 0 }
-}
-
-// A turn without elements adds no run.
-pub fn add_run(
-    firsts: &mut [u16],
-    counts: &mut [u16],
-    collected: Collected,
-    first: u16,
-    length: u16,
-    nesting: u8,
-) -> Collected
-    requires { (collected.runs < 2 ^ 32) × (collected.count < 2 ^ 32) }
-    ensures { gathered_in firsts.new counts.new result ≡ add_run (eqb length 0) (gathered_in firsts.old counts.old collected) first length nesting }
-{
-    let deep = deeper(collected.nesting, nesting);
-    if length == 0 {
-        return Collected {
-            runs: collected.runs,
-            count: collected.count,
-            nesting: deep,
-        };
+impl Collected {
+    pub fn nothing() -> Collected
+        ensures { gathered_in result ≡ nothing_gathered }
+    {
+        Collected {
+            list: [NO_RUN; MOST_RUNS],
+            runs: 0,
+            count: 0,
+            nesting: 1,
+        }
     }
-    let runs = collected.runs;
-    store_run(firsts, runs, first);
-    store_run(counts, runs, length);
-    Collected {
-        runs: runs + 1,
-        count: collected.count + (length as usize),
-        nesting: deep,
+
+    fn run_at(&self, index: usize) -> Run
+        ensures { result ≡ get_or self.now.list index no_run }
+    {
+        if index < MOST_RUNS {
+            self.list[index]
+        } else {
+            NO_RUN
+        }
+    }
+
+    // A turn without elements adds no run.
+    pub fn add(&mut self, run: Run, nesting: u8)
+        requires { (self.old.runs < 2 ^ 32) × (self.old.count < 2 ^ 32) }
+        ensures { gathered_in self.new ≡ add_run (eqb run.length 0) (gathered_in self.old) run.first run.length nesting }
+    {
+        self.nesting = self.nesting.max(nesting);
+        if run.length == 0 {
+            return;
+        }
+        store_run(&mut self.list, self.runs, run);
+        self.runs += 1;
+        self.count += run.length as usize;
     }
 }
 
 // The runs, one after the other, are copied to the cells from `to` on.
-fn copy_runs(
-    binding_cells: &[u64],
-    cells: &mut [u64],
-    firsts: &[u16],
-    counts: &[u16],
-    runs: usize,
-    to: usize,
-)
-    requires { (runs < 2 ^ 32) × (to < 2 ^ 32) }
-    ensures { cells.new ≡ runs_copied binding_cells.now firsts.now counts.now runs 0 to cells.old }
+fn copy_runs(lent: &mut Lent, collected: &Collected, to: usize)
+    requires { (collected.now.runs < 2 ^ 32) × (to < 2 ^ 32) }
+    ensures { Changes lent.old lent.new (λ r. copies_of collected.now collected.now.runs 0 to r) }
 {
-    let mut run = 0;
-    let mut left = runs;
     let mut place = to;
-    while 0 < left {
-        let length = run_at(counts, run);
-        copy_cells(
-            binding_cells,
-            cells,
-            CellSpace::Evaluation,
-            run_at(firsts, run),
-            length,
-            place,
-        );
-        place += length as usize;
-        run += 1;
-        left -= 1;
+    for index in 0..collected.runs {
+        let run = collected.run_at(index);
+        let row = Row {
+            space: CellSpace::Evaluation,
+            first: run.first,
+            length: run.length,
+        };
+        copy_cells(lent, row, place);
+        place += run.length as usize;
     }
 }
 
 // The list of all that was collected. It nests as deep as the deepest items list, so its nesting needs no test.
-pub fn collected_list(
-    binding_cells: &[u64],
-    cells: &mut [u64],
-    firsts: &[u16],
-    counts: &[u16],
-    collected: Collected,
-    used: Used,
-) -> Outcome
-    requires { collected.runs < 2 ^ 32 }
-    ensures { (l t x : List ℕ) → Gives result l binding_cells.now t cells.new x (gathered (gathered_in firsts.now counts.now collected) used (rooms l binding_cells.now t cells.old x)) }
+pub fn collected_list(lent: &mut Lent, collected: &Collected, used: Used) -> Outcome
+    requires { collected.now.runs < 2 ^ 32 }
+    ensures { Gives result lent.old lent.new (λ r. gathered (gathered_in collected.now) used r) }
 {
     let base = used.cells;
     let count = collected.count;
-    let Taken::To(end) = take_cells(cells, base, count) else {
+    let Some(end) = take_cells(lent.cells, base, count) else {
         return out_of_cells(used);
     };
-    copy_runs(binding_cells, cells, firsts, counts, collected.runs, base);
-    Outcome::Value(
-        Value::List(
-            collected.nesting,
-            CellSpace::Evaluation,
-            base as u16,
-            count as u16,
-        ),
-        with_cells(used, end),
-    )
+    copy_runs(lent, collected, base);
+    let row = Row {
+        space: CellSpace::Evaluation,
+        first: base as u16,
+        length: count as u16,
+    };
+    Outcome::Value(Value::List(collected.nesting, row), with_cells(used, end))
 }

@@ -1,24 +1,28 @@
 // An entry of a Map record: the duplicate test, and its cells.
 ghost use Rattle.std.specs.Prelude.{◌<◌};
-ghost use Rattle.rooms.specs.Rooms.{rooms};
 ghost use Rattle.machine.specs.Views.{part_in};
-ghost use Rattle.eval_containers.specs.Filling.{EntryIn, inserted_of, entered_of};
+ghost use Rattle.eval_outcomes.specs.Gives.{Gives};
+ghost use Rattle.eval_containers.specs.Filling.{inserted_of, entered_of};
 
+use crate::Ready;
 use crate::elements::part_of;
-use crate::{Entry, Part, Ready};
 use eval_outcomes::outcomes::{out_of_steps, with_steps};
 use machine::outcome::{Error, Outcome, Used};
-use rooms::value::{CellSpace, Value, deeper, nesting_of};
-use rooms_cells::write_cell;
-use rooms_comparison::lookup::Found;
+use rooms::memory::Lent;
+use rooms::value::{CellSpace, Row, Value, nesting_of};
+use rooms_cells::store;
+use rooms_comparison::lookup::{Found, find};
+
+// The parts that are ready after an entry, and what is used with it.
+#[derive(Clone, Copy)]
+pub struct Entered {
+    pub ready: Ready,
+    pub used: Used,
+}
 
 // The duplicate test, then both cells.
 fn insert(
-    literal: &[u8],
-    binding_cells: &[u64],
-    binding_text: &[u8],
-    cells: &mut [u64],
-    text: &[u8],
+    lent: &mut Lent,
     limit: usize,
     first: u16,
     ready: Ready,
@@ -26,48 +30,37 @@ fn insert(
     v: Value,
     at: usize,
     used: Used,
-) -> Entry
+) -> Result<Entered, Outcome>
     requires { ready.count < 65536 }
-    ensures { EntryIn result cells.new (inserted_of limit at first ready key v used (rooms literal.now binding_cells.now binding_text.now cells.old text.now)) }
+    ensures { Gives result lent.old lent.new (λ r. inserted_of limit at first ready key v used r) }
 {
-    let count = ready.count;
-    match rooms_comparison::lookup::find(
-        literal,
-        binding_cells,
-        binding_text,
-        cells,
-        text,
-        limit,
-        key,
-        CellSpace::Evaluation,
+    let stored = Row {
+        space: CellSpace::Evaluation,
         first,
-        count as u16,
-        used.steps,
-    ) {
-        Found::At(_, more) => {
-            Entry::Ends(Outcome::Error(Error::DuplicateKey, at, with_steps(used, more)))
-        }
-        Found::Out(more) => Entry::Ends(out_of_steps(with_steps(used, more))),
+        length: ready.count as u16,
+    };
+    match find(&lent.view(), limit, key, stored, used.steps) {
+        Found::At(_, more) => Err(Outcome::Error(Error::DuplicateKey, at, with_steps(used, more))),
+        Found::Out(more) => Err(out_of_steps(with_steps(used, more))),
         Found::Missing(more) => {
-            let cell = (first as usize) + count * 2;
-            write_cell(cells, cell, key);
-            write_cell(cells, cell + 1, v);
+            let cell = (first as usize) + ready.count * 2;
+            store(lent, cell, key);
+            store(lent, cell + 1, v);
             let grown = Ready {
-                count: count + 1,
-                deep: deeper(ready.deep, nesting_of(v)),
+                count: ready.count + 1,
+                deep: ready.deep.max(nesting_of(v)),
             };
-            Entry::Made(grown, with_steps(used, more))
+            Ok(Entered {
+                ready: grown,
+                used: with_steps(used, more),
+            })
         }
     }
 }
 
 // A marked none makes no test.
 pub fn add_entry(
-    literal: &[u8],
-    binding_cells: &[u64],
-    binding_text: &[u8],
-    cells: &mut [u64],
-    text: &[u8],
+    lent: &mut Lent,
     limit: usize,
     first: u16,
     ready: Ready,
@@ -76,25 +69,12 @@ pub fn add_entry(
     v: Value,
     at: usize,
     used: Used,
-) -> Entry
+) -> Result<Entered, Outcome>
     requires { ready.count < 65536 }
-    ensures { EntryIn result cells.new (entered_of limit at first ready key (part_in (rooms literal.now binding_cells.now binding_text.now cells.old text.now) marked v) used (rooms literal.now binding_cells.now binding_text.now cells.old text.now)) }
+    ensures { Gives result lent.old lent.new (λ r. entered_of limit at first ready key (part_in r marked v) used r) }
 {
-    match part_of(binding_cells, cells, marked, v) {
-        Part::Is(part) => insert(
-            literal,
-            binding_cells,
-            binding_text,
-            cells,
-            text,
-            limit,
-            first,
-            ready,
-            key,
-            part,
-            at,
-            used,
-        ),
-        Part::Nothing => Entry::Made(ready, used),
-    }
+    let Some(part) = part_of(&lent.view(), marked, v) else {
+        return Ok(Entered { ready, used });
+    };
+    insert(lent, limit, first, ready, key, part, at, used)
 }

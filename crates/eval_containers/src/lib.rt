@@ -7,42 +7,36 @@ pub mod entries;
 
 ghost use Rattle.std.specs.Prelude.{◌≡◌, ◌<◌};
 ghost use Rattle.machine.specs.Outcomes.{whole};
-ghost use Rattle.eval_containers.specs.Filling.{BegunIn, begun_of, keyed_of};
+ghost use Rattle.rooms.specs.Spans.{row};
+ghost use Rattle.eval_outcomes.specs.Gives.{Gives};
+ghost use Rattle.eval_containers.specs.Filling.{begun_of, keyed_of, made_of};
 
 use eval_outcomes::outcomes::with_cells;
 use machine::outcome::{Error, Limit, Outcome, Used};
-use rooms::value::{CellSpace, DEEPEST, Value, is_key};
-use rooms_taking::Taken;
+use rooms::memory::Lent;
+use rooms::value::{CellSpace, DEEPEST, Row, Value, is_key};
 
-// The cells of a record that begins: the first of them, and how many parts it has.
+// The cells of a record that begins: the first of them, how many parts it has, and what is used with them.
 #[derive(Clone, Copy)]
-pub enum Begun {
-    At(u16, u16, Used),
-    Full,
+pub struct Begun {
+    pub first: u16,
+    pub parts: u16,
+    pub used: Used,
 }
 
-// So many cells for so many parts.
-pub fn begin(cells: &mut [u64], parts: usize, count: usize, used: Used) -> Begun
+// So many cells for so many parts; none if there is not enough room.
+pub fn begin(lent: &mut Lent, parts: usize, count: usize, used: Used) -> Option<Begun>
     requires { parts < 65536 }
-    ensures { BegunIn result cells.new (begun_of parts count used cells.old) }
+    ensures { Gives result lent.old lent.new (λ r. begun_of parts count used r) }
 {
     let first = used.cells;
-    let Taken::To(end) = rooms_taking::take_cells(cells, first, count) else {
-        return Begun::Full;
-    };
-    Begun::At(first as u16, parts as u16, with_cells(used, end))
+    let end = rooms_taking::take_cells(lent.cells, first, count)?;
+    Some(Begun {
+        first: first as u16,
+        parts: parts as u16,
+        used: with_cells(used, end),
+    })
 }
-
-// ---- marks
-
-// What an element or an entry's value adds.
-#[derive(Clone, Copy)]
-pub enum Part {
-    Is(Value),
-    Nothing,
-}
-
-// ---- elements
 
 // The parts that are ready: how many, and how deep the deepest nests.
 #[derive(Clone, Copy)]
@@ -51,71 +45,60 @@ pub struct Ready {
     pub deep: u8,
 }
 
-pub fn whole_list(first: u16, ready: Ready, used: Used) -> Outcome
-    requires { ready.count < 65536 }
-    ensures { result ≡ whole ready.deep (λ d. Value.List d CellSpace.Evaluation first ready.count) used }
+// ---- the whole
+
+// What the parts make.
+#[derive(Clone, Copy)]
+pub enum Container {
+    List,
+    Map,
+}
+
+fn made_of(container: Container, nesting: u8, row: Row) -> Value
+    ensures { result ≡ made_of container nesting row }
 {
-    if ready.deep < DEEPEST {
-        Outcome::Value(
-            Value::List(
-                ready.deep + 1,
-                CellSpace::Evaluation,
-                first,
-                ready.count as u16,
-            ),
-            used,
-        )
-    } else {
-        Outcome::Exhausted(Limit::Nesting, used)
+    match container {
+        Container::List => Value::List(nesting, row),
+        Container::Map => Value::Map(nesting, row),
     }
 }
 
-// ---- entries
-
-// A key that may be one, or what goes out in its place.
-#[derive(Clone, Copy)]
-pub enum Key {
-    Is(Value, Used),
-    Ends(Outcome),
+// All parts are ready.
+pub fn whole_of(container: Container, first: u16, ready: Ready, used: Used) -> Outcome
+    requires { ready.count < 65536 }
+    ensures { result ≡ whole ready.deep (λ d. made_of container d (row CellSpace.Evaluation first ready.count)) used }
+{
+    if DEEPEST <= ready.deep {
+        return Outcome::Exhausted(Limit::Nesting, used);
+    }
+    let length = ready.count as u16;
+    let row = Row {
+        space: CellSpace::Evaluation,
+        first,
+        length,
+    };
+    Outcome::Value(made_of(container, ready.deep + 1, row), used)
 }
 
-pub fn key_of(operand: Outcome, at: usize) -> Key
+// ---- keys
+
+// A value that may be a key, and what is used with it.
+#[derive(Clone, Copy)]
+pub struct Key {
+    pub value: Value,
+    pub used: Used,
+}
+
+// The key that an operand gave, or what goes out in its place.
+pub fn key_of(operand: Outcome, at: usize) -> Result<Key, Outcome>
     ensures { result ≡ keyed_of at operand }
 {
-    match operand {
-        Outcome::Value(v, used) => {
-            if is_key(v) {
-                Key::Is(v, used)
-            } else {
-                Key::Ends(Outcome::Error(Error::UnsupportedKeyType, at, used))
-            }
-        }
-        Outcome::Error(error, place, used) => Key::Ends(Outcome::Error(error, place, used)),
-        Outcome::Exhausted(limit, used) => Key::Ends(Outcome::Exhausted(limit, used)),
-    }
-}
-
-#[derive(Clone, Copy)]
-pub enum Entry {
-    Made(Ready, Used),
-    Ends(Outcome),
-}
-
-pub fn whole_map(first: u16, ready: Ready, used: Used) -> Outcome
-    requires { ready.count < 65536 }
-    ensures { result ≡ whole ready.deep (λ d. Value.Map d CellSpace.Evaluation first ready.count) used }
-{
-    if ready.deep < DEEPEST {
-        Outcome::Value(
-            Value::Map(
-                ready.deep + 1,
-                CellSpace::Evaluation,
-                first,
-                ready.count as u16,
-            ),
-            used,
-        )
+    let Outcome::Value(value, used) = operand else {
+        return Err(operand);
+    };
+    if is_key(value) {
+        Ok(Key { value, used })
     } else {
-        Outcome::Exhausted(Limit::Nesting, used)
+        Err(Outcome::Error(Error::UnsupportedKeyType, at, used))
     }
 }

@@ -2,7 +2,7 @@
 use Prim.Native.Nat.{ℕ}
 use mathlib.Core.Path.{◌≡◌, refl, sym, ap, ◌∙◌}
 use mathlib.Core.Bool.{Bool, true, false}
-use mathlib.Core.Option.{Option, none, some}
+use Rattle.std.specs.Prelude.{Option, None, Some}
 use Rattle.rooms.specs.Rooms.{Rooms}
 use Rattle.machine.specs.declared.outcome.Used.{Used}
 use Rattle.machine.specs.declared.outcome.Outcome.{Outcome}
@@ -15,9 +15,9 @@ use Rattle.eval_logic.specs.Conditions.{asked_bool, asked_of, on_asked}
 
 module _ (p : ℕ) (holds fails : Used → Rooms → Res) where
   by_bool : (u : Used) (r : Rooms) (b : Option Bool) → branch p u r b holds fails ≡ on_asked (asked_bool p u b) r holds fails
-  by_bool u r none = refl
-  by_bool u r (some true) = refl
-  by_bool u r (some false) = refl
+  by_bool u r None = refl
+  by_bool u r (Some true) = refl
+  by_bool u r (Some false) = refl
 
   by-outcome : (o : Outcome) (r : Rooms) → with_value o r (λ v u q. branch p u q (bool_in v) holds fails) ≡ on_asked (asked_of p o) r holds fails
   by-outcome (Outcome.Value v u) r = by_bool u r (bool_in v)

@@ -1,6 +1,5 @@
 -- What a condition or a guard of the record at p decides.
-use Rattle.std.specs.Prelude.{ℕ, Bool, true, false}
-use Rattle.std.proofs.Math.Option.{Option, none, some}
+use Rattle.std.specs.Prelude.{ℕ, Bool, true, false, Option, None, Some}
 use Rattle.rooms.specs.Rooms.{Rooms}
 use Rattle.machine.specs.declared.outcome.Used.{Used}
 use Rattle.machine.specs.declared.outcome.Error.TheVariants as Error
@@ -10,9 +9,9 @@ use Rattle.machine.specs.Views.{bool_in}
 use Rattle.eval_logic.specs.declared.conditions.Asked.{Asked}
 
 abbrev pub asked_bool : ℕ → Used → Option Bool → Asked
-asked_bool p u none = Asked.Ends (Outcome.Error Error.BoolWanted p u)
-asked_bool p u (some true) = Asked.Holds u
-asked_bool p u (some false) = Asked.Fails u
+asked_bool p u None = Asked.Ends (Outcome.Error Error.BoolWanted p u)
+asked_bool p u (Some true) = Asked.Holds u
+asked_bool p u (Some false) = Asked.Fails u
 
 abbrev pub asked_of : ℕ → Outcome → Asked
 asked_of p (Outcome.Value v u) = asked_bool p u (bool_in v)

@@ -1,3 +1,2 @@
--- What the contracts cite: what a condition decides (`Conditions`), and what follows the left operand of `||` and `&&` (`Deciding`).
+-- What the contracts cite: what a condition or a guard decides.
 pub mod Conditions
-pub mod Deciding

@@ -2,10 +2,11 @@
 ghost use Rattle.std.specs.Prelude.{◌≡◌};
 ghost use Rattle.eval_logic.specs.Conditions.{asked_of};
 
-use eval_outcomes::outcomes::{Truth, truth_of};
+use eval_outcomes::outcomes::truth_of;
 use machine::outcome::{Error, Outcome, Used};
 
 // What a condition or a guard says, or the outcome that is the answer instead.
+// Three ways: in a Result the Bool and the counts would stand side by side, and every caller would take them apart again.
 #[derive(Clone, Copy)]
 pub enum Asked {
     Holds(Used),
@@ -21,8 +22,8 @@ pub fn asks(condition: Outcome, at: usize) -> Asked
         return Asked::Ends(condition);
     };
     match truth_of(v) {
-        Truth::Yes => Asked::Holds(used),
-        Truth::No => Asked::Fails(used),
-        Truth::Other => Asked::Ends(Outcome::Error(Error::BoolWanted, at, used)),
+        Some(true) => Asked::Holds(used),
+        Some(false) => Asked::Fails(used),
+        None => Asked::Ends(Outcome::Error(Error::BoolWanted, at, used)),
     }
 }

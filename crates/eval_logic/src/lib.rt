@@ -7,14 +7,13 @@ pub mod conditions;
 pub mod deciding;
 pub mod negation;
 
-ghost use Rattle.std.specs.Prelude.{◌≡◌, Bool};
-ghost use Rattle.std.proofs.Math.Option.{some};
+ghost use Rattle.std.specs.Prelude.{◌≡◌};
 ghost use Rattle.machine.specs.Logic.{left_error, both_bools, undecided, logic_right};
-ghost use Rattle.eval_outcomes.specs.Seen.{bool_seen, fold_seen};
+ghost use Rattle.eval_outcomes.specs.Seen.{fold_seen};
 
 use crate::deciding::{absorbing, absorbs};
 use eval_outcomes::operators::Fold;
-use eval_outcomes::outcomes::{Truth, no_overload, truth_of, truth_out};
+use eval_outcomes::outcomes::{no_overload, truth_of, truth_out};
 use machine::outcome::{Error, Outcome, Used};
 use rooms::value::Value;
 
@@ -28,29 +27,18 @@ fn left_error(error: Error, place: usize, at: usize, used: Used) -> Outcome
     }
 }
 
-fn both_bools(left: Truth, right: Truth, at: usize, used: Used) -> Outcome
-    ensures { result ≡ both_bools at used (bool_seen left) (bool_seen right) }
+fn both_bools(left: Option<bool>, right: Option<bool>, at: usize, used: Used) -> Outcome
+    ensures { result ≡ both_bools at used left right }
 {
-    match left {
-        Truth::Yes => right_bool(right, at, used),
-        Truth::No => right_bool(right, at, used),
-        Truth::Other => no_overload(at, used),
-    }
-}
-
-fn right_bool(right: Truth, at: usize, used: Used) -> Outcome
-    ensures { (a : Bool) → result ≡ both_bools at used (some a) (bool_seen right) }
-{
-    match right {
-        Truth::Yes => truth_out(true, used),
-        Truth::No => truth_out(false, used),
-        Truth::Other => no_overload(at, used),
+    match (left, right) {
+        (Some(_), Some(truth)) => truth_out(truth, used),
+        _ => no_overload(at, used),
     }
 }
 
 // The right operand is a value that does not decide.
-fn undecided(left: Outcome, right: Truth, at: usize, used: Used) -> Outcome
-    ensures { result ≡ undecided at left used (bool_seen right) }
+fn undecided(left: Outcome, right: Option<bool>, at: usize, used: Used) -> Outcome
+    ensures { result ≡ undecided at left used right }
 {
     match left {
         Outcome::Value(v, _) => both_bools(truth_of(v), right, at, used),

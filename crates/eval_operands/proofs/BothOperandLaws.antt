@@ -1,4 +1,4 @@
--- The code's cuts in a record of fixed operands are the machine's. Assumes nothing.
+-- An error or exhaustion of the operand that is begun last is the answer, whatever the first one gave. Assumes nothing.
 use Prim.Native.Nat.{ℕ}
 use mathlib.Core.Path.{◌≡◌, refl}
 use Rattle.rooms.specs.Rooms.{Rooms}

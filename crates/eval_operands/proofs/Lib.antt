@@ -1,3 +1,2 @@
--- Laws for the functions' proofs: operators on two values (`TwoValueLaws`), and what both operands make (`BothOperandLaws`). Assume nothing.
-pub mod TwoValueLaws
+-- What the machine joins where the operand that is begun last has no value.
 pub mod BothOperandLaws

@@ -11,10 +11,10 @@ mod unary;
 
 ghost use Rattle.std.specs.Prelude.{◌≡◌, ◌+◌, ◌≤◌, length};
 ghost use Rattle.meaning.specs.Kinds.{select_kind};
-ghost use Rattle.rooms.specs.Rooms.{rooms};
 ghost use Rattle.table_check.specs.Records.{Sound, expr_of, head_of_kind};
 ghost use Rattle.machine.specs.Literals.{field_value};
-ghost use Rattle.eval_shapes.specs.Shapes.{shape_of, NextIn, next_of};
+ghost use Rattle.eval_outcomes.specs.Gives.{Gives};
+ghost use Rattle.eval_shapes.specs.Shapes.{shape_of, next_of};
 
 use crate::left_operand::after_left;
 use crate::select_and_calls::{call, select};
@@ -22,7 +22,8 @@ use crate::unary::unary;
 use eval_shapes::Shape;
 use eval_shapes::next::{Fixed, Next, after_condition, after_default};
 use machine::outcome::Outcome;
-use rooms::value::{TextSpace, Value};
+use rooms::memory::Lent;
+use rooms::value::{Span, TextSpace, Value};
 use table_layout::fields::field_at;
 use table_layout::outline::{end_at, first_operand};
 
@@ -31,23 +32,23 @@ fn field_value(table: &[u8], at: usize) -> Value
     ensures { result ≡ field_value table.now at }
 {
     let span = field_at(table, at);
-    Value::String(TextSpace::Literal, span.offset as u16, span.size as u16)
+    Value::String(Span {
+        space: TextSpace::Literal,
+        first: span.offset as u16,
+        length: span.size as u16,
+    })
 }
 
 pub fn after_first(
     table: &[u8],
-    literal: &[u8],
-    binding_cells: &[u64],
-    binding_text: &[u8],
-    cells: &mut [u64],
-    text: &[u8],
+    lent: &mut Lent,
     limit: usize,
     at: usize,
     fixed: Fixed,
     first: Outcome,
 ) -> Next
-    requires { Sound table.now literal.now at × (shape_of (expr_of table.now literal.now at) ≡ Shape.Operands fixed) }
-    ensures { NextIn result (rooms literal.now binding_cells.now binding_text.now cells.new text.now) (next_of table.now limit at fixed first (rooms literal.now binding_cells.now binding_text.now cells.old text.now)) }
+    requires { Sound table.now lent.old.literal.now at × (shape_of (expr_of table.now lent.old.literal.now at) ≡ Shape.Operands fixed) }
+    ensures { Gives result lent.old lent.new (λ r. next_of table.now limit at fixed first r) }
 {
     match fixed {
         Fixed::Unary(operator) => Next::Stop(unary(operator, first, at)),
@@ -60,27 +61,14 @@ pub fn after_first(
             after_condition(first, at, second, end_at(table, second))
         }
         Fixed::Select(test) => Next::Stop(select(
-            literal,
-            binding_cells,
-            binding_text,
-            cells,
-            text,
+            lent,
             limit,
             test,
             first,
             field_value(table, at),
             at,
         )),
-        Fixed::Call(function) => Next::Stop(call(
-            literal,
-            binding_cells,
-            binding_text,
-            cells,
-            text,
-            function,
-            first,
-            at,
-        )),
+        Fixed::Call(function) => Next::Stop(call(lent, function, first, at)),
         Fixed::OrValue => after_default(first, first_operand(table, at)),
     }
 }

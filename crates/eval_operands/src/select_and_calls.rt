@@ -1,5 +1,4 @@
-// Select and the functions of one argument, after their operand.
-ghost use Rattle.rooms.specs.Rooms.{rooms};
+// Select and the functions of one argument, after their operand. An error or exhaustion of the operand is the answer.
 ghost use Rattle.machine.specs.Outcomes.{with_value};
 ghost use Rattle.machine.specs.Selection.{select_field};
 ghost use Rattle.machine.specs.Calls.{called};
@@ -12,87 +11,47 @@ use eval_functions::size::size;
 use eval_outcomes::operators::Function;
 use eval_selection::select::select_field;
 use machine::outcome::{Outcome, Used};
+use rooms::memory::Lent;
 use rooms::value::Value;
 
 pub fn select(
-    literal: &[u8],
-    binding_cells: &[u64],
-    binding_text: &[u8],
-    cells: &mut [u64],
-    text: &[u8],
+    lent: &mut Lent,
     limit: usize,
     test: bool,
     operand: Outcome,
     field: Value,
     at: usize,
 ) -> Outcome
-    ensures { Gives result literal.now binding_cells.now binding_text.now cells.new text.now (with_value operand (rooms literal.now binding_cells.now binding_text.now cells.old text.now) (λ v u q. select_field limit at test field v u q)) }
+    ensures { Gives result lent.old lent.new (λ r. with_value operand r (λ v u q. select_field limit at test field v u q)) }
 {
-    match operand {
-        Outcome::Value(v, used) => select_field(
-            literal,
-            binding_cells,
-            binding_text,
-            cells,
-            text,
-            limit,
-            test,
-            v,
-            field,
-            at,
-            used,
-        ),
-        Outcome::Error(error, place, used) => Outcome::Error(error, place, used),
-        Outcome::Exhausted(which, used) => Outcome::Exhausted(which, used),
-    }
+    let Outcome::Value(container, used) = operand else {
+        return operand;
+    };
+    select_field(lent, limit, test, container, field, at, used)
 }
 
 fn call_value(
-    literal: &[u8],
-    binding_cells: &[u64],
-    binding_text: &[u8],
-    cells: &mut [u64],
-    text: &[u8],
+    lent: &mut Lent,
     function: Function,
-    v: Value,
+    argument: Value,
     at: usize,
     used: Used,
 ) -> Outcome
-    ensures { Gives result literal.now binding_cells.now binding_text.now cells.new text.now (called at (function_seen function) v used (rooms literal.now binding_cells.now binding_text.now cells.old text.now)) }
+    ensures { Gives result lent.old lent.new (λ r. called at (function_seen function) argument used r) }
 {
     match function {
-        Function::Size => size(literal, binding_text, text, v, at, used),
-        Function::Of => present(cells, v, used),
-        Function::HasValue => has_value(v, at, used),
-        Function::Value => value(binding_cells, cells, v, at, used),
+        Function::Size => size(&lent.view(), argument, at, used),
+        Function::Of => present(lent, argument, used),
+        Function::HasValue => has_value(argument, at, used),
+        Function::Value => value(&lent.view(), argument, at, used),
     }
 }
 
-pub fn call(
-    literal: &[u8],
-    binding_cells: &[u64],
-    binding_text: &[u8],
-    cells: &mut [u64],
-    text: &[u8],
-    function: Function,
-    argument: Outcome,
-    at: usize,
-) -> Outcome
-    ensures { Gives result literal.now binding_cells.now binding_text.now cells.new text.now (with_value argument (rooms literal.now binding_cells.now binding_text.now cells.old text.now) (λ v u q. called at (function_seen function) v u q)) }
+pub fn call(lent: &mut Lent, function: Function, argument: Outcome, at: usize) -> Outcome
+    ensures { Gives result lent.old lent.new (λ r. with_value argument r (λ v u q. called at (function_seen function) v u q)) }
 {
-    match argument {
-        Outcome::Value(v, used) => call_value(
-            literal,
-            binding_cells,
-            binding_text,
-            cells,
-            text,
-            function,
-            v,
-            at,
-            used,
-        ),
-        Outcome::Error(error, place, used) => Outcome::Error(error, place, used),
-        Outcome::Exhausted(which, used) => Outcome::Exhausted(which, used),
-    }
+    let Outcome::Value(value, used) = argument else {
+        return argument;
+    };
+    call_value(lent, function, value, at, used)
 }

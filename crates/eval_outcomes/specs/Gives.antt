@@ -1,8 +1,18 @@
--- A function's result and the memory at its exit, as one equation with what the machine does.
-use Rattle.std.specs.Prelude.{ℕ, ◌≡◌, List}
-use Rattle.rooms.specs.Rooms.{rooms}
-use Rattle.machine.specs.declared.outcome.Outcome.{Outcome}
-use Rattle.machine.specs.Outcomes.{Res}
+-- A function's result and the memory at its exit, as one equation with what the machine does on the memory at its entry.
+use Rattle.std.specs.Prelude.{◌≡◌}
+use Rattle.rooms.specs.declared.memory.Lent.{Lent}
+use Rattle.rooms.specs.Rooms.{Rooms}
+use Rattle.rooms.specs.Memory.{rooms_lent}
 
-abbrev pub Gives : Outcome → (literal binding_cells binding_text cells text : List ℕ) → Res → Type 0
-Gives o l b t c x m = ◌≡◌ {A = Res} (o, rooms l b t c x) m
+-- the references stay those that were lent; a result is mostly an outcome, then `A × Rooms` is `Res`
+pub record Gives {A : Type 0} (result : A) (old new : Lent) (does : Rooms → A × Rooms) : Type 0 where
+  pub same_literal : new.literal.now ≡ old.literal.now
+  pub same_cells : new.cells.ghost_name ≡ old.cells.ghost_name
+  pub same_text : new.text.ghost_name ≡ old.text.ghost_name
+  pub gives : ◌≡◌ {A = A × Rooms} (result, rooms_lent new) (does (rooms_lent old))
+
+-- the references alone
+pub record Stays (old new : Lent) : Type 0 where
+  pub same_literal : new.literal.now ≡ old.literal.now
+  pub same_cells : new.cells.ghost_name ≡ old.cells.ghost_name
+  pub same_text : new.text.ghost_name ≡ old.text.ghost_name

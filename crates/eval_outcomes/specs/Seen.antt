@@ -1,10 +1,7 @@
 -- The enums of the code as the types of the definition and the machine.
-use Rattle.std.specs.Prelude.{Bool, true, false}
-use Rattle.std.proofs.Math.Option.{Option, none, some}
 use Rattle.meaning.specs.Expr as Expr
 use Rattle.meaning.specs.Expr.{LogicalFold}
 use Rattle.machine.specs.Views as Views
-use Rattle.eval_outcomes.specs.declared.outcomes.Truth.{Truth}
 use Rattle.eval_outcomes.specs.declared.outcomes.Optional.{Optional}
 use Rattle.eval_outcomes.specs.declared.operators.Fold.{Fold}
 use Rattle.eval_outcomes.specs.declared.operators.Arith.{Arith}
@@ -14,11 +11,6 @@ use Rattle.eval_outcomes.specs.declared.operators.Binary.{Binary}
 use Rattle.eval_outcomes.specs.declared.operators.Function.{Function}
 
 -- ---- of values
-
-abbrev pub bool_seen : Truth → Option Bool
-bool_seen Truth.Yes = some true
-bool_seen Truth.No = some false
-bool_seen Truth.Other = none
 
 abbrev pub optional_seen : Optional → Views.Optional
 optional_seen Optional.Not = Views.not_optional

@@ -1,10 +1,9 @@
 // What many rules share: outcomes, counts, and what is seen of a value.
 ghost use Rattle.std.specs.Prelude.{◌≡◌, ◌+◌, ◌<◌, ◌^◌};
 ghost use Rattle.machine.specs.Outcomes.{stepped, with_steps, with_cells, with_bytes, truth_out, no_overload};
-ghost use Rattle.std.proofs.Math.Option.{some};
 ghost use Rattle.rooms.specs.Value.{plain_of};
 ghost use Rattle.machine.specs.Views.{bool_in, plain_none, optional_in};
-ghost use Rattle.eval_outcomes.specs.Seen.{bool_seen, optional_seen};
+ghost use Rattle.eval_outcomes.specs.Seen.{optional_seen};
 
 use machine::outcome::{Error, Limit, Outcome, Used};
 use rooms::value::{CellSpace, Parts, Plain, Value, parts_of, plain_of};
@@ -16,39 +15,26 @@ pub fn stepped(used: Used) -> Used
 {
     Used {
         steps: used.steps + 1,
-        cells: used.cells,
-        bytes: used.bytes,
+        ..used
     }
 }
 
 pub fn with_steps(used: Used, steps: usize) -> Used
     ensures { result ≡ with_steps used steps }
 {
-    Used {
-        steps,
-        cells: used.cells,
-        bytes: used.bytes,
-    }
+    Used { steps, ..used }
 }
 
 pub fn with_cells(used: Used, cells: usize) -> Used
     ensures { result ≡ with_cells used cells }
 {
-    Used {
-        steps: used.steps,
-        cells,
-        bytes: used.bytes,
-    }
+    Used { cells, ..used }
 }
 
 pub fn with_bytes(used: Used, bytes: usize) -> Used
     ensures { result ≡ with_bytes used bytes }
 {
-    Used {
-        steps: used.steps,
-        cells: used.cells,
-        bytes,
-    }
+    Used { bytes, ..used }
 }
 
 pub fn truth_out(b: bool, used: Used) -> Outcome
@@ -75,35 +61,17 @@ pub fn out_of_cells(used: Used) -> Outcome
     Outcome::Exhausted(Limit::Cells, used)
 }
 
-// What a value is as a Bool.
-#[derive(Clone, Copy)]
-pub enum Truth {
-    Yes,
-    No,
-    Other,
-}
-
-fn truth_bool(b: bool) -> Truth
-    ensures { bool_seen result ≡ some b }
-{
-    if b { Truth::Yes } else { Truth::No }
-}
-
-pub fn truth_of(v: Value) -> Truth
-    ensures { bool_seen result ≡ bool_in v }
+pub fn truth_of(v: Value) -> Option<bool>
+    ensures { result ≡ bool_in v }
 {
     match plain_of(v) {
-        Plain::Null => Truth::Other,
-        Plain::Bool(b) => truth_bool(b),
-        Plain::Number(_) => Truth::Other,
-        Plain::String(_, _, _) => Truth::Other,
-        Plain::Bytes(_, _, _) => Truth::Other,
-        Plain::OptionalNone => Truth::Other,
-        Plain::Other => Truth::Other,
+        Plain::Bool(truth) => Some(truth),
+        _ => None,
     }
 }
 
 // What a value is as an Optional.
+// Three ways: an Option of an Option would not say which None is no Optional, and which is an Optional without a part.
 #[derive(Clone, Copy)]
 pub enum Optional {
     Not,
@@ -116,13 +84,8 @@ fn none_of(v: Value) -> Optional
     ensures { optional_seen result ≡ plain_none (plain_of v) }
 {
     match plain_of(v) {
-        Plain::Null => Optional::Not,
-        Plain::Bool(_) => Optional::Not,
-        Plain::Number(_) => Optional::Not,
-        Plain::String(_, _, _) => Optional::Not,
-        Plain::Bytes(_, _, _) => Optional::Not,
         Plain::OptionalNone => Optional::None,
-        Plain::Other => Optional::Not,
+        _ => Optional::Not,
     }
 }
 
@@ -130,9 +93,8 @@ pub fn optional_of(v: Value) -> Optional
     ensures { optional_seen result ≡ optional_in v }
 {
     match parts_of(v) {
-        Parts::Elements(_, _, _) => Optional::Not,
-        Parts::Entries(_, _, _) => Optional::Not,
         Parts::Present(space, cell) => Optional::Present(space, cell),
         Parts::Nothing => none_of(v),
+        _ => Optional::Not,
     }
 }

@@ -3,38 +3,41 @@ use Prim.Native.Nat.{ℕ, zero, suc, ◌+◌, ◌-◌, ◌*◌, ◌<◌, ◌≤�
 use mathlib.Core.Path.{◌≡◌, refl, sym, ◌∙◌, ap}
 use mathlib.Core.Bool.{Bool, true, false, cond}
 use mathlib.Core.List.{List}
-use mathlib.Core.Option.{Option, none, some}
+use Rattle.std.specs.Prelude.{Option, None, Some, Result, Ok, Err, is_some, unwrap_or}
 use native.Mathlib.Numerals.{sub-one}
 use native.Mathlib.Omega.{arith}
 use lib.Dec.{eqb, ltb}
-use lib.ListN.{length, get_or, replicate, length-replicate}
+use lib.ListN.{get_or}
 use Rattle.rooms.specs.declared.value.Value.{Value}
 use Rattle.rooms.specs.declared.value.CellSpace.{CellSpace}
 use Rattle.rooms.specs.declared.scope.Scope.{Scope}
-use Rattle.rooms.specs.Rooms.{Rooms, rooms, words_of, cell_at}
-use Rattle.rooms.specs.Cells.{cell_in}
+use Rattle.rooms.specs.declared.memory.Lent.{Lent}
+use Rattle.rooms.specs.Rooms.{Rooms, cell_at}
+use Rattle.rooms.specs.Memory.{rooms_lent}
 use Rattle.rooms.specs.Scope.{stored, slot_of}
 use Rattle.table_check.specs.Records.{expr_of, Sound}
 use Rattle.machine.specs.declared.outcome.Used.{Used}
 use Rattle.machine.specs.declared.outcome.Limit.TheVariants as Limit
 use Rattle.machine.specs.declared.outcome.Outcome.{Outcome}
-use Rattle.machine.specs.Outcomes.{Res, Does, with_words, stepped}
+use Rattle.machine.specs.Outcomes.{Res, Does, stepped}
 use Rattle.machine.specs.Machine.{machine}
 use Rattle.eval_shapes.specs.Leaves.{slot_in, leaf_step}
 use Rattle.eval_shapes.proofs.LeafLaws.{literal-gives, leaf-machine}
-use Rattle.machine.specs.Comprehension.{Loop, AppendStep, Gathered, Gathering, asks, add_run, gathered, guarded, append_items, append_turns, nothing_gathered}
+use Rattle.machine.specs.declared.items.Items.{Items}
+use Rattle.machine.specs.Comprehension.{Loop, AppendStep, Gathered, asks, add_run, gathered, guarded, append_items, append_turns, nothing_gathered}
 use Rattle.eval_logic.specs.declared.conditions.Asked.{Asked}
 use Rattle.eval_logic.specs.Conditions.{asked_of, on_asked}
 use Rattle.eval_comprehension.specs.declared.append_result.Collected.{Collected}
-use Rattle.eval_comprehension.specs.declared.append_turn.Gather.{Gather}
+use Rattle.eval_outcomes.specs.Gives.{Gives, Stays}
+use Rattle.eval_comprehension.specs.declared.append_turn.Turn.{Turn}
 use Rattle.eval_comprehension.specs.AppendResult.{gathered_in}
-use Rattle.eval_comprehension.specs.AppendTurn.{gather_of, GatherIn, on_gather}
+use Rattle.eval_comprehension.specs.AppendTurn.{gather_of, on_gather}
 use Rattle.eval_comprehension.proofs.AppendTurnLaws.{items_as}
 use Rattle.eval_shapes.specs.declared.comprehensions.Places.{Places}
-use Rattle.eval_shapes.specs.Comprehensions.{loop_at, guard_at, append_at}
-use Rattle.eval_shallow.proofs.Stops.{Is, after-operand}
-use Rattle.eval_record.proofs.Operands.{Came}
-use Rattle.eval_record.proofs.Turns.{asked, item-is}
+use Rattle.eval_shapes.specs.declared.comprehensions.Appending.{Appending}
+use Rattle.eval_shapes.specs.Comprehensions.{loop_at, items_seen, append_at}
+use Rattle.eval_shallow.proofs.Stops.{Is, stays-here, stays-on, after-operand}
+use Rattle.eval_record.proofs.Turns.{asked}
 
 -- ---- a guard
 
@@ -42,38 +45,39 @@ use Rattle.eval_record.proofs.Turns.{asked, item-is}
 pub record Passed (p : ℕ) (guard : Option Does) (s : Scope) (u : Used) (r : Rooms) (a : Asked) (z : Rooms) : Type 0 where
   pub is : (holds fails : Used → Rooms → Res) → on_asked a z holds fails ≡ guarded p guard s u r holds fails
 
-unguarded : (p : ℕ) (s : Scope) (u : Used) (r : Rooms) {guard : Option Does} → guard ≡ none → {a : Asked} → a ≡ Asked.Holds u → Passed p guard s u r a r
+unguarded : (p : ℕ) (s : Scope) (u : Used) (r : Rooms) {guard : Option Does} → guard ≡ None → {a : Asked} → a ≡ Asked.Holds u → Passed p guard s u r a r
 unguarded p s u r e f = rw (e, f) (record { is = λ holds fails. refl })
 
-guard-asked : (p : ℕ) (s : Scope) (u : Used) (r : Rooms) {guard : Option Does} (does : Does) → guard ≡ some does → {o : Outcome} {z : Rooms} →
+guard-asked : (p : ℕ) (s : Scope) (u : Used) (r : Rooms) {guard : Option Does} (does : Does) → guard ≡ Some does → {o : Outcome} {z : Rooms} →
     Is o z (does s u r) → {a : Asked} → a ≡ asked_of p o → Passed p guard s u r a z
 guard-asked p s u r does e test f = rw e (record { is = λ holds fails. asked (does s u r) p test f holds fails })
 
--- that, and the evaluation's memory after it
-pub record Guarded (t x b y : List ℕ) (limit p : ℕ) (is_guarded : Bool) (guard : ℕ) (s : Scope) (u : Used) (cells₀ text₀ : List ℕ) (a : Asked) (cells text : List ℕ) : Type 0 where
-  pub passed : Passed p (guard_at is_guarded (machine t limit (expr_of t x guard))) s u (rooms x b y cells₀ text₀) a (rooms x b y cells text)
-  pub kept : length cells ≡ length cells₀
-  pub keptx : length text ≡ length text₀
+-- that, and what is lent after it
+pub record Guarded (t x : List ℕ) (limit p : ℕ) (guard : Option ℕ) (s : Scope) (u : Used) (old : Lent) (a : Asked) (now : Lent) : Type 0 where
+  pub passed : Passed p (items_seen t x limit guard) s u (rooms_lent old) a (rooms_lent now)
+  pub stays : Stays old now
 
-module _ (t x b y : List ℕ) (limit p : ℕ) (is_guarded : Bool) (guard : ℕ) (s : Scope) (u : Used) (cells₀ text₀ : List ℕ) {a : Asked} {cells text : List ℕ} where
-  pub came-unguarded : is_guarded ≡ false → cells ≡ cells₀ → text ≡ text₀ → a ≡ Asked.Holds u → Guarded t x b y limit p is_guarded guard s u cells₀ text₀ a cells text
-  came-unguarded e i j k =
-      record {
-        passed = rw (i, j) (unguarded p s u (rooms x b y cells₀ text₀) (ap (λ b. guard_at b (machine t limit (expr_of t x guard))) e) k);
-        kept = ap (λ (w : List ℕ). length w) i;
-        keptx = ap (λ (w : List ℕ). length w) j;
-      }
+module _ (t x : List ℕ) (limit p : ℕ) (guard : Option ℕ) (s : Scope) (u : Used) (old : Lent) {a : Asked} {now : Lent} where
+  pub came-unguarded : guard ≡ None → now ≡ old → a ≡ Asked.Holds u → Guarded t x limit p guard s u old a now
+  came-unguarded e i k =
+      rw i (record { passed = unguarded p s u (rooms_lent old) (ap (λ g. items_seen t x limit g) e) k; stays = stays-here })
 
-  pub came-guarded : is_guarded ≡ true → {o : Outcome} {cells₁ text₁ : List ℕ} → Came t x b y limit guard s u cells₀ text₀ o cells₁ text₁ → {a₁ : Asked} → a₁ ≡ asked_of p o →
-      cells ≡ cells₁ → text ≡ text₁ → a ≡ a₁ → Guarded t x b y limit p is_guarded guard s u cells₀ text₀ a cells text
-  came-guarded e test h i j k =
-      record {
-        passed =
-            rw (i, j) (guard-asked p s u (rooms x b y cells₀ text₀) (machine t limit (expr_of t x guard)) (ap (λ b. guard_at b (machine t limit (expr_of t x guard))) e) test.is
-            (k ∙ h));
-        kept = rw i test.kept;
-        keptx = rw j test.keptx;
-      }
+  pub came-guarded : {g : ℕ} → guard ≡ Some g → {o : Outcome} {next : Lent} → Stays old next → Is o (rooms_lent next) (machine t limit (expr_of t x g) s u (rooms_lent old)) →
+      {a₁ : Asked} → a₁ ≡ asked_of p o → now ≡ next → a ≡ a₁ → Guarded t x limit p guard s u old a now
+  came-guarded {g} e kept test h i k =
+      rw i (record {
+        passed = guard-asked p s u (rooms_lent old) (machine t limit (expr_of t x g)) (ap (λ g. items_seen t x limit g) e) test (k ∙ h);
+        stays = kept;
+      })
+
+-- whether there is a guard, and where
+pub there-is : (guard : Option ℕ) (list : ℕ) {b : Bool} → b ≡ is_some guard → b ≡ true → {g : ℕ} → g ≡ unwrap_or guard list → guard ≡ Some g
+there-is None list e f h = let z : ◌≡◌ {A = ℕ} 0 1 = cc in absurd (omega arith)
+there-is (Some q) list e f h = ap (λ q. Some q) (sym h)
+
+pub there-is-none : (guard : Option ℕ) {b : Bool} → b ≡ is_some guard → b ≡ false → guard ≡ None
+there-is-none None e f = refl
+there-is-none (Some q) e f = let z : ◌≡◌ {A = ℕ} 0 1 = cc in absurd (omega arith)
 
 -- ---- a condition that is a literal reads no slot
 
@@ -124,14 +128,14 @@ module _ (c : Loop) (path : AppendStep) (space : CellSpace) (stride : ℕ) where
       pub append-fails : {w : Used} → a ≡ Asked.Fails w → append_turns c path space stride 0 at g s w z ≡ all
       append-fails {w} is = no-append 0 at refl g s w z ∙ (ap (λ a. on_asked a z in_item (λ w q. gathered g w q)) (sym is) ∙ this-turn)
 
-      module _ {w : Used} (is : a ≡ Asked.Holds w) {v : Value} (cell : v ≡ cell_in (words_of z.binding_cells z.cells space) at)
+      module _ {w : Used} (is : a ≡ Asked.Holds w) {v : Value} (cell : v ≡ cell_at z space at)
           {b : Asked} {z' : Rooms} (passed : Passed c.place path.guard (stored s c.item v) w z b z') where
         abbrev scope : Scope
         scope = stored s c.item v
 
         this-guard : on_asked b z' (λ y q. append_items path g scope y q (λ k y' q'. onward scope k y' q')) (λ y q. onward scope g y q) ≡ all
         this-guard =
-            passed.is _ _ ∙ (ap (λ (v : Value). in_turn (stored s c.item v) w z) (item-is z space at cell) ∙ (ap (λ a. on_asked a z in_item (λ w q. gathered g w q)) (sym is) ∙ this-turn))
+            passed.is _ _ ∙ (ap (λ (v : Value). in_turn (stored s c.item v) w z) cell ∙ (ap (λ a. on_asked a z in_item (λ w q. gathered g w q)) (sym is) ∙ this-turn))
 
         pub guard-ends : {e : Outcome} → b ≡ Asked.Ends e → Is e z' all
         guard-ends way = ap (λ b. on_asked b z' (λ y q. append_items path g scope y q (λ k y' q'. onward scope k y' q')) (λ y q. onward scope g y q)) (sym way) ∙ this-guard
@@ -139,144 +143,81 @@ module _ (c : Loop) (path : AppendStep) (space : CellSpace) (stride : ℕ) where
         pub guard-fails : {y : Used} → b ≡ Asked.Fails y → onward scope g y z' ≡ all
         guard-fails way = ap (λ b. on_asked b z' (λ y q. append_items path g scope y q (λ k y' q'. onward scope k y' q')) (λ y q. onward scope g y q)) (sym way) ∙ this-guard
 
-        module _ {y : Used} (way : b ≡ Asked.Holds y) {o'' : Outcome} {z'' : Rooms} (items : Is o'' z'' (path.items scope y z'))
-            {k : Gather} {cells : List ℕ} (made : GatherIn k cells (gather_of z''.binding_cells z''.cells o'')) where
-          rest : Gathering
-          rest k y' q' = append_turns c path space stride (n - 1) (at + stride) k scope y' q'
-
-          this-list : on_gather k g (with_words z'' cells) (λ k y' q'. onward scope k y' q') ≡ all
+        module _ {y : Used} (way : b ≡ Asked.Holds y) {o'' : Outcome} {old : Lent} (items : Is o'' (rooms_lent old) (path.items scope y z'))
+            {k : Result Turn Outcome} {new : Lent} (made : Gives k old new (λ r. gather_of o'' r)) where
+          this-list : on_gather k g (rooms_lent new) (λ k y' q'. onward scope k y' q') ≡ all
           this-list =
-              sym (items_as g z''.literal z''.binding_cells z''.binding_text z''.cells z''.text (λ k y' q'. onward scope k y' q') o'' made) ∙
+              sym (items_as g (λ k y' q'. onward scope k y' q') o'' made) ∙
               (sym (after-operand (path.items scope y z') items _) ∙
               (ap (λ b. on_asked b z' (λ y q. append_items path g scope y q (λ k y' q'. onward scope k y' q')) (λ y q. onward scope g y q)) (sym way) ∙ this-guard))
 
-          pub list-ends : {e : Outcome} → k ≡ Gather.Ends e → Is e (with_words z'' cells) all
-          list-ends last = ap (λ k. on_gather k g (with_words z'' cells) (λ k y' q'. onward scope k y' q')) (sym last) ∙ this-list
+          pub list-ends : {e : Outcome} → k ≡ Err e → Is e (rooms_lent new) all
+          list-ends last = ap (λ k. on_gather k g (rooms_lent new) (λ k y' q'. onward scope k y' q')) (sym last) ∙ this-list
 
-          pub list-again : {first m d : ℕ} {y' : Used} → k ≡ Gather.Run first m d y' → {g' : Gathered} → g' ≡ add_run (eqb m 0) g first m d →
-              onward scope g' y' (with_words z'' cells) ≡ all
-          list-again {y' = y'} last run =
-              ap (λ g'. onward scope g' y' (with_words z'' cells)) run ∙ (ap (λ k. on_gather k g (with_words z'' cells) (λ k y' q'. onward scope k y' q')) (sym last) ∙ this-list)
-
--- ---- turns that go on, wherever the operands stand that this path does not use
-
-module _ (t x : List ℕ) (limit p : ℕ) (is_guarded : Bool) (guard list : ℕ) (space : CellSpace) (stride item condition : ℕ) where
-  abbrev path : AppendStep
-  path = append_at t x limit is_guarded guard list
-
-  -- the turns from here do what those from there do
-  abbrev pub Same : (n at : ℕ) → Gathered → Scope → Used → Rooms → (n at : ℕ) → Gathered → Scope → Used → Rooms → Type 0
-  Same n at g s u r m q k e w z =
-      (places : Places) → places.item ≡ item → places.condition ≡ condition →
-      append_turns (loop_at t x limit p places) (append_at t x limit is_guarded guard list) space stride n at g s u r ≡
-      append_turns (loop_at t x limit p places) (append_at t x limit is_guarded guard list) space stride m q k e w z
-
-  pub none-again : (n at : ℕ) → 0 < n → (g : Gathered) (s : Scope) (u : Used) (r : Rooms) {o : Outcome} {z : Rooms} →
-      Is o z (machine t limit (expr_of t x condition) s u r) → {a : Asked} → a ≡ asked_of p o → {w : Used} → a ≡ Asked.Fails w → Same 0 at g s w z n at g s u r
-  none-again n at h g s u r test asking is places e f =
-      let k = rw (sym f) at test in
-      append-fails (loop_at t x limit p places) path space stride n at h g s u r k asking is
-
-  module _ (n at : ℕ) (h : 0 < n) (g : Gathered) (s : Scope) (u : Used) (r : Rooms) {o : Outcome} {z : Rooms}
-      (test : Is o z (machine t limit (expr_of t x condition) s u r)) {a : Asked} (asking : a ≡ asked_of p o) {w : Used} (is : a ≡ Asked.Holds w)
-      {v : Value} (cell : v ≡ cell_in (words_of z.binding_cells z.cells space) at)
-      {b : Asked} {z' : Rooms} (passed : Passed p (guard_at is_guarded (machine t limit (expr_of t x guard))) (stored s item v) w z b z') where
-    pub fails-again : {y : Used} → b ≡ Asked.Fails y → Same (n - 1) (at + stride) g (stored s item v) y z' n at g s u r
-    fails-again way places e f =
-        let k = rw (sym f) at test in
-        let l = rw (sym e) at passed in
-        rw (sym e) (guard-fails (loop_at t x limit p places) path space stride n at h g s u r k asking is cell l way)
-
-    pub gathers-again : {y : Used} → b ≡ Asked.Holds y → {o'' : Outcome} {z'' : Rooms} → Is o'' z'' (machine t limit (expr_of t x list) (stored s item v) y z') →
-        {k : Gather} {cells : List ℕ} → GatherIn k cells (gather_of z''.binding_cells z''.cells o'') →
-        {first m d : ℕ} {y' : Used} → k ≡ Gather.Run first m d y' → {g' : Gathered} → g' ≡ add_run (eqb m 0) g first m d →
-        Same (n - 1) (at + stride) g' (stored s item v) y' (with_words z'' cells) n at g s u r
-    gathers-again way items made last run places e f =
-        let k = rw (sym f) at test in
-        let l = rw (sym e) at passed in
-        let i = rw (sym e) at items in
-        rw (sym e) (list-again (loop_at t x limit p places) path space stride n at h g s u r k asking is cell l way i made last run)
+          pub list-again : {turn : Turn} → k ≡ Ok turn → {g' : Gathered} → g' ≡ add_run (eqb turn.run.length 0) g turn.run.first turn.run.length turn.nesting →
+              onward scope g' turn.used (rooms_lent new) ≡ all
+          list-again {turn} last run =
+              ap (λ g'. onward scope g' turn.used (rooms_lent new)) run ∙ (ap (λ k. on_gather k g (rooms_lent new) (λ k y' q'. onward scope k y' q')) (sym last) ∙ this-list)
 
 -- a run adds at most itself and its elements
 run-adds : (b : Bool) (g : Gathered) (a n d : ℕ) → ((add_run b g a n d).runs ≤ g.runs + 1) × ((add_run b g a n d).count ≤ g.count + n)
 run-adds true g a n d = (omega arith, omega arith)
 run-adds false g a n d = (omega arith, omega arith)
 
-pub run-added : (f k f₁ k₁ : List ℕ) (g g₁ : Collected) (a n d : ℕ) → gathered_in f₁ k₁ g₁ ≡ add_run (eqb n 0) (gathered_in f k g) a n d → n < 65536 →
+pub run-added : (g g₁ : Collected) (a n d : ℕ) → gathered_in g₁ ≡ add_run (eqb n 0) (gathered_in g) a n d → n < 65536 →
     (g₁.runs ≤ g.runs + 1) × (g₁.count ≤ g.count + 65535)
-run-added f k f₁ k₁ g g₁ a n d e h =
-    let m = run-adds (eqb n 0) (gathered_in f k g) a n d in
+run-added g g₁ a n d e h =
+    let m = run-adds (eqb n 0) (gathered_in g) a n d in
     (omega (arith, m.0, ap (λ (x : Gathered). x.runs) e), omega (arith, h, m.1, ap (λ (x : Gathered). x.count) e))
 
--- the loop over them: `left` items are left, the next of them in cell `cell`; of the comprehension's operands it uses the condition alone
-pub record AppendsLoop (t x b y cells₀ text₀ : List ℕ) (limit p : ℕ) (is_guarded : Bool) (guard list : ℕ) (space : CellSpace) (first count stride item condition : ℕ)
-    (s₀ : Scope) (u₀ : Used) (cells text firsts counts : List ℕ) (s : Scope) (g : Collected) (u : Used) (cell left : ℕ) : Type 0 where
-  pub kept : length cells ≡ length cells₀
-  pub keptx : length text ≡ length text₀
-  pub long : length s.slots ≡ 128
-  pub firsts-long : length firsts ≡ 2048
-  pub counts-long : length counts ≡ 2048
+-- the loop over them: `left` items are left, the next of them in cell `cell`; `old` was lent before the loop
+pub record AppendsLoop (t x : List ℕ) (limit p : ℕ) (path : Appending) (items : Items) (places : Places) (s₀ : Scope) (u₀ : Used) (old now : Lent) (s : Scope) (g : Collected)
+    (u : Used) (cell left : ℕ) : Type 0 where
+  pub stays : Stays old now
   -- places and counts are numbers of the code
   pub below : cell + left * 65536 ≤ 65536 * 65536
   pub runs : g.runs + left ≤ 65535
   pub elements : g.count + left * 65535 ≤ 65535 * 65535
-  pub same : (places : Places) → places.item ≡ item → places.condition ≡ condition →
-      append_turns (loop_at t x limit p places) (append_at t x limit is_guarded guard list) space stride left cell (gathered_in firsts counts g) s u (rooms x b y cells text) ≡
-      append_turns (loop_at t x limit p places) (append_at t x limit is_guarded guard list) space stride count first nothing_gathered s₀ u₀ (rooms x b y cells₀ text₀)
+  pub same : append_turns (loop_at t x limit p places) (append_at t x limit path) items.space items.stride left cell (gathered_in g) s u (rooms_lent now) ≡
+      append_turns (loop_at t x limit p places) (append_at t x limit path) items.space items.stride items.count items.first nothing_gathered s₀ u₀ (rooms_lent old)
 
-module _ (t x b y cells₀ text₀ : List ℕ) (limit p : ℕ) (is_guarded : Bool) (guard list : ℕ) (space : CellSpace) (first count stride item condition : ℕ) (s₀ : Scope) (u₀ : Used) where
-  pub appends-begin : length s₀.slots ≡ 128 → first < 65536 → count < 65536 →
-      AppendsLoop t x b y cells₀ text₀ limit p is_guarded guard list space first count stride item condition s₀ u₀ cells₀ text₀ (replicate 2048 0) (replicate 2048 0) s₀
-      (record { runs = 0; count = 0; nesting = 1 }) u₀ first count
-  appends-begin e f g =
+module _ (t x : List ℕ) (limit p : ℕ) (path : Appending) (items : Items) (places : Places) (s₀ : Scope) (u₀ : Used) (old : Lent) where
+  pub appends-begin : items.first < 65536 → items.count < 65536 → (g : Collected) → gathered_in g ≡ nothing_gathered →
+      AppendsLoop t x limit p path items places s₀ u₀ old old s₀ g u₀ items.first items.count
+  appends-begin f h g k =
       record {
-        kept = refl;
-        keptx = refl;
-        long = e;
-        firsts-long = length-replicate {A = ℕ} 2048 0;
-        counts-long = length-replicate {A = ℕ} 2048 0;
-        below = omega (arith, f, g);
-        runs = omega (arith, g);
-        elements = omega (arith, g);
-        same = λ places i j. refl;
+        stays = stays-here;
+        below = omega (arith, f, h);
+        runs = omega (arith, h, ap (λ (y : Gathered). y.runs) k);
+        elements = omega (arith, h, ap (λ (y : Gathered). y.count) k);
+        same = ap (λ y. append_turns (loop_at t x limit p places) (append_at t x limit path) items.space items.stride items.count items.first y s₀ u₀ (rooms_lent old)) k;
       }
 
-  pub appends-again : {cells text firsts counts : List ℕ} {s : Scope} {g : Collected} {u : Used} {cell left : ℕ} →
-      AppendsLoop t x b y cells₀ text₀ limit p is_guarded guard list space first count stride item condition s₀ u₀ cells text firsts counts s g u cell left →
-      0 < left → stride < 65536 → {cells₁ text₁ firsts₁ counts₁ : List ℕ} {s₁ : Scope} {g₁ : Collected} {u₁ : Used} →
-      length cells₁ ≡ length cells → length text₁ ≡ length text → length s₁.slots ≡ length s.slots → length firsts₁ ≡ length firsts → length counts₁ ≡ length counts →
-      (g₁.runs ≤ g.runs + 1) × (g₁.count ≤ g.count + 65535) →
-      Same t x limit p is_guarded guard list space stride item condition (left - 1) (cell + stride) (gathered_in firsts₁ counts₁ g₁) s₁ u₁ (rooms x b y cells₁ text₁)
-      left cell (gathered_in firsts counts g) s u (rooms x b y cells text) →
-      AppendsLoop t x b y cells₀ text₀ limit p is_guarded guard list space first count stride item condition s₀ u₀ cells₁ text₁ firsts₁ counts₁ s₁ g₁ u₁ (cell + stride) (left - 1)
-  appends-again v h w i j n k l m e =
-      record {
-        kept = i ∙ v.kept;
-        keptx = j ∙ v.keptx;
-        long = n ∙ v.long;
-        firsts-long = k ∙ v.firsts-long;
-        counts-long = l ∙ v.counts-long;
-        below = omega (arith, v.below, h, w);
-        runs = omega (arith, v.runs, h, m.0);
-        elements = omega (arith, v.elements, h, m.1);
-        same = λ places c d. e places c d ∙ v.same places c d;
-      }
+  module _ {now : Lent} {s : Scope} {g : Collected} {u : Used} {cell left : ℕ} (v : AppendsLoop t x limit p path items places s₀ u₀ old now s g u cell left)
+      {next : Lent} (stays : Stays now next) {u₁ : Used} where
+    -- after an item
+    pub appends-again : 0 < left → items.stride < 65536 → {s₁ : Scope} → (g₁ : Collected) → (g₁.runs ≤ g.runs + 1) × (g₁.count ≤ g.count + 65535) →
+        append_turns (loop_at t x limit p places) (append_at t x limit path) items.space items.stride (left - 1) (cell + items.stride) (gathered_in g₁) s₁ u₁ (rooms_lent next) ≡
+        append_turns (loop_at t x limit p places) (append_at t x limit path) items.space items.stride left cell (gathered_in g) s u (rooms_lent now) →
+        AppendsLoop t x limit p path items places s₀ u₀ old next s₁ g₁ u₁ (cell + items.stride) (left - 1)
+    appends-again h w g₁ m e =
+        record {
+          stays = stays-on v.stays stays;
+          below = omega (arith, v.below, h, w);
+          runs = omega (arith, v.runs, h, m.0);
+          elements = omega (arith, v.elements, h, m.1);
+          same = e ∙ v.same;
+        }
 
-  -- after a condition that fails
-  pub appends-over : {cells text firsts counts : List ℕ} {s : Scope} {g : Collected} {u : Used} {cell left : ℕ} →
-      AppendsLoop t x b y cells₀ text₀ limit p is_guarded guard list space first count stride item condition s₀ u₀ cells text firsts counts s g u cell left → {u₁ : Used} →
-      Same t x limit p is_guarded guard list space stride item condition 0 cell (gathered_in firsts counts g) s u₁ (rooms x b y cells text)
-      left cell (gathered_in firsts counts g) s u (rooms x b y cells text) →
-      AppendsLoop t x b y cells₀ text₀ limit p is_guarded guard list space first count stride item condition s₀ u₀ cells text firsts counts s g u₁ cell 0
-  appends-over v e =
-      record {
-        kept = v.kept;
-        keptx = v.keptx;
-        long = v.long;
-        firsts-long = v.firsts-long;
-        counts-long = v.counts-long;
-        below = omega (arith, v.below);
-        runs = omega (arith, v.runs);
-        elements = omega (arith, v.elements);
-        same = λ places c d. e places c d ∙ v.same places c d;
-      }
+    -- after a condition that fails
+    pub appends-over : append_turns (loop_at t x limit p places) (append_at t x limit path) items.space items.stride 0 cell (gathered_in g) s u₁ (rooms_lent next) ≡
+        append_turns (loop_at t x limit p places) (append_at t x limit path) items.space items.stride left cell (gathered_in g) s u (rooms_lent now) →
+        AppendsLoop t x limit p path items places s₀ u₀ old next s g u₁ cell 0
+    appends-over e =
+        record {
+          stays = stays-on v.stays stays;
+          below = omega (arith, v.below);
+          runs = omega (arith, v.runs);
+          elements = omega (arith, v.elements);
+          same = e ∙ v.same;
+        }

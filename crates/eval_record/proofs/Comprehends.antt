@@ -1,16 +1,15 @@
 -- A comprehension up to its loop: init, range, what it goes over and which loop is run, over what the calls for them ensure. Assumes nothing.
 use Prim.Native.Nat.{ℕ, ◌+◌, ◌<◌}
-use mathlib.Core.Path.{◌≡◌, refl, sym, ◌∙◌, ap, subst}
+use mathlib.Core.Path.{◌≡◌, refl, sym, ◌∙◌, ap}
 use mathlib.Core.Bool.{Bool, true, false, cond, ◌&&◌}
 use mathlib.Core.List.{List}
-use mathlib.Core.Option.{Option, none, some}
+use Rattle.std.specs.Prelude.{Option, None, Some}
 use native.Mathlib.Omega.{arith}
 use lib.ListN.{get_or}
 use borrow.Author.Tests.{ltb-true}
 use Rattle.meaning.specs.Look.{named}
 use Rattle.meaning.specs.Meaning.{look}
 use Rattle.rooms.specs.declared.value.Value.{Value}
-use Rattle.rooms.specs.declared.value.CellSpace.{CellSpace}
 use Rattle.rooms.specs.declared.scope.Scope.{Scope}
 use Rattle.rooms.specs.Value.{parts_of}
 use Rattle.rooms.specs.Rooms.{Rooms}
@@ -22,24 +21,23 @@ use Rattle.machine.specs.declared.outcome.Used.{Used}
 use Rattle.machine.specs.declared.outcome.Error.TheVariants as Error
 use Rattle.machine.specs.declared.outcome.Outcome.{Outcome}
 use Rattle.machine.specs.Outcomes.{Res}
-use Rattle.machine.specs.Comprehension.{Items, AppendStep, items_parts, on_items, empty_parts, turns, append_turns, nothing_gathered, loop_from}
+use Rattle.machine.specs.declared.items.Items.{Items}
+use Rattle.machine.specs.Comprehension.{AppendStep, items_parts, on_items, empty_parts, turns, append_turns, nothing_gathered, loop_from}
 use Rattle.machine.specs.Machine.{body, machine, append_step}
-use Rattle.eval_comprehension.specs.declared.ranges.Range.{Range}
-use Rattle.eval_comprehension.specs.Ranges.{range_seen}
-use Rattle.eval_shapes.specs.declared.comprehensions.Path.{Path}
+use Rattle.eval_shapes.specs.declared.comprehensions.Appending.{Appending}
 use Rattle.eval_shapes.specs.declared.comprehensions.Places.{Places}
-use Rattle.eval_shapes.specs.Comprehensions.{places_at, loop_at, path_of, path_seen, append_at, PathIn}
+use Rattle.eval_shapes.specs.Comprehensions.{places_at, loop_at, path_of, path_seen, append_at}
 use Rattle.eval_shapes.proofs.SeenOfRecords.{literal-seen}
 use Rattle.eval_shapes.proofs.ComprehensionLaws.{ComprehensionAt, open_path, turns-taken, appends-taken}
 use Rattle.eval_shallow.proofs.Stops.{Is, Stops, stops-there, goes_on}
 
 -- ---- the append path is only there with a literal for a condition
 
-cond-some : {A : Type 0} (b : Bool) (m : Option A) {a : A} → cond b m none ≡ some a → (b ≡ true) × (m ≡ some a)
+cond-some : {A : Type 0} (b : Bool) (m : Option A) {a : A} → cond b m None ≡ Some a → (b ≡ true) × (m ≡ Some a)
 cond-some true m e = (refl, e)
 cond-some false m e = let z : ◌≡◌ {A = ℕ} 0 1 = cc in absurd (omega arith)
 
-literal-condition : (t x : List ℕ) (limit : ℕ) (c : Places) (start : Value) → Sound t x c.condition → {path : AppendStep} → path_of t x limit c start ≡ some path →
+literal-condition : (t x : List ℕ) (limit : ℕ) (c : Places) (start : Value) → Sound t x c.condition → {path : AppendStep} → path_of t x limit c start ≡ Some path →
     get_or t c.condition 0 < 7
 literal-condition t x limit c start s e =
     let f = cond-some (empty_parts (parts_of start)) (open_path t x limit c) e in
@@ -82,53 +80,37 @@ module _ (t x : List ℕ) (limit p : ℕ) (at : ComprehensionAt t x p) {over sec
     pub range-stops : Stops o' → Is o' z' whole
     range-stops h = stops-there (range w z) (range-is w z two) h _ ∙ (goes_on init (init-is one) begun _ ∙ sym (at.does limit s u r))
 
-    module _ {v : Value} {y : Used} (value : o' ≡ Outcome.Value v y) (k : Range) (seen : range_seen k ≡ items_parts (parts_of v)) where
+    module _ {v : Value} {y : Used} (value : o' ≡ Outcome.Value v y) {k : Option Items} (seen : k ≡ items_parts (parts_of v)) where
       abbrev from : Items → Res
       from items = loop_from (loop_at t x limit p (places_at t p)) (open_path t x limit (places_at t p)) start items s y z'
 
-      goes : on_items p y z' (range_seen k) (λ items. from items) ≡ whole
+      goes : on_items p y z' k (λ items. from items) ≡ whole
       goes =
           ap (λ i. on_items p y z' i (λ items. from items)) seen ∙ (goes_on (range w z) (range-is w z two) value _ ∙ (goes_on init (init-is one) begun _ ∙ sym (at.does limit s u r)))
 
-      pub no-range : k ≡ Range.Not → Is (Outcome.Error Error.IterableWanted p y) z' whole
-      no-range e = ap (λ k. on_items p y z' (range_seen k) (λ items. from items)) (sym e) ∙ goes
+      pub no-range : k ≡ None → Is (Outcome.Error Error.IterableWanted p y) z' whole
+      no-range e = ap (λ k. on_items p y z' k (λ items. from items)) (sym e) ∙ goes
 
-      module _ {space : CellSpace} {first count each : ℕ} (is : k ≡ Range.Over space first count each) {places : Places} (e : places ≡ places_at t p)
-          (path : Path) (path-is : (limit : ℕ) → path_seen t x limit path ≡ path_of t x limit places start) where
-        abbrev items : Items
-        items = record { space = space; first = first; count = count; stride = each }
-
+      module _ {items : Items} (is : k ≡ Some items) {places : Places} (e : places ≡ places_at t p)
+          (path : Option Appending) (path-is : (limit : ℕ) → path_seen t x limit path ≡ path_of t x limit places start) where
         loops : loop_from (loop_at t x limit p places) (open_path t x limit places) start items s y z' ≡ whole
         loops =
             ap (λ (c : Places). loop_from (loop_at t x limit p c) (open_path t x limit c) start items s y z') e ∙
-            (ap (λ k. on_items p y z' (range_seen k) (λ items. from items)) (sym is) ∙ goes)
+            (ap (λ k. on_items p y z' k (λ items. from items)) (sym is) ∙ goes)
 
-        path-at : {f : Path} → path ≡ f → path_of t x limit places start ≡ path_seen t x limit f
+        path-at : {f : Option Appending} → path ≡ f → path_of t x limit places start ≡ path_seen t x limit f
         path-at f = sym (path-is limit) ∙ ap (λ f. path_seen t x limit f) f
 
-        pub turns-are : path ≡ Path.No → {o'' : Outcome} {z'' : Rooms} →
-            Is o'' z'' (turns (loop_at t x limit p places) space each count first none (stored s places.accumulator start) y z') → Is o'' z'' whole
+        pub turns-are : path ≡ None → {o'' : Outcome} {z'' : Rooms} →
+            Is o'' z'' (turns (loop_at t x limit p places) items.space items.stride items.count items.first None (stored s places.accumulator start) y z') → Is o'' z'' whole
         turns-are f g = g ∙ (sym (turns-taken t x limit places (loop_at t x limit p places) start items s y z' (path-at f)) ∙ loops)
 
-        pub plain-are : {list : ℕ} → path ≡ Path.Plain list → {o'' : Outcome} {z'' : Rooms} →
-            Is o'' z'' (append_turns (loop_at t x limit p places) (append_at t x limit false list list) space each count first nothing_gathered s y z') → Is o'' z'' whole
-        plain-are {list} f g =
-            g ∙ (sym (appends-taken t x limit places (loop_at t x limit p places) start items s y z' (append_at t x limit false list list) (path-at f)) ∙ loops)
-
-        pub guarded-are : {guard list : ℕ} → path ≡ Path.Guarded guard list → {o'' : Outcome} {z'' : Rooms} →
-            Is o'' z'' (append_turns (loop_at t x limit p places) (append_at t x limit true guard list) space each count first nothing_gathered s y z') → Is o'' z'' whole
-        guarded-are {guard} {list} f g =
-            g ∙ (sym (appends-taken t x limit places (loop_at t x limit p places) start items s y z' (append_at t x limit true guard list) (path-at f)) ∙ loops)
+        pub appends-are : {f : Appending} → path ≡ Some f → {o'' : Outcome} {z'' : Rooms} →
+            Is o'' z'' (append_turns (loop_at t x limit p places) (append_at t x limit f) items.space items.stride items.count items.first nothing_gathered s y z') → Is o'' z'' whole
+        appends-are {f} h g =
+            g ∙ (sym (appends-taken t x limit places (loop_at t x limit p places) start items s y z' (append_at t x limit f) (path-at h)) ∙ loops)
 
 -- ---- what the loops ask
-
--- of the append path that is run in the record at p: of its condition, its guard, which may be its list, and its list
-pub record Run (t x : List ℕ) (p condition guard list : ℕ) : Type 0 where
-  pub literal : get_or t condition 0 < 7
-  pub guard-sound : Sound t x guard
-  pub list-sound : Sound t x list
-  pub guard-smaller : word_at t (guard + 1) < word_at t (p + 1)
-  pub list-smaller : word_at t (list + 1) < word_at t (p + 1)
 
 module _ (t x : List ℕ) (p : ℕ) (at : ComprehensionAt t x p) {places : Places} (e : places ≡ places_at t p) where
   pub condition-sound : Sound t x places.condition
@@ -149,25 +131,7 @@ module _ (t x : List ℕ) (p : ℕ) (at : ComprehensionAt t x p) {places : Place
   pub operands-smaller : word_at t (places.condition + 1) + word_at t (places.step + 1) + word_at t (places.result + 1) + 1 < word_at t (p + 1)
   operands-smaller = rw e (omega (arith, at.extents))
 
-  module _ (start : Value) (path : Path) (path-is : (limit : ℕ) → path_seen t x limit path ≡ path_of t x limit places start) (inside : PathIn t x places.step path) where
-    pub plain-run : {list : ℕ} → path ≡ Path.Plain list → Run t x p places.condition list list
-    plain-run f =
-        let i = subst (λ f. PathIn t x places.step f) f inside in
-        record {
-          literal = literal-condition t x 0 places start condition-sound (sym (path-is 0) ∙ ap (λ f. path_seen t x 0 f) f);
-          guard-sound = i.0;
-          list-sound = i.0;
-          guard-smaller = omega (arith, i.1, operands-smaller);
-          list-smaller = omega (arith, i.1, operands-smaller);
-        }
-
-    pub guarded-run : {guard list : ℕ} → path ≡ Path.Guarded guard list → Run t x p places.condition guard list
-    guarded-run f =
-        let i = subst (λ f. PathIn t x places.step f) f inside in
-        record {
-          literal = literal-condition t x 0 places start condition-sound (sym (path-is 0) ∙ ap (λ f. path_seen t x 0 f) f);
-          guard-sound = i.0;
-          list-sound = i.1;
-          guard-smaller = omega (arith, i.2, operands-smaller);
-          list-smaller = omega (arith, i.2, operands-smaller);
-        }
+  -- on the append path the condition is a literal
+  pub literal-asked : (start : Value) (path : Option Appending) → ((limit : ℕ) → path_seen t x limit path ≡ path_of t x limit places start) →
+      {f : Appending} → path ≡ Some f → get_or t places.condition 0 < 7
+  literal-asked start path path-is f = literal-condition t x 0 places start condition-sound (sym (path-is 0) ∙ ap (λ f. path_seen t x 0 f) f)

@@ -5,7 +5,10 @@ use mathlib.Core.List.{List}
 use lib.ListN.{length, get_or}
 use Rattle.rooms.specs.declared.value.Value.TheVariants as Value
 use Rattle.rooms.specs.declared.scope.Scope.{Scope}
+use Rattle.std.specs.Prelude.{Option, None, Some}
+use Rattle.rooms.specs.declared.memory.Lent.{Lent}
 use Rattle.rooms.specs.Rooms.{Rooms}
+use Rattle.rooms.specs.Memory.{rooms_lent}
 use Rattle.rooms.specs.Scope.{slot_of}
 use Rattle.rooms.proofs.Scopes.{read-slot}
 use Rattle.table_layout.specs.Layout.{word_at}
@@ -13,10 +16,11 @@ use Rattle.table_check.specs.Records.{expr_of, Sound, pairs_of}
 use Rattle.machine.specs.declared.outcome.Used.{Used}
 use Rattle.machine.specs.declared.outcome.Limit.TheVariants as Limit
 use Rattle.machine.specs.declared.outcome.Outcome.{Outcome}
-use Rattle.machine.specs.Outcomes.{Res, with_words, taking}
+use Rattle.machine.specs.Outcomes.{Res, taking}
 use Rattle.machine.specs.Machine.{body, entries}
+use Rattle.eval_outcomes.specs.Gives.{Gives}
 use Rattle.eval_containers.specs.declared.Begun.{Begun}
-use Rattle.eval_containers.specs.Filling.{begun_of, BegunIn}
+use Rattle.eval_containers.specs.Filling.{begun_of}
 use Rattle.eval_shapes.specs.declared.Shape.{Shape}
 use Rattle.eval_shapes.specs.Leaves.{leaf_kinds, slot_in, leaf_out}
 use Rattle.eval_shapes.specs.Shapes.{shape_of}
@@ -24,32 +28,32 @@ use Rattle.eval_shapes.proofs.LeafLaws.{leaf-body}
 use Rattle.eval_shapes.proofs.Rows.{map_at}
 use Rattle.eval_shallow.proofs.Stops.{Is}
 use Rattle.eval_shallow.proofs.BeginLaws.{begun-full, begun-at, begun-places}
-use Rattle.eval_record.proofs.Operands.{beyond}
+use Rattle.eval_record.proofs.SlotReads.{beyond}
 use Rattle.eval_shapes.proofs.ShapeLaws.{none-body}
 
-module _ (t x : List ℕ) (limit p : ℕ) (sound : Sound t x p) (s : Scope) (u : Used) (r : Rooms) where
-  abbrev pub this : Res
-  this = body t limit (expr_of t x p) s u r
+module _ (t x : List ℕ) (limit p : ℕ) (sound : Sound t x p) (s : Scope) (u : Used) where
+  abbrev pub this : Rooms → Res
+  this r = body t limit (expr_of t x p) s u r
 
   pub leaf-is : length s.slots ≡ 128 → get_or t p 0 < leaf_kinds → {n : ℕ} → (n ≡ slot_in (expr_of t x p)) × (n < 128) → {o : Outcome} →
-      o ≡ leaf_out t (expr_of t x p) (get_or s.slots n beyond).value u → Is o r this
-  leaf-is long h {n} e f =
+      o ≡ leaf_out t (expr_of t x p) (get_or s.slots n beyond).value u → (r : Rooms) → Is o r (this r)
+  leaf-is long h {n} e f r =
       ap (λ (o : Outcome). (o, r)) (f ∙ (ap (λ v. leaf_out t (expr_of t x p) v u) (read-slot s n beyond long e.1) ∙
       ap (λ (n : ℕ). leaf_out t (expr_of t x p) (slot_of s n) u) e.0)) ∙ sym (leaf-body t x p sound h limit s u r)
 
-  pub none_is : {f : Shape} → f ≡ shape_of (expr_of t x p) → f ≡ Shape.None → Is (Outcome.Value Value.OptionalNone u) r this
-  none_is e f = sym (none-body t limit s u r (expr_of t x p) (sym e ∙ f))
+  pub none_is : {f : Shape} → f ≡ shape_of (expr_of t x p) → f ≡ Shape.None → (r : Rooms) → Is (Outcome.Value Value.OptionalNone u) r (this r)
+  none_is e f r = sym (none-body t limit s u r (expr_of t x p) (sym e ∙ f))
 
-  module _ (k : get_or t p 0 ≡ 13) {n : ℕ} (count : n ≡ word_at t (p + 3)) {b : Begun} {cells : List ℕ} (begun : BegunIn b cells (begun_of n (2 * n) u r.cells)) where
-    map-does : taking (2 * n) u r (λ w o. entries t limit p (pairs_of t x n (p + 5)) s u.cells 0 0 w o) ≡ this
-    map-does = rw count (sym ((map_at t x p sound k).does limit s u r))
+  module _ (k : get_or t p 0 ≡ 13) {n : ℕ} (count : n ≡ word_at t (p + 3)) {b : Option Begun} {old new : Lent} (begun : Gives b old new (λ r. begun_of n (2 * n) u r)) where
+    map-does : taking (2 * n) u (rooms_lent old) (λ w o. entries t limit p (pairs_of t x n (p + 5)) s u.cells 0 0 w o) ≡ this (rooms_lent old)
+    map-does = rw count (sym ((map_at t x p sound k).does limit s u (rooms_lent old)))
 
-    pub map-full : b ≡ Begun.Full → {o : Outcome} → o ≡ Outcome.Exhausted Limit.Cells u → Is o (with_words r cells) this
-    map-full e f = rw f (begun-full n (2 * n) u r begun e (λ w o. entries t limit p (pairs_of t x n (p + 5)) s u.cells 0 0 w o) ∙ map-does)
+    pub map-full : b ≡ None → {o : Outcome} → o ≡ Outcome.Exhausted Limit.Cells u → Is o (rooms_lent new) (this (rooms_lent old))
+    map-full e f = rw f (begun-full n (2 * n) u begun e (λ w o. entries t limit p (pairs_of t x n (p + 5)) s u.cells 0 0 w o) ∙ map-does)
 
-    pub map_is : {first m : ℕ} {w : Used} → b ≡ Begun.At first m w → {o : Outcome} {z : Rooms} →
-        Is o z (entries t limit p (pairs_of t x m (p + 5)) s first 0 0 w (with_words r cells)) → Is o z this
-    map_is {first} {m} {w} e f =
-        let q = begun-places n (2 * n) u r begun e in
+    pub map_is : {g : Begun} → b ≡ Some g → {o : Outcome} {z : Rooms} →
+        Is o z (entries t limit p (pairs_of t x g.parts (p + 5)) s g.first 0 0 g.used (rooms_lent new)) → Is o z (this (rooms_lent old))
+    map_is e f =
+        let q = begun-places n (2 * n) u begun e in
         let g = rw (q.0, q.1) at f in
-        g ∙ (begun-at n (2 * n) u r begun e (λ w o. entries t limit p (pairs_of t x n (p + 5)) s u.cells 0 0 w o) ∙ map-does)
+        g ∙ (begun-at n (2 * n) u begun e (λ w o. entries t limit p (pairs_of t x n (p + 5)) s u.cells 0 0 w o) ∙ map-does)

@@ -3,14 +3,16 @@ use Prim.Native.Nat.{ℕ, ◌+◌, ◌-◌, ◌<◌, ◌≤◌}
 use mathlib.Core.Path.{◌≡◌, refl, sym, ◌∙◌, ap, subst}
 use mathlib.Core.Bool.{Bool}
 use mathlib.Core.List.{List}
-use mathlib.Core.Option.{Option, none, some}
+use Rattle.std.specs.Prelude.{Option, None, Some, Result, Ok, Err}
 use native.Mathlib.Omega.{arith}
 use lib.Dec.{eqb}
-use lib.ListN.{length, get_or}
+use lib.ListN.{get_or}
 use Rattle.rooms.specs.declared.value.Value.{Value}
 use Rattle.rooms.specs.declared.value.CellSpace.TheVariants as Cells
 use Rattle.rooms.specs.declared.scope.Scope.{Scope}
-use Rattle.rooms.specs.Rooms.{Rooms, rooms}
+use Rattle.rooms.specs.declared.memory.Lent.{Lent}
+use Rattle.rooms.specs.Rooms.{Rooms}
+use Rattle.rooms.specs.Memory.{rooms_lent}
 use Rattle.rooms_comparison.specs.declared.lookup.Found.{Found}
 use Rattle.rooms_comparison.specs.LookUp.{find_in}
 use Rattle.meaning.specs.Kinds.{map_kind}
@@ -19,38 +21,39 @@ use Rattle.table_check.specs.Records.{Sound, SoundPart, expr_of, pairs_of}
 use Rattle.table_check.proofs.Opened.{opened}
 use Rattle.machine.specs.declared.outcome.Used.{Used}
 use Rattle.machine.specs.declared.outcome.Outcome.{Outcome}
-use Rattle.machine.specs.Outcomes.{Res, with_words, with_value}
+use Rattle.machine.specs.Outcomes.{Res, with_value}
 use Rattle.machine.specs.Views.{part_in}
 use Rattle.machine.specs.Containers.{Filling, add_entry, map_done}
 use Rattle.machine.specs.Machine.{entries, machine}
+use Rattle.eval_outcomes.specs.Gives.{Gives, Stays}
 use Rattle.eval_containers.specs.declared.Ready.{Ready}
 use Rattle.eval_containers.specs.declared.Key.{Key}
-use Rattle.eval_containers.specs.declared.Entry.{Entry}
-use Rattle.eval_containers.specs.Filling.{keyed_of, on_key, inserted_if, entered_of, EntryIn, on_entry}
+use Rattle.eval_containers.specs.declared.entries.Entered.{Entered}
+use Rattle.eval_containers.specs.Filling.{keyed_of, on_key, inserted_if, entered_of, on_entry}
 use Rattle.eval_containers.proofs.FillingLaws.{keyed, entered}
 use Rattle.eval_shapes.specs.Leaves.{unmarked_at}
 use Rattle.eval_shapes.proofs.Rows.{EntriesLeft, pairs_next, entry-does, map_at}
-use Rattle.eval_shallow.proofs.Stops.{Is, Stops, after-operand, stops-there, goes_on}
+use Rattle.eval_shallow.proofs.Stops.{Is, Stops, stays-here, after-operand, stops-there, goes_on}
 
 -- how many parts an entry leaves, if it is made
-abbrev AtMost : ℕ → Entry → Type 0
-AtMost n (Entry.Made g u) = g.count ≤ n
-AtMost n (Entry.Ends o) = Unit {0}
+abbrev AtMost : ℕ → Result Entered Outcome → Type 0
+AtMost n (Ok e) = e.ready.count ≤ n
+AtMost n (Err o) = Unit {0}
 
-new-count : (f : Found) (p base : ℕ) (g : Ready) (key v : Value) (u : Used) (w : List ℕ) → AtMost (g.count + 1) (inserted_if f p base g key v u w).0
-new-count (Found.At c k) p base g key v u w = tt
-new-count (Found.Missing k) p base g key v u w = omega arith
-new-count (Found.Out k) p base g key v u w = tt
+new-count : (f : Found) (p base : ℕ) (g : Ready) (key v : Value) (u : Used) (r : Rooms) → AtMost (g.count + 1) (inserted_if f p base g key v u r).0
+new-count (Found.At c k) p base g key v u r = tt
+new-count (Found.Missing k) p base g key v u r = omega arith
+new-count (Found.Out k) p base g key v u r = tt
 
 entry-count : (part : Option Value) (limit p base : ℕ) (g : Ready) (key : Value) (u : Used) (r : Rooms) → AtMost (g.count + 1) (entered_of limit p base g key part u r).0
-entry-count none limit p base g key u r = omega arith
-entry-count (some v) limit p base g key u r = new-count (find_in limit r key Cells.Evaluation base g.count u.steps) p base g key v u r.cells
+entry-count None limit p base g key u r = omega arith
+entry-count (Some v) limit p base g key u r = new-count (find_in limit r key Cells.Evaluation base g.count u.steps) p base g key v u r
 
-pub entered-count : (part : Option Value) (limit p base : ℕ) (g : Ready) (key : Value) (u : Used) (r : Rooms) {y : Entry} {cells : List ℕ} →
-    EntryIn y cells (entered_of limit p base g key part u r) → {h : Ready} {w : Used} → y ≡ Entry.Made h w → h.count ≤ g.count + 1
-entered-count part limit p base g key u r e is =
-    let f = sym is ∙ ap (λ (y : Entry × List ℕ). y.0) e in
-    subst (λ y. AtMost (g.count + 1) y) (sym f) (entry-count part limit p base g key u r)
+pub entered-count : (limit p base : ℕ) (g : Ready) (key : Value) (marked : Bool) (v : Value) (u : Used) {y : Result Entered Outcome} {old new : Lent} →
+    Gives y old new (λ r. entered_of limit p base g key (part_in r marked v) u r) → {e : Entered} → y ≡ Ok e → e.ready.count ≤ g.count + 1
+entered-count limit p base g key marked v u {old = old} made is =
+    let f = sym is ∙ ap (λ (y : Result Entered Outcome × Rooms). y.0) made.gives in
+    subst (λ y. AtMost (g.count + 1) y) (sym f) (entry-count (part_in (rooms_lent old) marked v) limit p base g key u (rooms_lent old))
 
 module _ (t x : List ℕ) (limit p base : ℕ) (c : Scope) where
   -- n entries are left, the next of them at q
@@ -81,43 +84,41 @@ module _ (t x : List ℕ) (limit p base : ℕ) (c : Scope) where
         rw (pairs_next t x n q h) (entry-does t limit c base g.count g.deep u r x (after t q) sound p (expr_of t x q) (pairs_of t x (n - 1) (after t (after t q)))) ∙
         (after-operand key_does e _ ∙ keyed p onward o z (keyed_of p o) refl)
 
-    pub key-ends : {o : Outcome} {z : Rooms} → Is o z key_does → {e : Outcome} {k : Key} → k ≡ keyed_of p o → k ≡ Key.Ends e → Is e z (from_entry n q g u r)
+    pub key-ends : {o : Outcome} {z : Rooms} → Is o z key_does → {e : Outcome} {k : Result Key Outcome} → k ≡ keyed_of p o → k ≡ Err e → Is e z (from_entry n q g u r)
     key-ends {z = z} e a is = sym (this-entry e ∙ ap (λ k. on_key k z onward) (sym a ∙ is))
 
-    module _ {o : Outcome} {z : Rooms} (first : Is o z key_does) {k : Key} (a : k ≡ keyed_of p o) {key : Value} {w : Used} (is : k ≡ Key.Is key w)
-        {o' : Outcome} {z' : Rooms} (second : Is o' z' (value_does w z)) where
-      this_key : from_entry n q g u r ≡ onward key w z
+    module _ {o : Outcome} {z : Rooms} (first : Is o z key_does) {k : Result Key Outcome} (a : k ≡ keyed_of p o) {key : Key} (is : k ≡ Ok key) where
+      this_key : from_entry n q g u r ≡ onward key.value key.used z
       this_key = this-entry first ∙ ap (λ k. on_key k z onward) (sym a ∙ is)
 
-      pub value-stops : Stops o' → Is o' z' (from_entry n q g u r)
-      value-stops s = stops-there (value_does w z) second s _ ∙ sym this_key
+      pub value-stops : {o' : Outcome} {z' : Rooms} → Is o' z' (value_does key.used z) → Stops o' → Is o' z' (from_entry n q g u r)
+      value-stops second s = stops-there (value_does key.used z) second s _ ∙ sym this_key
 
-      module _ {v : Value} {w' : Used} (value : o' ≡ Outcome.Value v w') {b : Bool} (mark : b ≡ eqb (get_or t (after t q) 0) 14)
-          {y : Entry} {cells : List ℕ} (made : EntryIn y cells (entered_of limit p base g key (part_in z' b v) w' z')) where
-        this-value : on_entry y (with_words z' cells) rest ≡ from_entry n q g u r
+      module _ {o' : Outcome} {old : Lent} (second : Is o' (rooms_lent old) (value_does key.used z)) {v : Value} {w' : Used} (value : o' ≡ Outcome.Value v w') {b : Bool} (mark : b ≡ eqb (get_or t (after t q) 0) 14)
+          {y : Result Entered Outcome} {new : Lent} (made : Gives y old new (λ r. entered_of limit p base g key.value (part_in r b v) w' r)) where
+        this-value : on_entry y (rooms_lent new) rest ≡ from_entry n q g u r
         this-value =
             let m = rw mark at made in
-            sym (entered limit p base key w' z'.literal z'.binding_cells z'.binding_text z'.cells z'.text rest g
-            (part_in z' (eqb (get_or t (after t q) 0) 14) v) m) ∙ (goes_on (value_does w z) second value _ ∙ sym this_key)
+            sym (entered limit p base key.value w' rest g (eqb (get_or t (after t q) 0) 14) v m) ∙
+            (goes_on (value_does key.used z) second value _ ∙ sym this_key)
 
-        pub entry-ends : {e : Outcome} → y ≡ Entry.Ends e → Is e (with_words z' cells) (from_entry n q g u r)
-        entry-ends is = ap (λ y. on_entry y (with_words z' cells) rest) (sym is) ∙ this-value
+        pub entry-ends : {e : Outcome} → y ≡ Err e → Is e (rooms_lent new) (from_entry n q g u r)
+        entry-ends is = ap (λ y. on_entry y (rooms_lent new) rest) (sym is) ∙ this-value
 
-        pub entry-again : {g' : Ready} {w'' : Used} → y ≡ Entry.Made g' w'' →
-            from_entry (n - 1) (after t (after t q)) g' w'' (with_words z' cells) ≡ from_entry n q g u r
-        entry-again is = ap (λ y. on_entry y (with_words z' cells) rest) (sym is) ∙ this-value
+        pub entry-again : {e : Entered} → y ≡ Ok e →
+            from_entry (n - 1) (after t (after t q)) e.ready e.used (rooms_lent new) ≡ from_entry n q g u r
+        entry-again is = ap (λ y. on_entry y (rooms_lent new) rest) (sym is) ∙ this-value
 
--- the loop over them: `left` entries are left of the record at p, from `place` on
-pub record MapLoop (t x b y cells₀ text₀ : List ℕ) (limit p base count : ℕ) (c : Scope) (u₀ : Used) (cells text : List ℕ) (place left : ℕ) (u : Used) (g : Ready) : Type 0 where
+-- the loop over them: `left` entries are left of the record at p, from `place` on; `old` was lent before the loop
+pub record MapLoop (t x : List ℕ) (limit p base count : ℕ) (c : Scope) (u₀ : Used) (old now : Lent) (place left : ℕ) (u : Used) (g : Ready) : Type 0 where
   pub row : EntriesLeft t x p left place
-  pub kept : length cells ≡ length cells₀
-  pub keptx : length text ≡ length text₀
+  pub stays : Stays old now
   pub room : g.count + left ≤ count
-  pub same : from_entry t x limit p base c left place g u (rooms x b y cells text) ≡
-      from_entry t x limit p base c count (p + 5) (record { count = 0; deep = 0 }) u₀ (rooms x b y cells₀ text₀)
+  pub same : from_entry t x limit p base c left place g u (rooms_lent now) ≡
+      from_entry t x limit p base c count (p + 5) (record { count = 0; deep = 0 }) u₀ (rooms_lent old)
 
-pub map-begins : (t x b y cells text : List ℕ) (limit p base count : ℕ) (c : Scope) (u : Used) → Sound t x p → get_or t p 0 ≡ 13 → count ≡ word_at t (p + 3) →
-    {q : ℕ} → q ≡ p + head_bytes (get_or t p 0) → MapLoop t x b y cells text limit p base count c u cells text q count u (record { count = 0; deep = 0 })
-map-begins t x b y cells text limit p base count c u s k n e =
+pub map-begins : (t x : List ℕ) (limit p base count : ℕ) (c : Scope) (u : Used) (old : Lent) → Sound t x p → get_or t p 0 ≡ 13 → count ≡ word_at t (p + 3) →
+    {q : ℕ} → q ≡ p + head_bytes (get_or t p 0) → MapLoop t x limit p base count c u old old q count u (record { count = 0; deep = 0 })
+map-begins t x limit p base count c u old s k n e =
     let first = e ∙ (opened t x p map_kind k s).first in
-    rw first (record { row = rw n (map_at t x p s k).left; kept = refl; keptx = refl; room = omega arith; same = refl })
+    rw first (record { row = rw n (map_at t x p s k).left; stays = stays-here; room = omega arith; same = refl })

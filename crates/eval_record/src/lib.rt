@@ -6,3 +6,4 @@ mod comprehension;
 pub mod eval;
 mod list_records;
 mod map_records;
+mod operands;

@@ -3,32 +3,38 @@ use Prim.Native.Nat.{ℕ, ◌+◌, ◌-◌, ◌<◌, ◌≤◌}
 use mathlib.Core.Path.{◌≡◌, sym, ◌∙◌, ap}
 use mathlib.Core.Bool.{Bool}
 use mathlib.Core.List.{List}
-use mathlib.Core.Option.{Option, none, some}
+use Rattle.std.specs.Prelude.{Option, None, Some}
 use native.Mathlib.Omega.{arith}
 use lib.Dec.{eqb}
 use lib.ListN.{get_or}
 use Rattle.rooms.specs.declared.value.Value.{Value}
 use Rattle.rooms.specs.declared.scope.Scope.{Scope}
+use Rattle.rooms.specs.declared.memory.Lent.{Lent}
 use Rattle.rooms.specs.Rooms.{Rooms}
+use Rattle.rooms.specs.Memory.{rooms_lent}
 use Rattle.table_layout.specs.Layout.{after}
 use Rattle.table_check.specs.Records.{SoundPart, expr_of, elements_of}
 use Rattle.machine.specs.declared.outcome.Used.{Used}
 use Rattle.machine.specs.declared.outcome.Outcome.{Outcome}
-use Rattle.machine.specs.Outcomes.{Res, with_words}
+use Rattle.machine.specs.Outcomes.{Res}
 use Rattle.machine.specs.Views.{part_in}
 use Rattle.machine.specs.Containers as Containers
 use Rattle.machine.specs.Containers.{Filling, list_done}
 use Rattle.machine.specs.Machine.{elements, machine}
+use Rattle.eval_outcomes.specs.Gives.{Gives}
 use Rattle.eval_containers.specs.declared.Ready.{Ready}
-use Rattle.eval_containers.specs.Filling.{added_of, AddedIn}
+use Rattle.eval_containers.specs.Filling.{added_of}
 use Rattle.eval_containers.proofs.FillingLaws.{added}
 use Rattle.eval_shapes.specs.Leaves.{unmarked_at}
 use Rattle.eval_shapes.proofs.Rows.{elements-next, element-does}
 use Rattle.eval_shallow.proofs.Stops.{Is, Stops, stops-there, goes_on}
 
-pub added-count : (p : Option Value) (base : ℕ) (g : Ready) (w : List ℕ) {h : Ready} {cells : List ℕ} → AddedIn h cells (added_of base g p w) → h.count ≤ g.count + 1
-added-count none base g w e = omega (arith, ap (λ (y : Ready × List ℕ). y.0.count) e)
-added-count (some v) base g w e = omega (arith, ap (λ (y : Ready × List ℕ). y.0.count) e)
+by_part : (o : Option Value) (base : ℕ) (g : Ready) (r : Rooms) {h : Ready} → h ≡ (added_of base g o r).0 → h.count ≤ g.count + 1
+by_part None base g r e = omega (arith, ap (λ (y : Ready). y.count) e)
+by_part (Some v) base g r e = omega (arith, ap (λ (y : Ready). y.count) e)
+
+pub added-count : (base : ℕ) (g : Ready) (marked : Bool) (v : Value) {h : Ready} {old new : Lent} → Gives h old new (λ r. added_of base g (part_in r marked v) r) → h.count ≤ g.count + 1
+added-count base g marked v {old = old} e = by_part (part_in (rooms_lent old) marked v) base g (rooms_lent old) (ap (λ (y : Ready × Rooms). y.0) e.gives)
 
 module _ (t x : List ℕ) (limit base : ℕ) (c : Scope) where
   -- n elements are left, the next of them at q
@@ -54,10 +60,10 @@ module _ (t x : List ℕ) (limit base : ℕ) (c : Scope) where
     pub element-stops : {o : Outcome} {z : Rooms} → Is o z does → Stops o → Is o z (from_element n q g u r)
     element-stops e s = stops-there does e s _ ∙ sym this-element
 
-    pub element-again : {o : Outcome} {z : Rooms} → Is o z does → {v : Value} {w : Used} → o ≡ Outcome.Value v w → {b : Bool} → b ≡ eqb (get_or t q 0) 14 →
-        {k : Ready} {cells : List ℕ} → AddedIn k cells (added_of base g (part_in z b v) z.cells) →
-        from_element (n - 1) (after t q) k w (with_words z cells) ≡ from_element n q g u r
-    element-again {z = z} e {v} {w} is {b} m a =
+    pub element-again : {o : Outcome} {old new : Lent} → Is o (rooms_lent old) does → {v : Value} {w : Used} → o ≡ Outcome.Value v w → {b : Bool} →
+        b ≡ eqb (get_or t q 0) 14 → {k : Ready} → Gives k old new (λ r. added_of base g (part_in r b v) r) →
+        from_element (n - 1) (after t q) k w (rooms_lent new) ≡ from_element n q g u r
+    element-again e {v} {w} is {b} m {k} a =
         let f = rw m at a in
-        sym (added base w z.literal z.binding_cells z.binding_text z.cells z.text (λ m d w o. elements t limit (elements_of t x (n - 1) (after t q)) c base m d w o) g (part_in z (eqb (get_or t q 0) 14) v) f) ∙
+        sym (added base w (λ m d w o. elements t limit (elements_of t x (n - 1) (after t q)) c base m d w o) g (eqb (get_or t q 0) 14) v f) ∙
         (goes_on does e is _ ∙ sym this-element)

@@ -7,7 +7,7 @@ use lib.ListN.{get_or}
 use types.Run.{OneOf}
 use denote.Enum.Declared.{tag_of}
 use Rattle.meaning.specs.Expr.{Expr}
-use Rattle.rooms.specs.declared.value.Value.{Value}
+use Rattle.rooms.specs.declared.scope.Slot.{Slot}
 use Rattle.rooms.specs.declared.scope.Scope.{Scope}
 use Rattle.rooms.specs.Rooms.{Rooms}
 use Rattle.rooms.specs.Scope.{slot_of}
@@ -22,6 +22,7 @@ use Rattle.eval_shapes.specs.Shapes.{shape_of, first_at, next_of, NextIn}
 use Rattle.eval_shapes.specs.contracts.Shape.{the_type}
 use Rattle.eval_shapes.proofs.Operands.{fixed-at}
 use Rattle.eval_shapes.specs.Leaves.{leaf_kinds, slot_in, leaf_step}
+use Rattle.eval_shallow.specs.declared.slots.Pair.{Pair}
 use Rattle.eval_shallow.specs.Slots.{operands_of, is_leaf, flat_of, small_of, IsPair, PairHolds}
 use Rattle.eval_shallow.proofs.SideLaws.{none_beside, leaf-kind}
 use Rattle.eval_shallow.proofs.OperandLaws.{Begins, begins-at, flat-leaves, flat-holds}
@@ -51,29 +52,29 @@ module _ (t x : List ℕ) (limit p : ℕ) (sound : Sound t x p) {f : Fixed} (e :
         let s = (second_at t x limit p (fixed-at t x p sound f e) o z next i).0 in
         (s, leaf-kind t x q s (leaves.next limit o z q w (then_at o z next i)))
 
-    module _ (c : Scope) (v w : Value) (holds : PairHolds c (flat_of (expr_of t x p)) v w) where
-      slots : Begins (λ e. slot_of c (slot_in e) ≡ v) (λ e. slot_of c (slot_in e) ≡ w) t x p f
-      slots = begins-at (λ e. slot_of c (slot_in e) ≡ v) (λ e. slot_of c (slot_in e) ≡ w) t x p sound f e (flat-holds c v w (operands_of (expr_of t x p)) holds)
+    module _ (c : Scope) (v : Pair Slot) (holds : PairHolds c (flat_of (expr_of t x p)) v) where
+      slots : Begins (λ e. slot_of c (slot_in e) ≡ v.first.value) (λ e. slot_of c (slot_in e) ≡ v.second.value) t x p f
+      slots = begins-at (λ e. slot_of c (slot_in e) ≡ v.first.value) (λ e. slot_of c (slot_in e) ≡ v.second.value) t x p sound f e (flat-holds c v (operands_of (expr_of t x p)) holds)
 
-      pub first_does : {q : ℕ} → q ≡ first_at t p f → (u : Used) {o : Outcome} → o ≡ leaf_step t limit (expr_of t x q) v u → (r : Rooms) →
+      pub first_does : {q : ℕ} → q ≡ first_at t p f → (u : Used) {o : Outcome} → o ≡ leaf_step t limit (expr_of t x q) v.first.value u → (r : Rooms) →
           Is o r (machine t limit (expr_of t x (first_at t p f)) c u r)
       first_does i u h r =
           let k = first_leaf {q = first_at t p f} refl in
           leaf-does t x limit (first_at t p f) k.0 c u k.1 slots.first (rw i at h) r
 
       pub next-does : (o : Outcome) (z : Rooms) {n : Next} {z' : Rooms} → NextIn n z' (next_of t limit p f o z) → {q : ℕ} {y : Used} → n ≡ Next.At q y → {m : Outcome} →
-          m ≡ leaf_step t limit (expr_of t x q) w y → (r : Rooms) → Is m r (machine t limit (expr_of t x q) c y r)
+          m ≡ leaf_step t limit (expr_of t x q) v.second.value y → (r : Rooms) → Is m r (machine t limit (expr_of t x q) c y r)
       next-does o z next {q} {y} i h r =
           let k = next-leaf o z next i in
           leaf-does t x limit q k.0 c y k.1 (slots.next limit o z q y (then_at o z next i)) h r
 
 -- a literal or a name, or such a record
 module _ (e : Expr) {b : Bool} (i : b ≡ is_leaf e) where
-  pub leaf-slot : b ≡ true → (c : Scope) (v w : Value) → PairHolds c (small_of e) v w → slot_of c (slot_in e) ≡ v
-  leaf-slot j c v w h = let k : (slot_of c (slot_in e) ≡ v) × (slot_of c 0 ≡ w) = rw (sym i ∙ j) at h in k.0
+  pub leaf-slot : b ≡ true → (c : Scope) (v : Pair Slot) → PairHolds c (small_of e) v → slot_of c (slot_in e) ≡ v.first.value
+  leaf-slot j c v h = let k : (slot_of c (slot_in e) ≡ v.first.value) × (slot_of c 0 ≡ v.second.value) = rw (sym i ∙ j) at h in k.0
 
   pub flat-pair : b ≡ false → IsPair (small_of e) → IsPair (flat_of e)
   flat-pair j h = rw (sym i ∙ j) at h
 
-  pub flat-shows : b ≡ false → (c : Scope) (v w : Value) → PairHolds c (small_of e) v w → PairHolds c (flat_of e) v w
-  flat-shows j c v w h = rw (sym i ∙ j) at h
+  pub flat-shows : b ≡ false → (c : Scope) (v : Pair Slot) → PairHolds c (small_of e) v → PairHolds c (flat_of e) v
+  flat-shows j c v h = rw (sym i ∙ j) at h

@@ -5,7 +5,8 @@ use mathlib.Core.Path.{◌≡◌, refl}
 use mathlib.Core.Bool.{Bool, true, false, cond}
 use mathlib.Core.List.{List}
 use Rattle.meaning.specs.Expr.{Expr}
-use Rattle.rooms.specs.declared.value.Value.{Value}
+use Rattle.std.specs.Prelude.{Option, None, Some}
+use Rattle.rooms.specs.declared.scope.Slot.{Slot}
 use Rattle.rooms.specs.declared.scope.Scope.{Scope}
 use Rattle.rooms.specs.Rooms.{Rooms}
 use Rattle.rooms.specs.Scope.{slot_of}
@@ -22,7 +23,7 @@ use Rattle.eval_shapes.specs.Shapes.{shape_of, first_at, next_of}
 use Rattle.eval_shapes.proofs.Operands.{go-at, no-next}
 use Rattle.eval_shapes.specs.Leaves.{slot_in}
 use Rattle.eval_shallow.specs.declared.slots.Pair.{Pair}
-use Rattle.eval_shallow.specs.Slots.{Operands, neither, one, two, operands_of, is_leaf, flat_slots, small_of, beside, near_slots, IsPair, PairHolds, IsQuad, QuadHolds}
+use Rattle.eval_shallow.specs.Slots.{Operands, neither, one, two, operands_of, is_leaf, pair, flat_slots, small_of, beside, near_slots, IsPair, PairHolds, IsQuad, QuadHolds}
 use Rattle.eval_shallow.proofs.SideLaws.{sides_with, operands-at}
 
 abbrev pub Each : (P Q : Expr → Type 0) → Operands → Type 0
@@ -49,47 +50,47 @@ module _ (P Q : Expr → Type 0) (t x : List ℕ) (p : ℕ) where
 
 -- ---- literals and names below
 
-if-pair : (b : Bool) (m : Pair) → IsPair (cond b m Pair.No) → (b ≡ true) × IsPair m
+if-pair : (b : Bool) (m : Option (Pair ℕ)) → IsPair (cond b m None) → (b ≡ true) × IsPair m
 if-pair true m h = (refl, h)
 if-pair false m h = absurd h
 
 pub flat-leaves : (m : Operands) → IsPair (flat_slots m) → Each (λ e. is_leaf e ≡ true) (λ e. is_leaf e ≡ true) m
 flat-leaves neither h = h
-flat-leaves (one e) h = (if-pair (is_leaf e) (Pair.Slots (slot_in e) 0) h).0
+flat-leaves (one e) h = (if-pair (is_leaf e) (Some (pair (slot_in e) 0)) h).0
 flat-leaves (two e f) h =
-    let k = if-pair (is_leaf e) (cond (is_leaf f) (Pair.Slots (slot_in e) (slot_in f)) Pair.No) h in
-    (k.0, (if-pair (is_leaf f) (Pair.Slots (slot_in e) (slot_in f)) k.1).0)
+    let k = if-pair (is_leaf e) (cond (is_leaf f) (Some (pair (slot_in e) (slot_in f))) None) h in
+    (k.0, (if-pair (is_leaf f) (Some (pair (slot_in e) (slot_in f))) k.1).0)
 
-module _ (c : Scope) (v w : Value) where
-  if-holds : (b : Bool) (m : Pair) → PairHolds c (cond b m Pair.No) v w → PairHolds c m v w
+module _ (c : Scope) (v : Pair Slot) where
+  if-holds : (b : Bool) (m : Option (Pair ℕ)) → PairHolds c (cond b m None) v → PairHolds c m v
   if-holds true m h = h
   if-holds false m h = absurd h
 
-  pub flat-holds : (m : Operands) → PairHolds c (flat_slots m) v w → Each (λ e. slot_of c (slot_in e) ≡ v) (λ e. slot_of c (slot_in e) ≡ w) m
+  pub flat-holds : (m : Operands) → PairHolds c (flat_slots m) v → Each (λ e. slot_of c (slot_in e) ≡ v.first.value) (λ e. slot_of c (slot_in e) ≡ v.second.value) m
   flat-holds neither h = h
-  flat-holds (one e) h = (if-holds (is_leaf e) (Pair.Slots (slot_in e) 0) h).0
+  flat-holds (one e) h = (if-holds (is_leaf e) (Some (pair (slot_in e) 0)) h).0
   flat-holds (two e f) h =
-      if-holds (is_leaf f) (Pair.Slots (slot_in e) (slot_in f)) (if-holds (is_leaf e) (cond (is_leaf f) (Pair.Slots (slot_in e) (slot_in f)) Pair.No) h)
+      if-holds (is_leaf f) (Some (pair (slot_in e) (slot_in f))) (if-holds (is_leaf e) (cond (is_leaf f) (Some (pair (slot_in e) (slot_in f))) None) h)
 
 -- ---- small records below
 
-beside-both : (m n : Pair) → IsQuad (beside m n) → IsPair m × IsPair n
-beside-both Pair.No n h = absurd h
-beside-both (Pair.Slots a b) Pair.No h = absurd h
-beside-both (Pair.Slots a b) (Pair.Slots c d) h = (tt, tt)
+beside-both : (m n : Option (Pair ℕ)) → IsQuad (beside m n) → IsPair m × IsPair n
+beside-both None n h = absurd h
+beside-both (Some a) None h = absurd h
+beside-both (Some a) (Some b) h = (tt, tt)
 
 pub near-small : (m : Operands) → IsQuad (near_slots m) → Each (λ e. IsPair (small_of e)) (λ e. IsPair (small_of e)) m
 near-small neither h = h
-near-small (one e) h = (beside-both (small_of e) (Pair.Slots 0 0) h).0
+near-small (one e) h = (beside-both (small_of e) (Some (pair 0 0)) h).0
 near-small (two e f) h = beside-both (small_of e) (small_of f) h
 
-module _ (c : Scope) (v w x y : Value) where
-  beside-holds : (m n : Pair) → QuadHolds c (beside m n) v w x y → PairHolds c m v w × PairHolds c n x y
-  beside-holds Pair.No n h = absurd h
-  beside-holds (Pair.Slots a b) Pair.No h = absurd h
-  beside-holds (Pair.Slots a b) (Pair.Slots d e) h = ((h.0, h.1), (h.2, h.3))
+module _ (c : Scope) (v : Pair (Pair Slot)) where
+  beside-holds : (m n : Option (Pair ℕ)) → QuadHolds c (beside m n) v → PairHolds c m v.first × PairHolds c n v.second
+  beside-holds None n h = absurd h
+  beside-holds (Some a) None h = absurd h
+  beside-holds (Some a) (Some b) h = h
 
-  pub near-holds : (m : Operands) → QuadHolds c (near_slots m) v w x y → Each (λ e. PairHolds c (small_of e) v w) (λ e. PairHolds c (small_of e) x y) m
+  pub near-holds : (m : Operands) → QuadHolds c (near_slots m) v → Each (λ e. PairHolds c (small_of e) v.first) (λ e. PairHolds c (small_of e) v.second) m
   near-holds neither h = h
-  near-holds (one e) h = (beside-holds (small_of e) (Pair.Slots 0 0) h).0
+  near-holds (one e) h = (beside-holds (small_of e) (Some (pair 0 0)) h).0
   near-holds (two e f) h = beside-holds (small_of e) (small_of f) h

@@ -3,7 +3,7 @@ use Prim.Native.Nat.{ℕ, ◌+◌, ◌≤◌, ◌<◌}
 use mathlib.Core.Path.{◌≡◌, refl, sym, ◌∙◌, ap}
 use mathlib.Core.Bool.{Bool, true, false}
 use mathlib.Core.List.{List, [], ◌∷◌}
-use mathlib.Core.Option.{Option, none, some}
+use Rattle.std.specs.Prelude.{Option, None, Some}
 use native.Mathlib.Omega.{arith}
 use lib.Dec.{ltb}
 use lib.ListN.{length, get_or}
@@ -29,8 +29,7 @@ use Rattle.eval_shapes.proofs.ShapeLaws.{shape-byte, leaf-shape-here, leaf-byte}
 use Rattle.eval_shapes.proofs.SeenOfRecords.{binary-at}
 use Rattle.eval_shallow.specs.declared.slots.Sides.{Sides}
 use Rattle.eval_shallow.specs.declared.slots.Pair.{Pair}
-use Rattle.eval_shallow.specs.declared.slots.Quad.{Quad}
-use Rattle.eval_shallow.specs.Slots.{Operands, neither, one, two, operands_of, sides_seen, SoundSides, called_sides, call_sides, leaf_shape, is_leaf, flat_slots, flat_of, small_of, beside, near_slots, PairBelow, QuadBelow}
+use Rattle.eval_shallow.specs.Slots.{Operands, neither, one, two, operands_of, sides_seen, SoundSides, called_sides, call_sides, leaf_shape, is_leaf, pair, flat_slots, flat_of, small_of, beside, near_slots, PairBelow, QuadBelow}
 
 -- ---- by the form
 
@@ -62,16 +61,16 @@ none_beside e r i h = by e (rw i at h)
 
 module _ (t x : List ℕ) (p : ℕ) where
   call-one : (f : Function) (c : Option Called) → shape_of (call_of t x p c) ≡ Shape.Operands (Fixed.Call f) → operands_of (call_of t x p c) ≡ one (expr_of t x (p + 4))
-  call-one f none e = let z : ◌≡◌ {A = ℕ} 0 1 = cc in absurd (omega arith)
-  call-one f (some (to_one g)) e = refl
-  call-one f (some to_none) e = let z : ◌≡◌ {A = ℕ} 0 1 = cc in absurd (omega arith)
-  call-one f (some to_two) e = let z : ◌≡◌ {A = ℕ} 0 1 = cc in absurd (omega arith)
+  call-one f None e = let z : ◌≡◌ {A = ℕ} 0 1 = cc in absurd (omega arith)
+  call-one f (Some (to_one g)) e = refl
+  call-one f (Some to_none) e = let z : ◌≡◌ {A = ℕ} 0 1 = cc in absurd (omega arith)
+  call-one f (Some to_two) e = let z : ◌≡◌ {A = ℕ} 0 1 = cc in absurd (omega arith)
 
   call-two : (c : Option Called) → shape_of (call_of t x p c) ≡ Shape.Operands Fixed.OrValue → operands_of (call_of t x p c) ≡ neither
-  call-two none e = refl
-  call-two (some (to_one g)) e = let z : ◌≡◌ {A = ℕ} 0 1 = cc in absurd (omega arith)
-  call-two (some to_none) e = refl
-  call-two (some to_two) e = refl
+  call-two None e = refl
+  call-two (Some (to_one g)) e = let z : ◌≡◌ {A = ℕ} 0 1 = cc in absurd (omega arith)
+  call-two (Some to_none) e = refl
+  call-two (Some to_two) e = refl
 
   module _ (s : Sound t x p) where
     called_is : get_or t p 0 ≡ 16 → expr_of t x p ≡ call_of t x p (numbered functions (get_or t (p + 3) 0))
@@ -122,10 +121,10 @@ module _ (t x : List ℕ) (p : ℕ) where
   SidesIn e r = (sides_seen t x r ≡ operands_of e) × SoundSides t x r
 
   called-sides : (c : Option Called) → Row t x Nowhere (after t p) (called_count c) (p + 4) → SidesIn (call_of t x p c) (called_sides c (p + 4))
-  called-sides none r = (refl, tt)
-  called-sides (some (to_one f)) r = (refl, r.0)
-  called-sides (some to_none) r = (refl, tt)
-  called-sides (some to_two) r = (refl, tt)
+  called-sides None r = (refl, tt)
+  called-sides (Some (to_one f)) r = (refl, r.0)
+  called-sides (Some to_none) r = (refl, tt)
+  called-sides (Some to_two) r = (refl, tt)
 
   module _ (s : Sound t x p) where
     pub neither-here : (get_or t p 0 ≡ 8 → ⊥) → (get_or t p 0 ≡ 9 → ⊥) → (get_or t p 0 ≡ 11 → ⊥) → (get_or t p 0 ≡ 16 → ⊥) → SidesIn (expr_of t x p) Sides.Neither
@@ -188,57 +187,57 @@ module _ (t x : List ℕ) (p : ℕ) (s : Sound t x p) where
 -- ---- the slots, as the code finds them
 
 module _ (e : Expr) where
-  pub small-leaf : {b : Bool} → b ≡ is_leaf e → b ≡ true → {n : ℕ} → n ≡ slot_in e → Pair.Slots n 0 ≡ small_of e
+  pub small-leaf : {b : Bool} → b ≡ is_leaf e → b ≡ true → {n : ℕ} → n ≡ slot_in e → Some (pair n 0) ≡ small_of e
   small-leaf h i j = rw (sym h ∙ i, j)
 
-  pub small-flat : {b : Bool} → b ≡ is_leaf e → b ≡ false → {m : Pair} → m ≡ flat_of e → m ≡ small_of e
+  pub small-flat : {b : Bool} → b ≡ is_leaf e → b ≡ false → {m : Option (Pair ℕ)} → m ≡ flat_of e → m ≡ small_of e
   small-flat h i j = rw (sym h ∙ i) j
 
 module _ (t x : List ℕ) {r : Sides} {m : Operands} (i : sides_seen t x r ≡ m) (h : SoundSides t x r) where
   -- a record without operands of that form
-  pub none-flat : r ≡ Sides.Neither → Pair.No ≡ flat_slots m
+  pub none-flat : r ≡ Sides.Neither → None ≡ flat_slots m
   none-flat j = rw (sym i, j)
 
   module _ {p : ℕ} (j : r ≡ Sides.One p) where
     pub one-sound : Sound t x p
     one-sound = rw j at h
 
-    pub one-far : {b : Bool} → b ≡ ltb (get_or t p 0) leaf_kinds → b ≡ false → Pair.No ≡ flat_slots m
+    pub one-far : {b : Bool} → b ≡ ltb (get_or t p 0) leaf_kinds → b ≡ false → None ≡ flat_slots m
     one-far k l = rw (sym i, j, sym (leaf-seen t x p one-sound k) ∙ l)
 
-    pub one-flat : {b : Bool} → b ≡ ltb (get_or t p 0) leaf_kinds → b ≡ true → {n : ℕ} → n ≡ slot_in (expr_of t x p) → Pair.Slots n 0 ≡ flat_slots m
+    pub one-flat : {b : Bool} → b ≡ ltb (get_or t p 0) leaf_kinds → b ≡ true → {n : ℕ} → n ≡ slot_in (expr_of t x p) → Some (pair n 0) ≡ flat_slots m
     one-flat k l g = rw (sym i, j, sym (leaf-seen t x p one-sound k) ∙ l, g)
 
   module _ {p q : ℕ} (j : r ≡ Sides.Two p q) where
     pub two-sound : Sound t x p × Sound t x q
     two-sound = rw j at h
 
-    pub two-far : {b : Bool} → b ≡ ltb (get_or t p 0) leaf_kinds → b ≡ false → Pair.No ≡ flat_slots m
+    pub two-far : {b : Bool} → b ≡ ltb (get_or t p 0) leaf_kinds → b ≡ false → None ≡ flat_slots m
     two-far k l = rw (sym i, j, sym (leaf-seen t x p two-sound.0 k) ∙ l)
 
     module _ {b : Bool} (k : b ≡ ltb (get_or t p 0) leaf_kinds) (l : b ≡ true) {c : Bool} (k' : c ≡ ltb (get_or t q 0) leaf_kinds) where
-      pub second-far : c ≡ false → Pair.No ≡ flat_slots m
+      pub second-far : c ≡ false → None ≡ flat_slots m
       second-far l' = rw (sym i, j, sym (leaf-seen t x p two-sound.0 k) ∙ l, sym (leaf-seen t x q two-sound.1 k') ∙ l')
 
-      pub two-flat : c ≡ true → {n o : ℕ} → n ≡ slot_in (expr_of t x p) → o ≡ slot_in (expr_of t x q) → Pair.Slots n o ≡ flat_slots m
+      pub two-flat : c ≡ true → {n o : ℕ} → n ≡ slot_in (expr_of t x p) → o ≡ slot_in (expr_of t x q) → Some (pair n o) ≡ flat_slots m
       two-flat l' g g' =
           rw (sym i, j, sym (leaf-seen t x p two-sound.0 k) ∙ l, sym (leaf-seen t x q two-sound.1 k') ∙ l', g, g')
 
 -- ---- two pairs of slots
 
-module _ {m n : Pair} {a b c d : ℕ} (i : m ≡ Pair.Slots a b) (j : n ≡ Pair.Slots c d) where
-  pub both-slots : PairBelow m → PairBelow n → (Quad.Slots a b c d ≡ beside m n) × QuadBelow (Quad.Slots a b c d)
+module _ {m n : Option (Pair ℕ)} {a b : Pair ℕ} (i : m ≡ Some a) (j : n ≡ Some b) where
+  pub both-slots : PairBelow m → PairBelow n → (Some (record { first = a; second = b }) ≡ beside m n) × QuadBelow (Some (record { first = a; second = b }))
   both-slots h k =
       let h' = rw i at h in
       let k' = rw j at k in
-      (rw (i, j), (h'.0, h'.1, k'.0, k'.1))
+      (rw (i, j), (h', k'))
 
 module _ (t x : List ℕ) {r : Sides} {m : Operands} (i : sides_seen t x r ≡ m) (h : SoundSides t x r) where
-  pub none-near : r ≡ Sides.Neither → Quad.No ≡ near_slots m
+  pub none-near : r ≡ Sides.Neither → None ≡ near_slots m
   none-near j = rw (sym i, j)
 
-  pub one-near : {p : ℕ} → r ≡ Sides.One p → {a : Pair} → a ≡ small_of (expr_of t x p) → {z : Quad} → z ≡ beside a (Pair.Slots 0 0) → z ≡ near_slots m
+  pub one-near : {p : ℕ} → r ≡ Sides.One p → {a : Option (Pair ℕ)} → a ≡ small_of (expr_of t x p) → {z : Option (Pair (Pair ℕ))} → z ≡ beside a (Some (pair 0 0)) → z ≡ near_slots m
   one-near j k l = rw (sym i, j, l, k)
 
-  pub two-near : {p q : ℕ} → r ≡ Sides.Two p q → {a b : Pair} → a ≡ small_of (expr_of t x p) → b ≡ small_of (expr_of t x q) → {z : Quad} → z ≡ beside a b → z ≡ near_slots m
+  pub two-near : {p q : ℕ} → r ≡ Sides.Two p q → {a b : Option (Pair ℕ)} → a ≡ small_of (expr_of t x p) → b ≡ small_of (expr_of t x q) → {z : Option (Pair (Pair ℕ))} → z ≡ beside a b → z ≡ near_slots m
   two-near j k k' l = rw (sym i, j, l, k, k')

@@ -1,5 +1,5 @@
 -- A result and its rooms as one equation with what the machine does, and outcomes that are no value. Assumes nothing.
-use mathlib.Core.Path.{◌≡◌, sym, ◌∙◌, ap}
+use mathlib.Core.Path.{◌≡◌, refl, sym, ◌∙◌, ap}
 use mathlib.Core.List.{[], ◌∷◌}
 use types.Run.{OneOf}
 use denote.Enum.Declared.{tag_of}
@@ -9,10 +9,34 @@ use Rattle.machine.specs.declared.outcome.Used.{Used}
 use Rattle.machine.specs.declared.outcome.Outcome.{Outcome}
 use Rattle.machine.specs.Outcomes.{Res, with_value}
 use Rattle.machine.specs.contracts.outcome.Outcome.{the_type}
+use Rattle.rooms.specs.declared.memory.Lent.{Lent}
+use Rattle.rooms.specs.Memory.{rooms_lent}
+use Rattle.eval_outcomes.specs.Gives.{Gives, Stays}
 use Rattle.eval_outcomes.proofs.Stops.{goes-out}
 
 abbrev pub Is : Outcome → Rooms → Res → Type 0
 Is o z m = ◌≡◌ {A = Res} (o, z) m
+
+-- ---- the references stay those that were lent
+
+pub stays-here : {m : Lent} → Stays m m
+stays-here = record { same_literal = refl; same_cells = refl; same_text = refl }
+
+pub stays : {A : Type 0} {a : A} {old new : Lent} {does : Rooms → A × Rooms} → Gives a old new does → Stays old new
+stays g = record { same_literal = g.same_literal; same_cells = g.same_cells; same_text = g.same_text }
+
+pub stays-on : {old middle new : Lent} → Stays old middle → Stays middle new → Stays old new
+stays-on f g =
+    record {
+      same_literal = g.same_literal ∙ f.same_literal;
+      same_cells = g.same_cells ∙ f.same_cells;
+      same_text = g.same_text ∙ f.same_text;
+    }
+
+pub stays-given : {o : Outcome} {old new : Lent} {does : Rooms → Res} → Stays old new → Is o (rooms_lent new) (does (rooms_lent old)) → Gives o old new does
+stays-given f e = record { same_literal = f.same_literal; same_cells = f.same_cells; same_text = f.same_text; gives = e }
+
+-- ---- outcomes that are no value
 
 -- an error or exhaustion
 abbrev pub Stops : Outcome → Type 0

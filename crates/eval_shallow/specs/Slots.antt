@@ -1,10 +1,9 @@
 -- Records of one operand or two, and the slots that a record reads which is a literal or a name, or which is two levels at most above those.
-use Rattle.std.specs.Prelude.{ℕ, ◌<◌, ◌≡◌, Bool, true, false, cond, List}
-use Rattle.std.proofs.Math.Option.{Option, none, some}
+use Rattle.std.specs.Prelude.{ℕ, ◌<◌, ◌≡◌, Bool, true, false, cond, List, Option, None, Some}
 use Rattle.meaning.specs.Limits.{names}
 use Rattle.meaning.specs.Expr.{Expr, literal, name, unary, binary, conditional, select, list_of, map_of, comprehension, call, none_call, or_value}
 use Rattle.meaning.specs.Kinds.{Called, to_one, to_none, to_two, numbered, functions}
-use Rattle.rooms.specs.declared.value.Value.{Value}
+use Rattle.rooms.specs.declared.scope.Slot.{Slot}
 use Rattle.rooms.specs.declared.scope.Scope.{Scope}
 use Rattle.rooms.specs.Scope.{slot_of}
 use Rattle.table_check.specs.Records.{Sound, expr_of}
@@ -13,7 +12,6 @@ use Rattle.eval_shapes.specs.declared.Shape.{Shape}
 use Rattle.eval_shapes.specs.Shapes.{shape_of}
 use Rattle.eval_shallow.specs.declared.slots.Sides.{Sides}
 use Rattle.eval_shallow.specs.declared.slots.Pair.{Pair}
-use Rattle.eval_shallow.specs.declared.slots.Quad.{Quad}
 
 -- ---- one operand or two
 
@@ -50,10 +48,10 @@ SoundSides t x (Sides.Two p q) = Sound t x p × Sound t x q
 
 -- of a function by its number, with the place where its first operand would stand
 abbrev pub called_sides : Option Called → ℕ → Sides
-called_sides none q = Sides.Neither
-called_sides (some (to_one f)) q = Sides.One q
-called_sides (some to_none) q = Sides.Neither
-called_sides (some to_two) q = Sides.Neither
+called_sides None q = Sides.Neither
+called_sides (Some (to_one f)) q = Sides.One q
+called_sides (Some to_none) q = Sides.Neither
+called_sides (Some to_two) q = Sides.Neither
 
 abbrev pub call_sides : (number place : ℕ) → Sides
 call_sides n q = called_sides (numbered functions n) q
@@ -73,55 +71,58 @@ is_leaf e = leaf_shape (shape_of e)
 
 -- ---- the slots of a record whose operands are literals and names
 
-abbrev pub flat_slots : Operands → Pair
-flat_slots neither = Pair.No
-flat_slots (one e) = cond (is_leaf e) (Pair.Slots (slot_in e) 0) Pair.No
-flat_slots (two e f) = cond (is_leaf e) (cond (is_leaf f) (Pair.Slots (slot_in e) (slot_in f)) Pair.No) Pair.No
+abbrev pub pair : ℕ → ℕ → Pair ℕ
+pair a b = record { first = a; second = b }
 
-abbrev pub flat_of : Expr → Pair
+abbrev pub flat_slots : Operands → Option (Pair ℕ)
+flat_slots neither = None
+flat_slots (one e) = cond (is_leaf e) (Some (pair (slot_in e) 0)) None
+flat_slots (two e f) = cond (is_leaf e) (cond (is_leaf f) (Some (pair (slot_in e) (slot_in f))) None) None
+
+abbrev pub flat_of : Expr → Option (Pair ℕ)
 flat_of e = flat_slots (operands_of e)
 
 -- a literal or a name itself, or such a record
-abbrev pub small_of : Expr → Pair
-small_of e = cond (is_leaf e) (Pair.Slots (slot_in e) 0) (flat_of e)
+abbrev pub small_of : Expr → Option (Pair ℕ)
+small_of e = cond (is_leaf e) (Some (pair (slot_in e) 0)) (flat_of e)
 
 -- ---- and of one whose operands are all of those
 
-abbrev pub beside : Pair → Pair → Quad
-beside Pair.No m = Quad.No
-beside (Pair.Slots a b) Pair.No = Quad.No
-beside (Pair.Slots a b) (Pair.Slots c d) = Quad.Slots a b c d
+abbrev pub beside : Option (Pair ℕ) → Option (Pair ℕ) → Option (Pair (Pair ℕ))
+beside None n = None
+beside (Some a) None = None
+beside (Some a) (Some b) = Some (record { first = a; second = b })
 
-abbrev pub near_slots : Operands → Quad
-near_slots neither = Quad.No
-near_slots (one e) = beside (small_of e) (Pair.Slots 0 0)
+abbrev pub near_slots : Operands → Option (Pair (Pair ℕ))
+near_slots neither = None
+near_slots (one e) = beside (small_of e) (Some (pair 0 0))
 near_slots (two e f) = beside (small_of e) (small_of f)
 
-abbrev pub near_of : Expr → Quad
+abbrev pub near_of : Expr → Option (Pair (Pair ℕ))
 near_of e = near_slots (operands_of e)
 
 -- ---- such slots: there are some, each is a name's, a scope has these values in them
 
-abbrev pub IsPair : Pair → Type 0
-IsPair Pair.No = ⊥
-IsPair (Pair.Slots a b) = Unit {0}
+abbrev pub IsPair : Option (Pair ℕ) → Type 0
+IsPair None = ⊥
+IsPair (Some m) = Unit {0}
 
-abbrev pub PairBelow : Pair → Type 0
-PairBelow Pair.No = Unit {0}
-PairBelow (Pair.Slots a b) = (a < names) × (b < names)
+abbrev pub PairBelow : Option (Pair ℕ) → Type 0
+PairBelow None = Unit {0}
+PairBelow (Some m) = (m.first < names) × (m.second < names)
 
-abbrev pub PairHolds : Scope → Pair → (v w : Value) → Type 0
-PairHolds s Pair.No v w = ⊥
-PairHolds s (Pair.Slots a b) v w = (slot_of s a ≡ v) × (slot_of s b ≡ w)
+abbrev pub PairHolds : Scope → Option (Pair ℕ) → Pair Slot → Type 0
+PairHolds s None v = ⊥
+PairHolds s (Some m) v = (slot_of s m.first ≡ v.first.value) × (slot_of s m.second ≡ v.second.value)
 
-abbrev pub IsQuad : Quad → Type 0
-IsQuad Quad.No = ⊥
-IsQuad (Quad.Slots a b c d) = Unit {0}
+abbrev pub IsQuad : Option (Pair (Pair ℕ)) → Type 0
+IsQuad None = ⊥
+IsQuad (Some m) = Unit {0}
 
-abbrev pub QuadBelow : Quad → Type 0
-QuadBelow Quad.No = Unit {0}
-QuadBelow (Quad.Slots a b c d) = (a < names) × (b < names) × (c < names) × (d < names)
+abbrev pub QuadBelow : Option (Pair (Pair ℕ)) → Type 0
+QuadBelow None = Unit {0}
+QuadBelow (Some m) = PairBelow (Some m.first) × PairBelow (Some m.second)
 
-abbrev pub QuadHolds : Scope → Quad → (v w x y : Value) → Type 0
-QuadHolds s Quad.No v w x y = ⊥
-QuadHolds s (Quad.Slots a b c d) v w x y = (slot_of s a ≡ v) × (slot_of s b ≡ w) × (slot_of s c ≡ x) × (slot_of s d ≡ y)
+abbrev pub QuadHolds : Scope → Option (Pair (Pair ℕ)) → Pair (Pair Slot) → Type 0
+QuadHolds s None v = ⊥
+QuadHolds s (Some m) v = PairHolds s (Some m.first) v.first × PairHolds s (Some m.second) v.second

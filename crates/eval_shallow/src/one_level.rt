@@ -1,10 +1,10 @@
 // A record whose operands are all literals and names, evaluated with their slots and no scope: a call that takes a scope copies it.
-ghost use Rattle.rooms.specs.Rooms.{rooms};
 ghost use Rattle.table_check.specs.Records.{Sound, expr_of};
 ghost use Rattle.machine.specs.Machine.{machine};
-ghost use Rattle.eval_outcomes.specs.Gives.{Gives};
+ghost use Rattle.eval_outcomes.specs.Gives.{Gives, Stays};
 ghost use Rattle.eval_shallow.specs.Slots.{flat_of, small_of, IsPair, PairHolds};
 
+use crate::slots::Pair;
 use eval_operands::after_first;
 use eval_operands::both_operands::after_both;
 use eval_outcomes::outcomes::{out_of_steps, stepped};
@@ -12,60 +12,35 @@ use eval_shapes::leaves::{is_leaf, leaf};
 use eval_shapes::next::Next;
 use eval_shapes::{Shape, begun_first, shape_at};
 use machine::outcome::{Outcome, Used};
+use rooms::memory::Lent;
 use rooms::scope::{Scope, Slot};
 
 // What it gives in any scope that has these values in its slots. No other record is asked for: there the last arm is never taken.
 pub fn flat(
     table: &[u8],
-    literal: &[u8],
-    binding_cells: &[u64],
-    binding_text: &[u8],
-    cells: &mut [u64],
-    text: &mut [u8],
+    lent: &mut Lent,
     limit: usize,
     at: usize,
-    first: Slot,
-    second: Slot,
+    slots: Pair<Slot>,
     used: Used,
 ) -> Outcome
-    requires { Sound table.now literal.now at × IsPair (flat_of (expr_of table.now literal.now at)) }
-    ensures { (c : Scope) → PairHolds c (flat_of (expr_of table.now literal.now at)) first.value second.value → Gives result literal.now binding_cells.now binding_text.now cells.new text.new (machine table.now limit (expr_of table.now literal.now at) c used (rooms literal.now binding_cells.now binding_text.now cells.old text.old)) }
+    requires { Sound table.now lent.old.literal.now at × IsPair (flat_of (expr_of table.now lent.old.literal.now at)) }
+    ensures { Stays lent.old lent.new × ((c : Scope) → PairHolds c (flat_of (expr_of table.now lent.old.literal.now at)) slots → Gives result lent.old lent.new (λ r. machine table.now limit (expr_of table.now lent.old.literal.now at) c used r)) }
 {
     if limit <= used.steps {
         return out_of_steps(used);
     }
+    let literal = lent.literal;
     let begun = stepped(used);
     match shape_at(table, literal, at) {
         Shape::Operands(fixed) => {
             let one = begun_first(table, literal, at, fixed);
-            let left = leaf(table, literal, limit, one, first, begun);
-            match after_first(
-                table,
-                literal,
-                binding_cells,
-                binding_text,
-                cells,
-                text,
-                limit,
-                at,
-                fixed,
-                left,
-            ) {
+            let left = leaf(table, literal, limit, one, slots.first, begun);
+            match after_first(table, lent, limit, at, fixed, left) {
                 Next::Stop(outcome) => outcome,
                 Next::At(two, more) => {
-                    let right = leaf(table, literal, limit, two, second, more);
-                    after_both(
-                        literal,
-                        binding_cells,
-                        binding_text,
-                        cells,
-                        text,
-                        limit,
-                        at,
-                        fixed,
-                        left,
-                        right,
-                    )
+                    let right = leaf(table, literal, limit, two, slots.second, more);
+                    after_both(lent, limit, at, fixed, left, right)
                 }
             }
         }
@@ -76,34 +51,17 @@ pub fn flat(
 // The same of a literal or a name too.
 pub fn small(
     table: &[u8],
-    literal: &[u8],
-    binding_cells: &[u64],
-    binding_text: &[u8],
-    cells: &mut [u64],
-    text: &mut [u8],
+    lent: &mut Lent,
     limit: usize,
     at: usize,
-    first: Slot,
-    second: Slot,
+    slots: Pair<Slot>,
     used: Used,
 ) -> Outcome
-    requires { Sound table.now literal.now at × IsPair (small_of (expr_of table.now literal.now at)) }
-    ensures { (c : Scope) → PairHolds c (small_of (expr_of table.now literal.now at)) first.value second.value → Gives result literal.now binding_cells.now binding_text.now cells.new text.new (machine table.now limit (expr_of table.now literal.now at) c used (rooms literal.now binding_cells.now binding_text.now cells.old text.old)) }
+    requires { Sound table.now lent.old.literal.now at × IsPair (small_of (expr_of table.now lent.old.literal.now at)) }
+    ensures { Stays lent.old lent.new × ((c : Scope) → PairHolds c (small_of (expr_of table.now lent.old.literal.now at)) slots → Gives result lent.old lent.new (λ r. machine table.now limit (expr_of table.now lent.old.literal.now at) c used r)) }
 {
     if is_leaf(table, at) {
-        return leaf(table, literal, limit, at, first, used);
+        return leaf(table, lent.literal, limit, at, slots.first, used);
     }
-    flat(
-        table,
-        literal,
-        binding_cells,
-        binding_text,
-        cells,
-        text,
-        limit,
-        at,
-        first,
-        second,
-        used,
-    )
+    flat(table, lent, limit, at, slots, used)
 }

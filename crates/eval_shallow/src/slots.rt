@@ -9,7 +9,8 @@ use table_layout::fields::number_at;
 use table_layout::kinds::{BINARY, FUNCTION, HAS_VALUE, OPTIONAL_OF, SELECT, SIZE, UNARY, VALUE};
 use table_layout::outline::{end_at, first_operand, kind_at};
 
-// The places of the operands of an operator, a select or a function of one argument.
+// The places of the operands of an operator, a select or a function of one argument. Three ways: an Option in an Option would not say which None is
+// no operand.
 #[derive(Clone, Copy)]
 pub enum Sides {
     Neither,
@@ -17,20 +18,14 @@ pub enum Sides {
     Two(usize, usize),
 }
 
-// The slots of two literals or names; 0 for a literal and where there is no second, whose value is not looked at.
+// What belongs to the first and the second of two literals or names, or of two records of those: their slots, or what is in the slots.
 #[derive(Clone, Copy)]
-pub enum Pair {
-    No,
-    Slots(usize, usize),
+pub struct Pair<T> {
+    pub first: T,
+    pub second: T,
 }
 
-// Those of two such pairs.
-#[derive(Clone, Copy)]
-pub enum Quad {
-    No,
-    Slots(usize, usize, usize, usize),
-}
-
+// An arm for each number here and for each kind below: of `SIZE | VALUE` a proof knows only that it is one of the two, and would part them again.
 // Of a function, by its number: optional.none and orValue have none and two; no accepted table has another number.
 fn call_sides(number: u8, one: usize) -> Sides
     ensures { result ≡ call_sides number one }
@@ -61,64 +56,75 @@ pub fn sides_at(table: &[u8], literal: &[u8], at: usize) -> Sides
     }
 }
 
-// Of a record whose operands are all literals and names.
-pub fn flat_at(table: &[u8], literal: &[u8], at: usize) -> Pair
+// The slots of a record whose operands are all literals and names; 0 for a literal and where there is no second, whose value is not looked at.
+pub fn flat_at(table: &[u8], literal: &[u8], at: usize) -> Option<Pair<usize>>
     requires { Sound table.now literal.now at }
     ensures { (result ≡ flat_of (expr_of table.now literal.now at)) × PairBelow result }
 {
     match sides_at(table, literal, at) {
-        Sides::Neither => Pair::No,
+        Sides::Neither => None,
         Sides::One(one) => {
             if !is_leaf(table, one) {
-                return Pair::No;
+                return None;
             }
-            Pair::Slots(slot_at(table, literal, one), 0)
+            Some(Pair {
+                first: slot_at(table, literal, one),
+                second: 0,
+            })
         }
         Sides::Two(one, two) => {
             if !is_leaf(table, one) {
-                return Pair::No;
+                return None;
             }
             if !is_leaf(table, two) {
-                return Pair::No;
+                return None;
             }
             let first = slot_at(table, literal, one);
-            Pair::Slots(first, slot_at(table, literal, two))
+            Some(Pair {
+                first,
+                second: slot_at(table, literal, two),
+            })
         }
     }
 }
 
 // Of such a record, or of a literal or a name.
-pub fn small_at(table: &[u8], literal: &[u8], at: usize) -> Pair
+pub fn small_at(table: &[u8], literal: &[u8], at: usize) -> Option<Pair<usize>>
     requires { Sound table.now literal.now at }
     ensures { (result ≡ small_of (expr_of table.now literal.now at)) × PairBelow result }
 {
     if is_leaf(table, at) {
-        return Pair::Slots(slot_at(table, literal, at), 0);
+        return Some(Pair {
+            first: slot_at(table, literal, at),
+            second: 0,
+        });
     }
     flat_at(table, literal, at)
 }
 
-fn both(first: Pair, second: Pair) -> Quad
+fn both(first: Option<Pair<usize>>, second: Option<Pair<usize>>) -> Option<Pair<Pair<usize>>>
     requires { PairBelow first × PairBelow second }
     ensures { (result ≡ beside first second) × QuadBelow result }
 {
-    match first {
-        Pair::No => Quad::No,
-        Pair::Slots(one, two) => match second {
-            Pair::No => Quad::No,
-            Pair::Slots(three, four) => Quad::Slots(one, two, three, four),
-        },
-    }
+    let first = first?;
+    let second = second?;
+    Some(Pair { first, second })
 }
 
 // Of a record whose operands are all of those.
-pub fn near_at(table: &[u8], literal: &[u8], at: usize) -> Quad
+pub fn near_at(table: &[u8], literal: &[u8], at: usize) -> Option<Pair<Pair<usize>>>
     requires { Sound table.now literal.now at }
     ensures { (result ≡ near_of (expr_of table.now literal.now at)) × QuadBelow result }
 {
     match sides_at(table, literal, at) {
-        Sides::Neither => Quad::No,
-        Sides::One(one) => both(small_at(table, literal, one), Pair::Slots(0, 0)),
+        Sides::Neither => None,
+        Sides::One(one) => both(
+            small_at(table, literal, one),
+            Some(Pair {
+                first: 0,
+                second: 0,
+            }),
+        ),
         Sides::Two(one, two) => {
             let first = small_at(table, literal, one);
             both(first, small_at(table, literal, two))

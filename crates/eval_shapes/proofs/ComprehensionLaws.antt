@@ -4,7 +4,7 @@ use Prim.Native.Nat.{ℕ, ◌+◌, ◌≤◌, ◌<◌}
 use mathlib.Core.Path.{◌≡◌, refl}
 use mathlib.Core.Bool.{Bool, true, false, cond, ◌&&◌}
 use mathlib.Core.List.{List}
-use mathlib.Core.Option.{Option, none, some}
+use Rattle.std.specs.Prelude.{Option, None, Some}
 use native.Mathlib.Omega.{arith}
 use lib.ListN.{length, get_or}
 use Rattle.meaning.specs.Kinds.{comprehension_kind}
@@ -20,7 +20,8 @@ use Rattle.table_check.specs.Records.{expr_of, Sound}
 use Rattle.table_check.proofs.Opened.{both_of, opened}
 use Rattle.table_check.proofs.FieldLaws.{name_below}
 use Rattle.machine.specs.declared.outcome.Used.{Used}
-use Rattle.machine.specs.Comprehension.{Items, Loop, AppendStep, empty_parts, turns, append_turns, nothing_gathered, loop_from, comprehends}
+use Rattle.machine.specs.declared.items.Items.{Items}
+use Rattle.machine.specs.Comprehension.{Loop, AppendStep, empty_parts, turns, append_turns, nothing_gathered, loop_from, comprehends}
 use Rattle.machine.specs.Machine.{body, machine, append_step}
 use Rattle.eval_shapes.specs.declared.comprehensions.Places.{Places}
 use Rattle.eval_shapes.specs.Comprehensions.{places_at, loop_at, path_of}
@@ -29,7 +30,7 @@ use Rattle.eval_shapes.specs.Comprehensions.{places_at, loop_at, path_of}
 abbrev pub open_path : (t x : List ℕ) (limit : ℕ) → Places → Option AppendStep
 open_path t x limit c =
     cond ((look (expr_of t x c.condition)).is_literal && named c.accumulator (look (expr_of t x c.result)).is_name)
-    (append_step t limit c.accumulator (expr_of t x c.step)) none
+    (append_step t limit c.accumulator (expr_of t x c.step)) None
 
 module _ (t x : List ℕ) (p : ℕ) where
   pub record ComprehensionAt : Type 0 where
@@ -77,30 +78,30 @@ places-are t p init e a f i g condition h step j result k = rw (k, j, h, e, f, g
 -- ---- which loop is run
 
 module _ (c : Loop) (start : Value) (items : Items) (s : Scope) (u : Used) (r : Rooms) where
-  turns-by : (b : Bool) (path : Option AppendStep) → empty_parts (parts_of start) ≡ b → cond b path none ≡ none →
+  turns-by : (b : Bool) (path : Option AppendStep) → empty_parts (parts_of start) ≡ b → cond b path None ≡ None →
       loop_from c path start items s u r ≡
-      turns c items.space items.stride items.count items.first none (stored s c.accumulator start) u r
-  turns-by b none e f = refl
-  turns-by true (some path) e f = let z : ◌≡◌ {A = ℕ} 0 1 = cc in absurd (omega arith)
-  turns-by false (some path) e f = rw e
+      turns c items.space items.stride items.count items.first None (stored s c.accumulator start) u r
+  turns-by b None e f = refl
+  turns-by true (Some path) e f = let z : ◌≡◌ {A = ℕ} 0 1 = cc in absurd (omega arith)
+  turns-by false (Some path) e f = rw e
 
-  appends-by : (b : Bool) (path : Option AppendStep) (found : AppendStep) → empty_parts (parts_of start) ≡ b → cond b path none ≡ some found →
+  appends-by : (b : Bool) (path : Option AppendStep) (found : AppendStep) → empty_parts (parts_of start) ≡ b → cond b path None ≡ Some found →
       loop_from c path start items s u r ≡
       append_turns c found items.space items.stride items.count items.first nothing_gathered s u r
-  appends-by true none found e f = let z : ◌≡◌ {A = ℕ} 0 1 = cc in absurd (omega arith)
-  appends-by false none found e f = let z : ◌≡◌ {A = ℕ} 0 1 = cc in absurd (omega arith)
-  appends-by true (some path) found e f = let g : path ≡ found = cc in rw (e, g)
-  appends-by false (some path) found e f = let z : ◌≡◌ {A = ℕ} 0 1 = cc in absurd (omega arith)
+  appends-by true None found e f = let z : ◌≡◌ {A = ℕ} 0 1 = cc in absurd (omega arith)
+  appends-by false None found e f = let z : ◌≡◌ {A = ℕ} 0 1 = cc in absurd (omega arith)
+  appends-by true (Some path) found e f = let g : path ≡ found = cc in rw (e, g)
+  appends-by false (Some path) found e f = let z : ◌≡◌ {A = ℕ} 0 1 = cc in absurd (omega arith)
 
 module _ (t x : List ℕ) (limit : ℕ) (places : Places) (c : Loop) (start : Value) (items : Items) (s : Scope) (u : Used) (r : Rooms) where
   -- without the append path
-  pub turns-taken : path_of t x limit places start ≡ none →
+  pub turns-taken : path_of t x limit places start ≡ None →
       loop_from c (open_path t x limit places) start items s u r ≡
-      turns c items.space items.stride items.count items.first none (stored s c.accumulator start) u r
+      turns c items.space items.stride items.count items.first None (stored s c.accumulator start) u r
   turns-taken e = turns-by c start items s u r (empty_parts (parts_of start)) (open_path t x limit places) refl e
 
   -- with it
-  pub appends-taken : (path : AppendStep) → path_of t x limit places start ≡ some path →
+  pub appends-taken : (path : AppendStep) → path_of t x limit places start ≡ Some path →
       loop_from c (open_path t x limit places) start items s u r ≡
       append_turns c path items.space items.stride items.count items.first nothing_gathered s u r
   appends-taken path e = appends-by c start items s u r (empty_parts (parts_of start)) (open_path t x limit places) path refl e

@@ -3,7 +3,7 @@
 use Prim.Native.Nat.{ℕ, ◌+◌, ◌≤◌, ◌<◌}
 use mathlib.Core.Path.{◌≡◌, refl, sym, ◌∙◌, ap}
 use mathlib.Core.List.{List}
-use mathlib.Core.Option.{Option, none, some}
+use Rattle.std.specs.Prelude.{Option, None, Some}
 use native.Mathlib.Omega.{arith}
 use lib.ListN.{length, get_or}
 use Rattle.meaning.specs.Expr.{Expr, literal, name, unary, binary, conditional, select, list_of, map_of, comprehension, call, none_call, or_value}
@@ -72,10 +72,10 @@ module _ (t x : List ℕ) (p : ℕ) (s : Sound t x p) where
   here-is k b = (opened t x p k b s).is
 
   call-kind : (c : Option Called) → kind_in (call_of t x p c) ≡ 16
-  call-kind none = refl
-  call-kind (some (to_one f)) = refl
-  call-kind (some to_none) = refl
-  call-kind (some to_two) = refl
+  call-kind None = refl
+  call-kind (Some (to_one f)) = refl
+  call-kind (Some to_none) = refl
+  call-kind (Some to_two) = refl
 
   of-literal-kind : (k : ExprKind) → get_or t p 0 ≡ kind_byte k → get_or t p 0 < 7 → kind_in (node t x p k) ≡ 0 → KindOf (expr_of t x p) (get_or t p 0)
   of-literal-kind k b h i = of-literal (expr_of t x p) h (ap kind_in (here-is k b) ∙ i)

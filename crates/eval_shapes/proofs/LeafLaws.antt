@@ -6,7 +6,7 @@ use mathlib.Core.List.{List, [], ◌∷◌}
 use native.Mathlib.Omega.{arith}
 use lib.Dec.{ltb, eqb}
 use borrow.Author.Tests.{lt-ltb, le-ltb, eqb-true}
-use Rattle.table_layout.proofs.WordLaws.{word-is}
+use Rattle.table_layout.proofs.WordLaws.{word_is}
 use Rattle.table_layout.proofs.KindLaws.{head-is}
 use lib.ListN.{get_or}
 use types.Run.{OneOf, miss}
@@ -119,7 +119,7 @@ pub leaf-in-steps : (t : List ℕ) (limit : ℕ) (e : Expr) (v : Value) (u : Use
 leaf-in-steps t limit e v u h = rw (lt-ltb u.steps limit h)
 
 pub word_fits : (t : List ℕ) → ((i : ℕ) → get_or t i 0 < 256) → (q : ℕ) {n : ℕ} → n ≡ word_at t q → n < 65536
-word_fits t small q e = omega (arith, e, word-is t q, small q, small (q + 1))
+word_fits t small q e = omega (arith, e, word_is t q, small q, small (q + 1))
 
 pub marked-unmarked : (t : List ℕ) (q : ℕ) → eqb (get_or t q 0) 14 ≡ true → q + head_bytes (get_or t q 0) ≡ unmarked_at t q
 marked-unmarked t q e = rw (e, head-is 14 (omega arith) (eqb-true (get_or t q 0) 14 e))
@@ -145,10 +145,10 @@ name-has p (Value.Int z) u h = refl
 name-has p (Value.Uint n) u h = refl
 name-has p (Value.Double x) u h = refl
 name-has p (Value.Nan b) u h = refl
-name-has p (Value.String s a n) u h = refl
-name-has p (Value.Bytes s a n) u h = refl
-name-has p (Value.List d s a n) u h = refl
-name-has p (Value.Map d s a n) u h = refl
+name-has p (Value.String sp) u h = refl
+name-has p (Value.Bytes sp) u h = refl
+name-has p (Value.List d ro) u h = refl
+name-has p (Value.Map d ro) u h = refl
 name-has p Value.OptionalNone u h = refl
 name-has p (Value.OptionalOf d s a) u h = refl
 name-has p Value.Absent u h = absurd (miss (0 ∷ 1 ∷ 2 ∷ 3 ∷ 4 ∷ 5 ∷ 6 ∷ 7 ∷ 8 ∷ 9 ∷ 10 ∷ 11 ∷ []) 12 tt h)

@@ -3,7 +3,7 @@ use Prim.Native.Nat.{ℕ}
 use mathlib.Core.Path.{◌≡◌, refl}
 use mathlib.Core.Bool.{Bool, true, false, cond}
 use mathlib.Core.List.{List}
-use mathlib.Core.Option.{Option, none, some}
+use Rattle.std.specs.Prelude.{Option, None, Some}
 use native.Mathlib.Omega.{arith}
 use lib.Dec.{eqb}
 use Rattle.meaning.specs.Value.{Values}
@@ -24,18 +24,18 @@ use Rattle.eval_shapes.proofs.Numbered.{by_number}
 -- ---- an operator is neither a literal nor a name
 
 abbrev Plain : Look → Type 0
-Plain l = (l.is_name ≡ none) × (l.is_literal ≡ false)
+Plain l = (l.is_name ≡ None) × (l.is_literal ≡ false)
 
 fold-plain : (f : LogicalFold) (n : Option ℕ) → Plain (a_fold f n)
 unfolding a_fold
-fold-plain f none = (refl, refl)
-fold-plain f (some n) = (refl, refl)
+fold-plain f None = (refl, refl)
+fold-plain f (Some n) = (refl, refl)
 
 sum-plain : (n : Option ℕ) (items : Option (Scope → Eval Values)) → Plain (a_sum n items)
 unfolding a_sum
-sum-plain none items = (refl, refl)
-sum-plain (some n) none = (refl, refl)
-sum-plain (some n) (some items) = (refl, refl)
+sum-plain None items = (refl, refl)
+sum-plain (Some n) None = (refl, refl)
+sum-plain (Some n) (Some items) = (refl, refl)
 
 arith-plain : (o : Arith) (l r : Look) → Plain (arith_look o l r)
 unfolding arith_look
@@ -59,10 +59,10 @@ binary-plain is_in l r = (refl, refl)
 
 conditional-plain : (guard : Meaning) (sum : Option (ℕ × (Scope → Eval Values))) (n : Option ℕ) → Plain (a_conditional guard sum n)
 unfolding a_conditional
-conditional-plain guard sum none = (refl, refl)
-conditional-plain guard sum (some n) = (refl, refl)
+conditional-plain guard sum None = (refl, refl)
+conditional-plain guard sum (Some n) = (refl, refl)
 
-pub no_name : (e : Expr) → (kind_in e ≡ 7 → ⊥) → (look e).is_name ≡ none
+pub no_name : (e : Expr) → (kind_in e ≡ 7 → ⊥) → (look e).is_name ≡ None
 unfolding look
 no_name (literal p x) h = refl
 no_name (name p n) h = absurd (h refl)
@@ -94,17 +94,17 @@ is-literal (or_value p e f) = refl
 
 -- ---- folds
 
-nothing-either : {A : Type 0} (b : Bool) → ◌≡◌ {A = Option A} none (cond b none none)
+nothing-either : {A : Type 0} (b : Bool) → ◌≡◌ {A = Option A} None (cond b None None)
 nothing-either true = refl
 nothing-either false = refl
 
-sum-folds : (n : Option ℕ) (items : Option (Scope → Eval Values)) → (a_sum n items).folds ≡ none
+sum-folds : (n : Option ℕ) (items : Option (Scope → Eval Values)) → (a_sum n items).folds ≡ None
 unfolding a_sum
-sum-folds none items = refl
-sum-folds (some n) none = refl
-sum-folds (some n) (some items) = refl
+sum-folds None items = refl
+sum-folds (Some n) None = refl
+sum-folds (Some n) (Some items) = refl
 
-arith-folds : (o : Arith) (l r : Look) → (arith_look o l r).folds ≡ none
+arith-folds : (o : Arith) (l r : Look) → (arith_look o l r).folds ≡ None
 unfolding arith_look
 arith-folds add l r = sum-folds l.is_name r.lists
 arith-folds sub l r = refl
@@ -112,12 +112,12 @@ arith-folds div l r = refl
 arith-folds mul l r = refl
 arith-folds rem l r = refl
 
-fold-of : (a : ℕ) (f : LogicalFold) (n : Option ℕ) → of_name a (a_fold f n).folds ≡ cond (named a n) (some f) none
+fold-of : (a : ℕ) (f : LogicalFold) (n : Option ℕ) → of_name a (a_fold f n).folds ≡ cond (named a n) (Some f) None
 unfolding a_fold of_name named
-fold-of a f none = refl
-fold-of a f (some n) = refl
+fold-of a f None = refl
+fold-of a f (Some n) = refl
 
-binary-folds : (a : ℕ) (o : Binary) (l r : Look) → of_name a (binary_look o l r).folds ≡ cond (named a l.is_name) (fold_in o) none
+binary-folds : (a : ℕ) (o : Binary) (l r : Look) → of_name a (binary_look o l r).folds ≡ cond (named a l.is_name) (fold_in o) None
 unfolding binary_look of_name
 binary-folds a (logic f) l r = fold-of a f l.is_name
 binary-folds a equals l r = nothing-either (named a l.is_name)
@@ -129,16 +129,16 @@ binary-folds a (Expr.arith o) l r = rw (arith-folds o l r) (nothing-either (name
 binary-folds a (compare c) l r = nothing-either (named a l.is_name)
 binary-folds a is_in l r = nothing-either (named a l.is_name)
 
-pub folds-binary : (a p : ℕ) (o : Binary) (e f : Expr) → of_name a (look (binary p o e f)).folds ≡ cond (named a (look e).is_name) (fold_in o) none
+pub folds-binary : (a p : ℕ) (o : Binary) (e f : Expr) → of_name a (look (binary p o e f)).folds ≡ cond (named a (look e).is_name) (fold_in o) None
 unfolding look
 folds-binary a p o e f = binary-folds a o (look e) (look f)
 
-conditional-folds : (guard : Meaning) (sum : Option (ℕ × (Scope → Eval Values))) (n : Option ℕ) → (a_conditional guard sum n).folds ≡ none
+conditional-folds : (guard : Meaning) (sum : Option (ℕ × (Scope → Eval Values))) (n : Option ℕ) → (a_conditional guard sum n).folds ≡ None
 unfolding a_conditional
-conditional-folds guard sum none = refl
-conditional-folds guard sum (some n) = refl
+conditional-folds guard sum None = refl
+conditional-folds guard sum (Some n) = refl
 
-no-folds : (e : Expr) → (kind_in e ≡ 9 → ⊥) → (look e).folds ≡ none
+no-folds : (e : Expr) → (kind_in e ≡ 9 → ⊥) → (look e).folds ≡ None
 unfolding look
 no-folds (literal p x) h = refl
 no-folds (name p n) h = refl
@@ -153,14 +153,14 @@ no-folds (call p f e) h = refl
 no-folds (none_call p) h = refl
 no-folds (or_value p e f) h = refl
 
-pub folds-other : (a : ℕ) (e : Expr) → (kind_in e ≡ 9 → ⊥) → of_name a (look e).folds ≡ none
+pub folds-other : (a : ℕ) (e : Expr) → (kind_in e ≡ 9 → ⊥) → of_name a (look e).folds ≡ None
 unfolding of_name
 folds-other a e h = rw (no-folds e h)
 
 -- ---- the append path
 
 module _ (t : List ℕ) (limit : ℕ) where
-  pub no-sum : (a : ℕ) (e : Expr) → (kind_in e ≡ 9 → ⊥) → append_sum t limit a e ≡ none
+  pub no-sum : (a : ℕ) (e : Expr) → (kind_in e ≡ 9 → ⊥) → append_sum t limit a e ≡ None
   unfolding append_sum
   no-sum a (literal p x) h = refl
   no-sum a (name p n) h = refl
@@ -176,7 +176,7 @@ module _ (t : List ℕ) (limit : ℕ) where
   no-sum a (or_value p e f) h = refl
 
   -- a step without a guard
-  pub plain-path : (a : ℕ) (e : Expr) → (kind_in e ≡ 10 → ⊥) → append_step t limit a e ≡ appending none (append_sum t limit a e)
+  pub plain-path : (a : ℕ) (e : Expr) → (kind_in e ≡ 10 → ⊥) → append_step t limit a e ≡ appending None (append_sum t limit a e)
   unfolding append_step append_sum
   plain-path a (literal p x) h = refl
   plain-path a (name p n) h = refl
@@ -191,7 +191,7 @@ module _ (t : List ℕ) (limit : ℕ) where
   plain-path a (none_call p) h = refl
   plain-path a (or_value p e f) h = refl
 
-  pub list-items : (e : Expr) → kind_in e ≡ 12 → items_list t limit e ≡ some (machine t limit e)
+  pub list-items : (e : Expr) → kind_in e ≡ 12 → items_list t limit e ≡ Some (machine t limit e)
   unfolding items_list body
   list-items (literal p x) h = absurd (omega (arith, h))
   list-items (name p n) h = absurd (omega (arith, h))
@@ -206,7 +206,7 @@ module _ (t : List ℕ) (limit : ℕ) where
   list-items (none_call p) h = absurd (omega (arith, h))
   list-items (or_value p e f) h = absurd (omega (arith, h))
 
-  pub no_items : (e : Expr) → (kind_in e ≡ 12 → ⊥) → items_list t limit e ≡ none
+  pub no_items : (e : Expr) → (kind_in e ≡ 12 → ⊥) → items_list t limit e ≡ None
   unfolding items_list
   no_items (literal p x) h = refl
   no_items (name p n) h = refl
@@ -223,29 +223,29 @@ module _ (t : List ℕ) (limit : ℕ) where
 
 -- only `+` appends
 abbrev NoPlus : ℕ → Option Binary → Type 0
-NoPlus n o = (n ≡ 8 → ⊥) → (a : ℕ) (m : Option ℕ) (items : Option Does) → sum_to a (or_else equals o) m items ≡ none
+NoPlus n o = (n ≡ 8 → ⊥) → (a : ℕ) (m : Option ℕ) (items : Option Does) → sum_to a (or_else equals o) m items ≡ None
 
 pub no_plus : (n : ℕ) → NoPlus n (numbered binaries n)
 unfolding binaries
 no_plus =
     by_number NoPlus binaries (λ n h a m items. refl) (λ h a m items. refl, (λ h a m items. refl, (λ h a m items. refl, (λ h a m items. refl, (λ h a m items. refl, (λ h a m items. refl, (λ h a m items. refl, (λ h a m items. absurd (h refl), (λ h a m items. refl, (λ h a m items. refl, (λ h a m items. refl, (λ h a m items. refl, (λ h a m items. refl, (λ h a m items. refl, (λ h a m items. refl, (λ h a m items. refl, (λ h a m items. refl, tt)))))))))))))))))
 
-pub plus : (a : ℕ) (m : Option ℕ) (items : Option Does) → sum_to a (binary_of 8) m items ≡ cond (named a m) items none
+pub plus : (a : ℕ) (m : Option ℕ) (items : Option Does) → sum_to a (binary_of 8) m items ≡ cond (named a m) items None
 unfolding numbered binaries
 plus a m items = refl
 
 -- only `||` and `&&` fold
 abbrev NoFold : ℕ → Option Binary → Type 0
-NoFold n o = (n ≡ 1 → ⊥) → (n ≡ 2 → ⊥) → none ≡ fold_in (or_else equals o)
+NoFold n o = (n ≡ 1 → ⊥) → (n ≡ 2 → ⊥) → None ≡ fold_in (or_else equals o)
 
 pub no-fold : (n : ℕ) → NoFold n (numbered binaries n)
 unfolding binaries
 no-fold = by_number NoFold binaries (λ n g h. refl) (λ g h. absurd (g refl), (λ g h. absurd (h refl), (λ g h. refl, (λ g h. refl, (λ g h. refl, (λ g h. refl, (λ g h. refl, (λ g h. refl, (λ g h. refl, (λ g h. refl, (λ g h. refl, (λ g h. refl, (λ g h. refl, (λ g h. refl, (λ g h. refl, (λ g h. refl, (λ g h. refl, tt)))))))))))))))))
 
-pub or-fold : {n : ℕ} → n ≡ 1 → some Expr.Or ≡ fold_in (binary_of n)
+pub or-fold : {n : ℕ} → n ≡ 1 → Some Expr.Or ≡ fold_in (binary_of n)
 unfolding numbered binaries
 or-fold e = rw e
 
-pub and-fold : {n : ℕ} → n ≡ 2 → some Expr.And ≡ fold_in (binary_of n)
+pub and-fold : {n : ℕ} → n ≡ 2 → Some Expr.And ≡ fold_in (binary_of n)
 unfolding numbered binaries
 and-fold e = rw e

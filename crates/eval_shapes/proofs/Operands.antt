@@ -4,7 +4,7 @@ use Prim.Native.Nat.{ℕ, ◌+◌, ◌≤◌, ◌<◌}
 use mathlib.Core.Path.{◌≡◌, refl, sym, ◌∙◌, ap}
 use mathlib.Core.Bool.{Bool}
 use mathlib.Core.List.{List}
-use mathlib.Core.Option.{Option, none, some}
+use Rattle.std.specs.Prelude.{Option, None, Some}
 use native.Mathlib.Omega.{arith}
 use lib.Dec.{eqb}
 use lib.ListN.{length, get_or}
@@ -77,8 +77,8 @@ pub record FixedAt (t x : List ℕ) (p : ℕ) (f : Fixed) : Type 0 where
 -- ---- what is begun next
 
 pub go-at : (P : ℕ → Type 0) (o : Option Used) (q : ℕ) (x : Outcome) {n : ℕ} {u : Used} → P q → go_next o q x ≡ Next.At n u → P n
-go-at P none q x h e = let z : ◌≡◌ {A = ℕ} 0 1 = cc in absurd (omega arith)
-go-at P (some w) q x {n} h e = let f : q ≡ n = cc in rw (sym f) h
+go-at P None q x h e = let z : ◌≡◌ {A = ℕ} 0 1 = cc in absurd (omega arith)
+go-at P (Some w) q x {n} h e = let f : q ≡ n = cc in rw (sym f) h
 
 ask-at : (P : ℕ → Type 0) (a : Asked) (q s : ℕ) {n : ℕ} {u : Used} → P q → P s → ask_next a q s ≡ Next.At n u → P n
 ask-at P (Asked.Holds w) q s {n} h k e = let f : q ≡ n = cc in rw (sym f) h
@@ -97,8 +97,8 @@ no-next e = let z : ◌≡◌ {A = ℕ} 0 1 = cc in absurd (omega arith)
 
 go-does : (o : Option Used) (q : ℕ) (x : Outcome) (r : Rooms) (k : ℕ → Used → Rooms → Res) →
     on_next (go_next o q x) r k ≡ on_left o x r (λ w d. k q w d)
-go-does none q x r k = refl
-go-does (some u) q x r k = refl
+go-does None q x r k = refl
+go-does (Some u) q x r k = refl
 
 ask-does : (a : Asked) (q s : ℕ) (r : Rooms) (k : ℕ → Used → Rooms → Res) →
     on_next (ask_next a q s) r k ≡ on_asked a r (λ w d. k q w d) (λ w d. k s w d)
@@ -118,17 +118,17 @@ value-does (Outcome.Exhausted e u) limit p q r target = refl
 
 module _ (t x : List ℕ) (p : ℕ) where
   called-one : (f : Function) (c : Option Called) → shape_of (call_of t x p c) ≡ Shape.Operands (Fixed.Call f) →
-      (g : Expr.Function) × (c ≡ some (to_one g)) × (function_shape g ≡ f)
-  called-one f none e = let z : ◌≡◌ {A = ℕ} 0 1 = cc in absurd (omega arith)
-  called-one f (some (to_one g)) e = let h : function_shape g ≡ f = cc in (g, refl, h)
-  called-one f (some to_none) e = let z : ◌≡◌ {A = ℕ} 0 1 = cc in absurd (omega arith)
-  called-one f (some to_two) e = let z : ◌≡◌ {A = ℕ} 0 1 = cc in absurd (omega arith)
+      (g : Expr.Function) × (c ≡ Some (to_one g)) × (function_shape g ≡ f)
+  called-one f None e = let z : ◌≡◌ {A = ℕ} 0 1 = cc in absurd (omega arith)
+  called-one f (Some (to_one g)) e = let h : function_shape g ≡ f = cc in (g, refl, h)
+  called-one f (Some to_none) e = let z : ◌≡◌ {A = ℕ} 0 1 = cc in absurd (omega arith)
+  called-one f (Some to_two) e = let z : ◌≡◌ {A = ℕ} 0 1 = cc in absurd (omega arith)
 
-  called-two : (c : Option Called) → shape_of (call_of t x p c) ≡ Shape.Operands Fixed.OrValue → c ≡ some to_two
-  called-two none e = let z : ◌≡◌ {A = ℕ} 0 1 = cc in absurd (omega arith)
-  called-two (some (to_one g)) e = let z : ◌≡◌ {A = ℕ} 0 1 = cc in absurd (omega arith)
-  called-two (some to_none) e = let z : ◌≡◌ {A = ℕ} 0 1 = cc in absurd (omega arith)
-  called-two (some to_two) e = refl
+  called-two : (c : Option Called) → shape_of (call_of t x p c) ≡ Shape.Operands Fixed.OrValue → c ≡ Some to_two
+  called-two None e = let z : ◌≡◌ {A = ℕ} 0 1 = cc in absurd (omega arith)
+  called-two (Some (to_one g)) e = let z : ◌≡◌ {A = ℕ} 0 1 = cc in absurd (omega arith)
+  called-two (Some to_none) e = let z : ◌≡◌ {A = ℕ} 0 1 = cc in absurd (omega arith)
+  called-two (Some to_two) e = refl
 
   call-does : (g : Expr.Function) (f : Function) → function_shape g ≡ f → expr_of t x p ≡ Expr.call p g (expr_of t x (p + 4)) →
       (limit : ℕ) (s : Scope) (u : Used) (r : Rooms) → Machine.body t limit (expr_of t x p) s u r ≡ fixed_does t x limit p (Fixed.Call f) s u r

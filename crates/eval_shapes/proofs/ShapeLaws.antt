@@ -2,7 +2,7 @@
 use Prim.Native.Nat.{ℕ, ◌+◌, ◌≤◌, ◌<◌}
 use mathlib.Core.Path.{◌≡◌, refl, sym, ◌∙◌, ap}
 use mathlib.Core.List.{List}
-use mathlib.Core.Option.{Option, none, some}
+use Rattle.std.specs.Prelude.{Option, None, Some}
 use native.Mathlib.Omega.{arith}
 use lib.ListN.{get_or}
 use Rattle.meaning.specs.Expr as Expr
@@ -211,10 +211,10 @@ module _ (t : List ℕ) (limit : ℕ) (s : Scope) (u : Used) (r : Rooms) where
 
 module _ (t x : List ℕ) (p : ℕ) where
   called-shape : (c : Option Called) → called_shape c ≡ shape_of (call_of t x p c)
-  called-shape none = refl
-  called-shape (some (to_one f)) = refl
-  called-shape (some to_none) = refl
-  called-shape (some to_two) = refl
+  called-shape None = refl
+  called-shape (Some (to_one f)) = refl
+  called-shape (Some to_none) = refl
+  called-shape (Some to_two) = refl
 
   module _ (s : Sound t x p) where
     pub call-here : get_or t p 0 ≡ 16 → call_shape (get_or t (p + 3) 0) ≡ shape_of (expr_of t x p)

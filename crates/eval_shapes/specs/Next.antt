@@ -1,6 +1,5 @@
 -- A record of fixed operands: what follows the operand that is begun first, and the outcome of both operands.
-use Rattle.std.specs.Prelude.{ℕ}
-use Rattle.std.proofs.Math.Option.{Option, none, some}
+use Rattle.std.specs.Prelude.{ℕ, Option, None, Some}
 use Rattle.rooms.specs.declared.value.Value.{Value}
 use Rattle.rooms.specs.Rooms.{Rooms}
 use Rattle.machine.specs.declared.outcome.Used.{Used}
@@ -15,8 +14,8 @@ use Rattle.eval_shapes.specs.declared.next.Next.{Next}
 use Rattle.eval_outcomes.specs.Seen.{binary_seen}
 
 abbrev pub go_next : Option Used → ℕ → Outcome → Next
-go_next none q o = Next.Stop o
-go_next (some u) q o = Next.At q u
+go_next None q o = Next.Stop o
+go_next (Some u) q o = Next.At q u
 
 abbrev pub ask_next : Asked → ℕ → ℕ → Next
 ask_next (Asked.Holds u) q s = Next.At q u

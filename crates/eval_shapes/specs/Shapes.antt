@@ -1,6 +1,5 @@
 -- Records as the code goes about them: how a record is evaluated, what follows its first operand.
-use Rattle.std.specs.Prelude.{ℕ, ◌+◌, ◌≡◌, List}
-use Rattle.std.proofs.Math.Option.{Option, none, some}
+use Rattle.std.specs.Prelude.{ℕ, ◌+◌, ◌≡◌, List, Option, None, Some}
 use Rattle.meaning.specs.Expr as Expr
 use Rattle.meaning.specs.Expr.{Expr, literal, name, unary, binary, conditional, select, list_of, map_of, comprehension, call, none_call, or_value, LogicalFold}
 use Rattle.meaning.specs.Kinds.{Called, to_one, to_none, to_two, numbered, functions}
@@ -67,10 +66,10 @@ function_shape Expr.has_value_call = Function.HasValue
 function_shape Expr.value_call = Function.Value
 
 abbrev pub called_shape : Option Called → Shape
-called_shape none = Shape.None
-called_shape (some (to_one f)) = Shape.Operands (Fixed.Call (function_shape f))
-called_shape (some to_none) = Shape.None
-called_shape (some to_two) = Shape.Operands Fixed.OrValue
+called_shape None = Shape.None
+called_shape (Some (to_one f)) = Shape.Operands (Fixed.Call (function_shape f))
+called_shape (Some to_none) = Shape.None
+called_shape (Some to_two) = Shape.Operands Fixed.OrValue
 
 -- by its number
 abbrev pub call_shape : ℕ → Shape

@@ -10,7 +10,6 @@ ghost use Rattle.eval_comprehension.specs.Steps.{folds_seen};
 ghost use Rattle.eval_shapes.specs.Comprehensions.{places_at, fold_in, path_of, path_seen, PathIn, items_seen, ItemsIn};
 
 use eval_comprehension::ranges::is_empty_list;
-use eval_comprehension::steps::Folds;
 use eval_outcomes::operators::Fold;
 use rooms::value::Value;
 use table_layout::fields::{number_at, second_at};
@@ -54,97 +53,88 @@ fn is_name(table: &[u8], literal: &[u8], at: usize, name: usize) -> bool
     (number_at(table, at) as usize) == name
 }
 
-fn fold_of(number: u8) -> Folds
+fn fold_of(number: u8) -> Option<Fold>
     ensures { folds_seen result ≡ fold_in (binary_of number) }
 {
     match number {
-        OR => Folds::With(Fold::Or),
-        AND => Folds::With(Fold::And),
-        _ => Folds::No,
+        OR => Some(Fold::Or),
+        AND => Some(Fold::And),
+        _ => None,
     }
 }
 
-pub fn folds_at(table: &[u8], literal: &[u8], step: usize, accumulator: usize) -> Folds
+pub fn folds_at(table: &[u8], literal: &[u8], step: usize, accumulator: usize) -> Option<Fold>
     requires { Sound table.now literal.now step }
     ensures { folds_seen result ≡ of_name accumulator (look (expr_of table.now literal.now step)).folds }
 {
     if kind_at(table, step) != BINARY {
-        return Folds::No;
+        return None;
     }
     if is_name(table, literal, first_operand(table, step), accumulator) {
         fold_of(number_at(table, step))
     } else {
-        Folds::No
+        None
     }
 }
 
 // ---- the append path
 
-// Where the items list stands; the place of a guard comes before it.
+// Where the items list stands, and the guard, if there is one.
 #[derive(Clone, Copy)]
-pub enum Path {
-    Plain(usize),
-    Guarded(usize, usize),
-    No,
+pub struct Appending {
+    pub guard: Option<usize>,
+    pub list: usize,
 }
 
-// A List record that is appended to the accumulator.
-#[derive(Clone, Copy)]
-pub enum Listed {
-    At(usize),
-    No,
-}
-
-// `accumulator + [..]`.
-fn items_of(table: &[u8], literal: &[u8], at: usize, accumulator: usize) -> Listed
+// Of `accumulator + [..]`, where the List record stands.
+fn items_of(table: &[u8], literal: &[u8], at: usize, accumulator: usize) -> Option<usize>
     requires { Sound table.now literal.now at }
     ensures { ((limit : ℕ) → items_seen table.now literal.now limit result ≡ append_sum table.now limit accumulator (expr_of table.now literal.now at)) × ItemsIn table.now literal.now at result }
 {
     if kind_at(table, at) != BINARY {
-        return Listed::No;
+        return None;
     }
     if number_at(table, at) != ADD {
-        return Listed::No;
+        return None;
     }
     let first = first_operand(table, at);
     if !is_name(table, literal, first, accumulator) {
-        return Listed::No;
+        return None;
     }
     let second = end_at(table, first);
     if kind_at(table, second) == LIST {
-        Listed::At(second)
+        Some(second)
     } else {
-        Listed::No
+        None
     }
 }
 
 // `guard ? accumulator + [..] : accumulator`.
-fn guarded_step(table: &[u8], literal: &[u8], step: usize, accumulator: usize) -> Path
+fn guarded_step(table: &[u8], literal: &[u8], step: usize, accumulator: usize) -> Option<Appending>
     requires { Sound table.now literal.now step × (get_or table.now step 0 ≡ kind_byte conditional_kind) }
     ensures { ((limit : ℕ) → path_seen table.now literal.now limit result ≡ append_step table.now limit accumulator (expr_of table.now literal.now step)) × PathIn table.now literal.now step result }
 {
     let guard = first_operand(table, step);
     let then = end_at(table, guard);
     if !is_name(table, literal, end_at(table, then), accumulator) {
-        return Path::No;
+        return None;
     }
-    match items_of(table, literal, then, accumulator) {
-        Listed::At(list) => Path::Guarded(guard, list),
-        Listed::No => Path::No,
-    }
+    let list = items_of(table, literal, then, accumulator)?;
+    Some(Appending {
+        guard: Some(guard),
+        list,
+    })
 }
 
-fn append_step(table: &[u8], literal: &[u8], step: usize, accumulator: usize) -> Path
+fn append_step(table: &[u8], literal: &[u8], step: usize, accumulator: usize) -> Option<Appending>
     requires { Sound table.now literal.now step }
     ensures { ((limit : ℕ) → path_seen table.now literal.now limit result ≡ append_step table.now limit accumulator (expr_of table.now literal.now step)) × PathIn table.now literal.now step result }
 {
     if kind_at(table, step) == CONDITIONAL {
         return guarded_step(table, literal, step, accumulator);
     }
-    match items_of(table, literal, step, accumulator) {
-        Listed::At(list) => Path::Plain(list),
-        Listed::No => Path::No,
-    }
+    let list = items_of(table, literal, step, accumulator)?;
+    Some(Appending { guard: None, list })
 }
 
 fn is_literal(table: &[u8], literal: &[u8], at: usize) -> bool
@@ -155,19 +145,19 @@ fn is_literal(table: &[u8], literal: &[u8], at: usize) -> bool
 }
 
 // From an empty list, with a literal for a condition and the accumulator for a result.
-pub fn append_path(table: &[u8], literal: &[u8], places: Places, start: Value) -> Path
+pub fn append_path(table: &[u8], literal: &[u8], places: Places, start: Value) -> Option<Appending>
     requires { Sound table.now literal.now places.condition × Sound table.now literal.now places.step × Sound table.now literal.now places.result }
     ensures { ((limit : ℕ) → path_seen table.now literal.now limit result ≡ path_of table.now literal.now limit places start) × PathIn table.now literal.now places.step result }
 {
     if !is_empty_list(start) {
-        return Path::No;
+        return None;
     }
     if !is_literal(table, literal, places.condition) {
-        return Path::No;
+        return None;
     }
     let accumulator = places.accumulator;
     if !is_name(table, literal, places.result, accumulator) {
-        return Path::No;
+        return None;
     }
     append_step(table, literal, places.step, accumulator)
 }

@@ -6,11 +6,12 @@ ghost use Rattle.table_layout.specs.Layout.{word_at};
 ghost use Rattle.table_check.specs.Records.{Sound, SoundPart, expr_of, kind_byte};
 ghost use Rattle.machine.specs.Literals.{name_out};
 ghost use Rattle.eval_shapes.specs.Leaves.{leaf_kinds, literal_of, slot_in, leaf_out, leaf_step, unmarked_at};
+ghost use Rattle.rooms.specs.Spans.{span};
 
 use eval_outcomes::outcomes::{out_of_steps, stepped};
 use machine::outcome::{Error, Outcome, Used};
 use rooms::scope::Slot;
-use rooms::value::{TextSpace, Value};
+use rooms::value::{Span, TextSpace, Value};
 use table_layout::fields::{number_at, span_at};
 use table_layout::kinds::{BOOL, BYTES, DOUBLE, INT, MARK, NAME, STRING, UINT};
 use table_layout::number_literals::{bits_at, int_at};
@@ -20,23 +21,20 @@ use table_layout::outline::{first_operand, kind_at};
 pub const LEAF_KINDS: u8 = 8;
 
 // What is kept of a part of the literal text: both numbers are words of the table.
-fn string_at(table: &[u8], at: usize) -> Value
+fn literal_span(table: &[u8], at: usize) -> Span
     requires { at + 7 ≤ length table.now }
-    ensures { result ≡ Value.String TextSpace.Literal (word_at table.now (at + 3)) (word_at table.now (at + 5)) }
+    ensures { result ≡ span TextSpace.Literal (word_at table.now (at + 3)) (word_at table.now (at + 5)) }
 {
     let span = span_at(table, at);
-    Value::String(TextSpace::Literal, span.offset as u16, span.size as u16)
+    Span {
+        space: TextSpace::Literal,
+        first: span.offset as u16,
+        length: span.size as u16,
+    }
 }
 
-fn bytes_at(table: &[u8], at: usize) -> Value
-    requires { at + 7 ≤ length table.now }
-    ensures { result ≡ Value.Bytes TextSpace.Literal (word_at table.now (at + 3)) (word_at table.now (at + 5)) }
-{
-    let span = span_at(table, at);
-    Value::Bytes(TextSpace::Literal, span.offset as u16, span.size as u16)
-}
-
-// What a literal's record spells.
+// What a literal's record spells. Not the `literal_at` of bindings_literals: that takes any record and gives absent for one that is no literal, and
+// here it is known from the table's soundness that the record is one.
 fn literal_at(table: &[u8], literal: &[u8], at: usize, kind: u8) -> Value
     requires { Sound table.now literal.now at × (get_or table.now at 0 ≡ kind) × (kind < kind_byte name_kind) }
     ensures { result ≡ literal_of table.now (expr_of table.now literal.now at) }
@@ -46,8 +44,8 @@ fn literal_at(table: &[u8], literal: &[u8], at: usize, kind: u8) -> Value
         INT => Value::Int(int_at(table, at)),
         UINT => Value::Uint(bits_at(table, at)),
         DOUBLE => rooms::value::double_value(bits_at(table, at)),
-        STRING => string_at(table, at),
-        BYTES => bytes_at(table, at),
+        STRING => Value::String(literal_span(table, at)),
+        BYTES => Value::Bytes(literal_span(table, at)),
         _ => Value::Null,
     }
 }

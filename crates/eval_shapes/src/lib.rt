@@ -23,7 +23,8 @@ use table_layout::kinds::{
 };
 use table_layout::outline::{end_at, first_operand, kind_at};
 
-// No accepted table has other numbers than these; any other number is read as `!`, or as `==`.
+// No accepted table has other numbers than these; any other number is read as `!`, or as `==`. Functions, and no From<u8>: that would have to stand
+// with the operators in eval_outcomes, which knows no numbers of a table.
 pub fn unary_of(number: u8) -> Unary
     ensures { unary_seen result ≡ unary_of number }
 {

@@ -19,7 +19,8 @@ pub enum Fixed {
     OrValue,
 }
 
-// The place of another operand to begin, or the answer.
+// The place of another operand to begin, or the answer. Not a Result: the answer is no failure, and nobody hands it on with `?`, since what calls for
+// the next operand gives an Outcome either way.
 #[derive(Clone, Copy)]
 pub enum Next {
     At(usize, Used),
@@ -41,7 +42,6 @@ pub fn after_default(default: Outcome, target: usize) -> Next
 {
     match default {
         Outcome::Value(_, used) => Next::At(target, used),
-        Outcome::Error(error, place, used) => Next::Stop(Outcome::Error(error, place, used)),
-        Outcome::Exhausted(which, used) => Next::Stop(Outcome::Exhausted(which, used)),
+        _ => Next::Stop(default),
     }
 }

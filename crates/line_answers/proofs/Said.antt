@@ -3,7 +3,7 @@
 use Prim.Native.Nat.{ℕ}
 use mathlib.Core.Path.{◌≡◌, refl, ap, subst}
 use mathlib.Core.List.{List, ◌++◌}
-use mathlib.Core.Option.{Option, none, some}
+use Rattle.std.specs.Prelude.{Option, None, Some}
 use Rattle.meaning.specs.Limits.{Counts}
 use Rattle.meaning.specs.Value as Meaning
 use Rattle.meaning.specs.Limited as Limited
@@ -23,18 +23,18 @@ use Rattle.line_answers.specs.Shown.{shown_answer}
 
 abbrev Shows : Told → List ℕ → Type 0
 Shows (refused n place) s = s ≡ ascii "Refused " ++ placed n place
-Shows (value none c) s = Unit {0}
-Shows (value (some v) c) s = s ≡ shortened longest_value (written v) ++ counted c
+Shows (value None c) s = Unit {0}
+Shows (value (Some v) c) s = s ≡ shortened longest_value (written v) ++ counted c
 Shows (error n place c) s = s ≡ ascii "Error " ++ placed n place ++ counted c
 Shows (Told.exhausted x c) s = s ≡ exhausted x ++ counted c
 
 value-told : (left : Rooms) (m : Value) (c : Counts) (x : Option Meaning.Value) → reading left m ≡ x → Shows (value x c) (shortened longest_value (shown_in left m) ++ counted c)
-value-told left m c none h = tt
-value-told left m c (some v) h = ap (λ s. shortened longest_value s ++ counted c) (shown-written left m v h)
+value-told left m c None h = tt
+value-told left m c (Some v) h = ap (λ s. shortened longest_value s ++ counted c) (shown-written left m v h)
 
 answer-told : (left : Rooms) (a : Answer) → Shows (told left a) (shown_answer left a)
 unfolding shown_answer
-answer-told left (Answer.Refused n place) = refl
+answer-told left (Answer.Refused f) = refl
 answer-told left (Answer.Value m u) = value-told left m (counts_used u) (reading left m) refl
 answer-told left (Answer.Error e place u) = refl
 answer-told left (Answer.Exhausted x u) = refl

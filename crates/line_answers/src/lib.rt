@@ -14,7 +14,8 @@ use crate::phrases::{put_counts, put_limit, put_placed};
 use crate::shortening::put_cut;
 use answer::Answer;
 use answer::reasons::error_number;
-use line_pieces::put_word;
+use line_pieces::Writer;
+use rooms::memory::View;
 
 // So much of a value is shown.
 pub const LONGEST_VALUE: usize = 1000000;
@@ -23,6 +24,7 @@ pub const LONGEST_VALUE: usize = 1000000;
 pub const LONGEST_LINE: usize = 1000128;
 
 // The answer at the start of `out`, without the end of the line; says how long it is.
+#[tactic(auto, using(crate::proofs::Steps::refused_put, crate::proofs::Steps::value_put, crate::proofs::Steps::error_put, crate::proofs::Steps::exhausted_put))]
 pub fn put_answer(
     literal: &[u8],
     binding_cells: &[u64],
@@ -34,32 +36,33 @@ pub fn put_answer(
 ) -> usize
     ensures { ◌≡◌ {A = Page} (result, out.new) (puts (shown_answer (rooms literal.now binding_cells.now binding_text.now cells.now text.now) answer) (0, out.old)) }
 {
+    // Both programs hold the five rooms as slices of their own, so the view is made once, here.
+    let view = View {
+        literal,
+        binding_cells,
+        binding_text,
+        cells,
+        text,
+    };
+    let mut page = Writer { out, at: 0 };
     match answer {
-        Answer::Refused(number, place) => {
-            let next = put_word(out, 0, b"Refused ");
-            put_placed(out, next, number, place)
+        Answer::Refused(refusal) => {
+            page.put_word(b"Refused ");
+            put_placed(&mut page, refusal.reason.number(), refusal.place);
         }
         Answer::Value(value, used) => {
-            let next = put_cut(
-                literal,
-                binding_cells,
-                binding_text,
-                cells,
-                text,
-                value,
-                LONGEST_VALUE,
-                out,
-            );
-            put_counts(out, next, used)
+            page.at = put_cut(&view, value, LONGEST_VALUE, page.out);
+            put_counts(&mut page, used);
         }
         Answer::Error(error, place, used) => {
-            let next = put_word(out, 0, b"Error ");
-            let after = put_placed(out, next, error_number(error), place);
-            put_counts(out, after, used)
+            page.put_word(b"Error ");
+            put_placed(&mut page, error_number(error), place);
+            put_counts(&mut page, used);
         }
         Answer::Exhausted(limit, used) => {
-            let next = put_limit(out, 0, limit);
-            put_counts(out, next, used)
+            put_limit(&mut page, limit);
+            put_counts(&mut page, used);
         }
     }
+    page.at
 }

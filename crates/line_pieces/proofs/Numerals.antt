@@ -1,8 +1,8 @@
 -- Numbers as text, a digit after the other. Assumes nothing.
-use Prim.Native.Nat.{ℕ, zero, suc, ◌+◌, ◌-◌, ◌/◌, ◌%◌, ◌^◌, ◌≤◌, ◌<◌}
-use mathlib.Core.Path.{◌≡◌, sym, ap, ◌∙◌}
+use Prim.Native.Nat.{ℕ, zero, suc, ◌-◌, ◌/◌, ◌%◌, ◌^◌, ◌≤◌, ◌<◌}
+use mathlib.Core.Path.{◌≡◌, refl, sym, ap, ◌∙◌}
 use mathlib.Core.Bool.{true, false, cond, true≢false}
-use mathlib.Core.List.{List, [], ◌∷◌, ◌++◌}
+use mathlib.Core.List.{[], ◌∷◌, ◌++◌}
 use native.Mathlib.Omega.{arith}
 use lib.Dec.{ltb}
 use lib.IntN.{ℤ, pos, negsuc, nat_abs}
@@ -10,32 +10,22 @@ use lib.Signed.{lt_z}
 use borrow.Author.Tests.{lt-ltb, le-ltb, ltb-true}
 use Rattle.line_pieces.specs.Page.{Page, put, puts}
 use Rattle.line_pieces.specs.Spelled.{digit_of, hexadecimal, decimal_to, decimal, signed}
-use Rattle.line_pieces.proofs.Putting.{puts_one, puts_none, puts-joined}
-
-pub digit_low : (d : ℕ) → d < 10 → 48 + d ≡ digit_of d
-digit_low d h = ap (λ t. cond t (48 + d) (55 + d)) (sym (lt-ltb d 10 h))
-
-pub digit-high : (d : ℕ) → 10 ≤ d → 55 + d ≡ digit_of d
-digit-high d h = ap (λ t. cond t (48 + d) (55 + d)) (sym (le-ltb d 10 h))
-
--- a last digit after what was put before
-last-digit : (s : List ℕ) (x d : ℕ) (p q r : Page) → q ≡ puts s p → d ≡ digit_of x → r ≡ put d q → r ≡ puts (s ++ digit_of x ∷ []) p
-last-digit s x d p q r e f g =
-    g ∙ (λ i. put (f i) (e i)) ∙ sym (puts_one (digit_of x) (puts s p)) ∙ sym (puts-joined s (digit_of x ∷ []) p)
+use Rattle.line_pieces.proofs.Putting.{puts_joined}
 
 -- ---- hexadecimal
 
-one_more : (n : ℕ) → (n ≡ 0 → ⊥) → suc (n - 1) ≡ n
-one_more n h = omega arith
+pub digits_none : (x : ℕ) (p : Page) → puts (hexadecimal 0 x) p ≡ p
+unfolding puts hexadecimal
+digits_none x p = refl
 
-pub digits-none : (n x : ℕ) (p : Page) → n ≡ 0 → p ≡ puts (hexadecimal n x) p
-unfolding hexadecimal
-digits-none n x p h = sym (puts_none p) ∙ ap (λ k. puts (hexadecimal k x) p) (sym h)
+one-less : (n : ℕ) → n ≡ suc n - 1
+one-less n = omega arith
 
-pub digits_more : (n x d : ℕ) (p q r : Page) → (n ≡ 0 → ⊥) → q ≡ puts (hexadecimal (n - 1) (x / 16)) p → d ≡ digit_of (x % 16) → r ≡ put d q → r ≡ puts (hexadecimal n x) p
-unfolding hexadecimal
-digits_more n x d p q r h e f g =
-    last-digit (hexadecimal (n - 1) (x / 16)) (x % 16) d p q r e f g ∙ ap (λ k. puts (hexadecimal k x) p) (one_more n h)
+-- the last digit comes after the others
+pub digits_last : (n x : ℕ) (p : Page) → (n ≡ 0 → ⊥) → puts (hexadecimal n x) p ≡ put (digit_of (x % 16)) (puts (hexadecimal (n - 1) (x / 16)) p)
+unfolding puts hexadecimal
+digits_last zero x p h = absurd (h refl)
+digits_last (suc n) x p h = puts_joined (hexadecimal n (x / 16)) (digit_of (x % 16) ∷ []) p ∙ ap (λ k. put (digit_of (x % 16)) (puts (hexadecimal k (x / 16)) p)) (one-less n)
 
 -- ---- decimal
 
@@ -48,30 +38,31 @@ unfolding decimal_to
 room-enough zero x h = ap (λ t. cond t (digit_of x ∷ []) (decimal_to 0 (x / 10) ++ digit_of (x % 10) ∷ [])) (lt-ltb x 10 h) ∙ ap (λ t. cond t (digit_of x ∷ []) (decimal_to 1 (x / 10) ++ digit_of (x % 10) ∷ [])) (sym (lt-ltb x 10 h))
 room-enough (suc n) x h = ap (λ s. cond (ltb x 10) (digit_of x ∷ []) (s ++ digit_of (x % 10) ∷ [])) (room-enough n (x / 10) (tenth (suc n) x h))
 
-pub number-one : (x d : ℕ) (p r : Page) → x < 10 → d ≡ digit_of x → r ≡ put d p → r ≡ puts (decimal x) p
-unfolding decimal decimal_to
-number-one x d p r h f g =
-    g ∙ ap (λ b. put b p) f ∙ sym (puts_one (digit_of x) p)
-    ∙ ap (λ t. puts (cond t (digit_of x ∷ []) (decimal_to 19 (x / 10) ++ digit_of (x % 10) ∷ [])) p) (sym (lt-ltb x 10 h))
+pub number_one : (x : ℕ) (p : Page) → x < 10 → puts (decimal x) p ≡ put (digit_of (x % 10)) p
+unfolding puts decimal decimal_to
+number_one x p h =
+    ap (λ t. puts (cond t (digit_of x ∷ []) (decimal_to 19 (x / 10) ++ digit_of (x % 10) ∷ [])) p) (lt-ltb x 10 h)
+    ∙ ap (λ d. put (digit_of d) p) (omega arith)
 
-pub number_more : (x d : ℕ) (p q r : Page) → 10 ≤ x → x < 2 ^ 64 → q ≡ puts (decimal (x / 10)) p → d ≡ digit_of (x % 10) → r ≡ put d q → r ≡ puts (decimal x) p
-unfolding decimal decimal_to
-number_more x d p q r h b e f g =
-    last-digit (decimal (x / 10)) (x % 10) d p q r e f g
-    ∙ ap (λ s. puts (s ++ digit_of (x % 10) ∷ []) p) (sym (room-enough 18 (x / 10) (omega arith)))
-    ∙ ap (λ t. puts (cond t (digit_of x ∷ []) (decimal_to 19 (x / 10) ++ digit_of (x % 10) ∷ [])) p) (sym (le-ltb x 10 h))
+-- the last digit comes after the others
+pub number_more : (x : ℕ) (p : Page) → 10 ≤ x → x < 2 ^ 64 → puts (decimal x) p ≡ put (digit_of (x % 10)) (puts (decimal (x / 10)) p)
+unfolding puts decimal decimal_to
+number_more x p h b =
+    ap (λ t. puts (cond t (digit_of x ∷ []) (decimal_to 19 (x / 10) ++ digit_of (x % 10) ∷ [])) p) (le-ltb x 10 h)
+    ∙ ap (λ s. puts (s ++ digit_of (x % 10) ∷ []) p) (room-enough 18 (x / 10) (omega arith))
+    ∙ puts_joined (decimal_to 20 (x / 10)) (digit_of (x % 10) ∷ []) p
 
 -- ---- with a sign
 
-pub signed-negative : (z : ℤ) (n : ℕ) (p q r : Page) → lt_z z (pos 0) ≡ true → n ≡ nat_abs z → q ≡ put 45 p → r ≡ puts (decimal n) q → r ≡ puts (signed z) p
+pub signed_negative : (z : ℤ) (p : Page) → lt_z z (pos 0) ≡ true → puts (signed z) p ≡ puts (decimal (nat_abs z)) (put 45 p)
 unfolding signed puts
-signed-negative (pos n) m p q r t e f g = absurd (never n (ltb-true n 0 t))
+signed_negative (pos n) p t = absurd (never n (ltb-true n 0 t))
   where
     never : (n : ℕ) → n < 0 → ⊥
     never n h = omega arith
-signed-negative (negsuc n) m p q r t e f g = g ∙ (λ i. puts (decimal (e i)) (f i))
+signed_negative (negsuc n) p t = refl
 
-pub signed-positive : (z : ℤ) (n : ℕ) (p r : Page) → lt_z z (pos 0) ≡ false → n ≡ nat_abs z → r ≡ puts (decimal n) p → r ≡ puts (signed z) p
+pub signed_positive : (z : ℤ) (p : Page) → lt_z z (pos 0) ≡ false → puts (signed z) p ≡ puts (decimal (nat_abs z)) p
 unfolding signed
-signed-positive (pos n) m p r t e g = g ∙ ap (λ k. puts (decimal k) p) e
-signed-positive (negsuc n) m p r t e g = absurd (true≢false t)
+signed_positive (pos n) p t = refl
+signed_positive (negsuc n) p t = absurd (true≢false t)

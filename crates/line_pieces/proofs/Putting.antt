@@ -5,8 +5,8 @@ use mathlib.Core.Bool.{Bool, true, false, cond}
 use mathlib.Core.List.{List, [], ◌∷◌, ◌++◌}
 use native.Mathlib.Numerals.{add-one}
 use lib.Dec.{ltb}
-use lib.ListN.{length, set, length-set, get_or, drop, drop_of_length-le}
-use lib.Seq.{drop-cons}
+use lib.ListN.{length, set, length-set, get_or, take}
+use lib.Seq.{take-suc}
 use borrow.Author.Tests.{lt-ltb, le-ltb, ltb-true}
 use Rattle.line_pieces.specs.Page.{Page, put, puts}
 
@@ -30,22 +30,22 @@ pub puts_none : (p : Page) → puts [] p ≡ p
 unfolding puts
 puts_none p = refl
 
-pub puts-joined : (s t : List ℕ) (p : Page) → puts (s ++ t) p ≡ puts t (puts s p)
+pub puts_joined : (s t : List ℕ) (p : Page) → puts (s ++ t) p ≡ puts t (puts s p)
 unfolding puts
-puts-joined [] t p = refl
-puts-joined (b ∷ s) t p = puts-joined s t (put b p)
+puts_joined [] t p = refl
+puts_joined (b ∷ s) t p = puts_joined s t (put b p)
 
 pub puts-two : (s t : List ℕ) (p q r : Page) → q ≡ puts s p → r ≡ puts t q → r ≡ puts (s ++ t) p
-puts-two s t p q r e f = f ∙ ap (puts t) e ∙ sym (puts-joined s t p)
+puts-two s t p q r e f = f ∙ ap (puts t) e ∙ sym (puts_joined s t p)
 
 pub puts-three : (s t u : List ℕ) (p q l r : Page) → q ≡ puts s p → l ≡ puts t q → r ≡ puts u l → r ≡ puts (s ++ t ++ u) p
 puts-three s t u p q l r e f g = puts-two (s ++ t) u p l r (puts-two s t p q l e f) g
 
 -- where the memory is full nothing is put
-pub puts-full : (s : List ℕ) (at : ℕ) (out : List ℕ) → length out ≤ at → ◌≡◌ {A = Page} (at, out) (puts s (at, out))
+pub puts_full : (s : List ℕ) (p : Page) → length p.1 ≤ p.0 → puts s p ≡ p
 unfolding puts
-puts-full [] at out h = refl
-puts-full (b ∷ s) at out h = puts-full s at out h ∙ ap (puts s) (put-out b at out h)
+puts_full [] p h = refl
+puts_full (b ∷ s) p h = ap (puts s) (sym (put-out b p.0 p.1 h)) ∙ puts_full s p h
 
 -- ---- lengths
 
@@ -71,12 +71,8 @@ unfolding put puts
 puts-within [] p h = h
 puts-within (b ∷ s) p h = puts-within s (put b p) (put-within (ltb p.0 (length p.1)) b p.0 p.1 refl h)
 
--- ---- the turns of a loop over a text
+-- ---- a turn of a loop over a text
 
-pub word_on : (w : List ℕ) (i : ℕ) (p q : Page) → i < length w → q ≡ put (get_or w i 0) p → puts (drop (i + 1) w) q ≡ puts (drop i w) p
+pub word_on : (w : List ℕ) (i : ℕ) (p : Page) → i < length w → puts (take (i + 1) w) p ≡ put (get_or w i 0) (puts (take i w) p)
 unfolding puts
-word_on w i p q h e = (λ j. puts (drop (add-one i j) w) (e j)) ∙ ap (λ s. puts s p) (sym (drop-cons w i 0 h))
-
-pub word_over : (w : List ℕ) (i : ℕ) (p : Page) → length w ≤ i → p ≡ puts (drop i w) p
-unfolding puts
-word_over w i p h = ap (λ s. puts s p) (sym (drop_of_length-le w h))
+word_on w i p h = ap (λ s. puts s p) (ap (λ k. take k w) (add-one i) ∙ take-suc w i 0 h) ∙ puts_joined (take i w) (get_or w i 0 ∷ []) p

@@ -1,68 +1,47 @@
--- Quoted text: which bytes stand for themselves, and the loop over a text. Assumes nothing.
-use Prim.Native.Nat.{ℕ, suc, ◌+◌, ◌≤◌, ◌<◌}
+-- Quoted text: a byte as it is written, and the loop over a text. Assumes nothing.
+use Prim.Native.Nat.{ℕ, ◌+◌, ◌≤◌, ◌<◌}
 use mathlib.Core.Path.{◌≡◌, refl, sym, ap, ◌∙◌}
-use mathlib.Core.Bool.{Bool, true, false, cond, ◌&&◌, not}
-use mathlib.Core.List.{List, [], ◌∷◌, ◌++◌}
+use mathlib.Core.Bool.{true, false, cond}
+use mathlib.Core.List.{List, [], ◌∷◌, ◌++◌, append-nil, append_assoc}
 use native.Mathlib.Numerals.{add-one}
-use lib.Dec.{leb, eqb}
-use lib.ListN.{length, get_or, drop, drop_of_length-le}
-use lib.Seq.{drop-cons}
-use borrow.Author.Tests.{le-leb, lt-leb, eq-eqb, ne_eqb}
+use lib.ListN.{length, get_or, take}
+use lib.Seq.{take-suc, take_all}
 use Rattle.line_pieces.specs.Page.{Page, put, puts}
 use Rattle.line_pieces.specs.Spelled.{ascii, hexadecimal, is_plain, escaped, escaped_all, quoted}
-use Rattle.line_pieces.proofs.Putting.{puts_one, puts-joined}
+use Rattle.line_pieces.proofs.Putting.{puts_joined}
 
--- ---- a byte that stands for itself
+-- ---- a byte
 
-second-fails : (s u v : Bool) → (s && false && u && v) ≡ false
-second-fails true u v = refl
-second-fails false u v = refl
+pub escaped_plain : (b : ℕ) (p : Page) → is_plain b ≡ true → puts (escaped b) p ≡ put b p
+unfolding escaped puts
+escaped_plain b p e = ap (λ t. puts (cond t (b ∷ []) (ascii "\\x" ++ hexadecimal 2 b)) p) e
 
-third-fails : (s t v : Bool) → (s && t && false && v) ≡ false
-third-fails true true v = refl
-third-fails true false v = refl
-third-fails false t v = refl
-
-pub plain-low : (b : ℕ) → b < 32 → false ≡ is_plain b
-plain-low b h = ap (λ t. t && leb b 126 && not (eqb b 34) && not (eqb b 92)) (sym (lt-leb 32 b h))
-
-pub plain-high : (b : ℕ) → 126 < b → false ≡ is_plain b
-plain-high b h = sym (second-fails (leb 32 b) (not (eqb b 34)) (not (eqb b 92))) ∙ ap (λ t. leb 32 b && t && not (eqb b 34) && not (eqb b 92)) (sym (lt-leb b 126 h))
-
-pub plain-quote : (b : ℕ) → b ≡ 34 → false ≡ is_plain b
-plain-quote b h = sym (third-fails (leb 32 b) (leb b 126) (not (eqb b 92))) ∙ ap (λ t. leb 32 b && leb b 126 && not t && not (eqb b 92)) (sym (eq-eqb b 34 h))
-
-pub plain_other : (b : ℕ) → 32 ≤ b → b ≤ 126 → (b ≡ 34 → ⊥) → not (eqb b 92) ≡ is_plain b
-plain_other b h k n = λ i. sym (le-leb 32 b h) i && sym (le-leb b 126 k) i && not (sym (ne_eqb b 34 n) i) && not (eqb b 92)
-
--- ---- a byte as it is written
-
-pub escaped-plain : (t : Bool) (b : ℕ) (p r : Page) → t ≡ is_plain b → t ≡ true → r ≡ put b p → r ≡ puts (escaped b) p
+pub escaped_other : (b : ℕ) (p : Page) → is_plain b ≡ false → puts (escaped b) p ≡ puts (hexadecimal 2 b) (puts (ascii "\\x") p)
 unfolding escaped
-escaped-plain t b p r e h g = g ∙ sym (puts_one b p) ∙ ap (λ u. puts (cond u (b ∷ []) (ascii "\\x" ++ hexadecimal 2 b)) p) (sym h ∙ e)
-
-pub escaped-other : (t : Bool) (b : ℕ) (p q r : Page) → t ≡ is_plain b → t ≡ false → q ≡ puts (ascii "\\x") p → r ≡ puts (hexadecimal 2 b) q → r ≡ puts (escaped b) p
-unfolding escaped
-escaped-other t b p q r e h f g =
-    g ∙ ap (puts (hexadecimal 2 b)) f ∙ sym (puts-joined (ascii "\\x") (hexadecimal 2 b) p)
-    ∙ ap (λ u. puts (cond u (b ∷ []) (ascii "\\x" ++ hexadecimal 2 b)) p) (sym h ∙ e)
+escaped_other b p e = ap (λ t. puts (cond t (b ∷ []) (ascii "\\x" ++ hexadecimal 2 b)) p) e ∙ puts_joined (ascii "\\x") (hexadecimal 2 b) p
 
 -- ---- a text
 
-pub escapes-on : (s : List ℕ) (i : ℕ) (p q : Page) → i < length s → q ≡ puts (escaped (get_or s i 0)) p → puts (escaped_all (drop (i + 1) s)) q ≡ puts (escaped_all (drop i s)) p
+all-joined : (s t : List ℕ) → escaped_all (s ++ t) ≡ escaped_all s ++ escaped_all t
 unfolding escaped_all
-escapes-on s i p q h e =
-    (λ j. puts (escaped_all (drop (add-one i j) s)) (e j))
-    ∙ sym (puts-joined (escaped (get_or s i 0)) (escaped_all (drop (suc i) s)) p)
-    ∙ ap (λ t. puts (escaped_all t) p) (sym (drop-cons s i 0 h))
+all-joined [] t = refl
+all-joined (b ∷ s) t = ap (λ u. escaped b ++ u) (all-joined s t) ∙ sym (append_assoc (escaped b) (escaped_all s) (escaped_all t))
 
-pub escapes-over : (s : List ℕ) (i : ℕ) (p : Page) → length s ≤ i → p ≡ puts (escaped_all (drop i s)) p
+all-one : (b : ℕ) → escaped_all (b ∷ []) ≡ escaped b
+unfolding escaped_all
+all-one b = append-nil (escaped b)
+
+pub escapes_none : (p : Page) → puts (escaped_all []) p ≡ p
 unfolding escaped_all puts
-escapes-over s i p h = ap (λ t. puts (escaped_all t) p) (sym (drop_of_length-le s h))
+escapes_none p = refl
 
-pub quoted-whole : (s : List ℕ) (p q l r : Page) → q ≡ put 34 p → l ≡ puts (escaped_all s) q → r ≡ put 34 l → r ≡ puts (quoted s) p
-unfolding quoted
-quoted-whole s p q l r e f g =
-    g ∙ sym (puts_one 34 l)
-    ∙ ap (puts (34 ∷ [])) (f ∙ ap (puts (escaped_all s)) (e ∙ sym (puts_one 34 p)) ∙ sym (puts-joined (34 ∷ []) (escaped_all s) p))
-    ∙ sym (puts-joined (34 ∷ [] ++ escaped_all s) (34 ∷ []) p)
+pub escapes_on : (s : List ℕ) (i : ℕ) (p : Page) → i < length s → puts (escaped_all (take (i + 1) s)) p ≡ puts (escaped (get_or s i 0)) (puts (escaped_all (take i s)) p)
+escapes_on s i p h =
+    ap (λ t. puts (escaped_all t) p) (ap (λ k. take k s) (add-one i) ∙ take-suc s i 0 h)
+    ∙ ap (λ t. puts t p) (all-joined (take i s) (get_or s i 0 ∷ []) ∙ ap (λ t. escaped_all (take i s) ++ t) (all-one (get_or s i 0)))
+    ∙ puts_joined (escaped_all (take i s)) (escaped (get_or s i 0)) p
+
+-- with the quotes, once the whole text was gone over
+pub quoted_whole : (s : List ℕ) (i : ℕ) (p : Page) → length s ≤ i → puts (quoted s) p ≡ put 34 (puts (escaped_all (take i s)) (put 34 p))
+unfolding quoted puts
+quoted_whole s i p h = puts_joined (escaped_all s) (34 ∷ []) (put 34 p) ∙ ap (λ t. put 34 (puts (escaped_all t) (put 34 p))) (sym (take_all i s h))

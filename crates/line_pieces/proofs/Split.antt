@@ -6,7 +6,7 @@ use native.Mathlib.Omega.{arith}
 use lib.ListN.{length, take, drop, length-append}
 use lib.Seq.{set-append_seam}
 use Rattle.line_pieces.specs.Page.{put, puts, between}
-use Rattle.line_pieces.proofs.Putting.{put_in, puts-full}
+use Rattle.line_pieces.proofs.Putting.{put_in, puts_full}
 
 -- what stood there does not matter
 pub put-between : (c d : ℕ) (w b : List ℕ) → put c (between w (d ∷ b)) ≡ between (w ++ c ∷ []) b
@@ -24,7 +24,7 @@ pub puts-between : (s w b : List ℕ) → puts s (between w b) ≡ between (w ++
 unfolding puts
 puts-between [] w [] = nothing-more w []
 puts-between [] w (d ∷ b) = nothing-more w (d ∷ b)
-puts-between (c ∷ s) w [] = sym (puts-full (c ∷ s) (length w) (w ++ []) (no_room w)) ∙ nothing-more w []
+puts-between (c ∷ s) w [] = puts_full (c ∷ s) (length w, w ++ []) (no_room w) ∙ nothing-more w []
 puts-between (c ∷ s) w (d ∷ b) =
     ap (puts s) (put-between c d w b) ∙ puts-between s (w ++ c ∷ []) b ∙ ap (λ x. between x (drop (length s) b)) (append_assoc w (c ∷ []) (take (length b) s))
 

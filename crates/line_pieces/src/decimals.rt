@@ -1,41 +1,31 @@
 // Numbers in decimal digits, put into lent memory.
-ghost use Rattle.std.specs.Prelude.{◌≡◌, nat_abs};
-ghost use Rattle.line_pieces.specs.Page.{Page};
 ghost use Rattle.line_pieces.specs.Page.{puts as Page·puts};
 ghost use Rattle.line_pieces.specs.Spelled.{decimal, signed};
+ghost use Rattle.line_pieces.specs.Writes.{Writes};
 
+use crate::Writer;
 use crate::hexadecimal::digit;
-use crate::put;
 
-// In decimal digits.
-pub fn put_number(out: &mut [u8], at: usize, number: u64) -> usize
-    ensures { ◌≡◌ {A = Page} (result, out.new) (Page·puts (decimal number) (at, out.old)) }
-{
-    if number < 10 {
-        return put(out, at, digit(number));
+// Kept (d): std's `write!` says what it put only where it returns `Ok`, which no clause promises; these contracts hold on every input.
+impl Writer<'_> {
+    // In decimal digits.
+    #[tactic(auto, using(crate::proofs::Numerals::number_one, crate::proofs::Numerals::number_more))]
+    pub fn put_number(&mut self, number: u64)
+        ensures { Writes self.old self.new (λ p. Page·puts (decimal number) p) }
+    {
+        if 10 <= number {
+            self.put_number(number / 10);
+        }
+        self.put(digit(number % 10));
     }
-    let next = put_number(out, at, number / 10);
-    put(out, next, digit(number % 10))
-}
 
-// The size of a number without its sign: the least Int has one too.
-fn size_of(number: i64) -> u64
-    ensures { result ≡ nat_abs number }
-{
-    if number < 0 {
-        ((-(number + 1)) as u64) + 1
-    } else {
-        number as u64
+    #[tactic(auto, using(crate::proofs::Numerals::signed_negative, crate::proofs::Numerals::signed_positive))]
+    pub fn put_signed(&mut self, number: i64)
+        ensures { Writes self.old self.new (λ p. Page·puts (signed number) p) }
+    {
+        if number < 0 {
+            self.put(b'-');
+        }
+        self.put_number(number.unsigned_abs());
     }
-}
-
-pub fn put_signed(out: &mut [u8], at: usize, number: i64) -> usize
-    ensures { ◌≡◌ {A = Page} (result, out.new) (Page·puts (signed number) (at, out.old)) }
-{
-    let size = size_of(number);
-    if number < 0 {
-        let next = put(out, at, b'-');
-        return put_number(out, next, size);
-    }
-    put_number(out, at, size)
 }

@@ -1,10 +1,10 @@
 // Hexadecimal digits, put into lent memory one behind the other.
 ghost use Rattle.std.specs.Prelude.{◌≡◌, ◌<◌};
-ghost use Rattle.line_pieces.specs.Page.{Page};
 ghost use Rattle.line_pieces.specs.Page.{puts as Page·puts};
 ghost use Rattle.line_pieces.specs.Spelled.{digit_of, hexadecimal};
+ghost use Rattle.line_pieces.specs.Writes.{Writes};
 
-use crate::put;
+use crate::Writer;
 
 // 0 to 9, A to F.
 pub fn digit(number: u64) -> u8
@@ -18,13 +18,16 @@ pub fn digit(number: u64) -> u8
     }
 }
 
-// The last `count` hexadecimal digits of a number.
-pub fn put_digits(out: &mut [u8], at: usize, number: u64, count: usize) -> usize
-    ensures { ◌≡◌ {A = Page} (result, out.new) (Page·puts (hexadecimal count number) (at, out.old)) }
-{
-    if count == 0 {
-        return at;
+impl Writer<'_> {
+    // The last `count` hexadecimal digits of a number.
+    #[tactic(auto, using(crate::proofs::Numerals::digits_none, crate::proofs::Numerals::digits_last))]
+    pub fn put_digits(&mut self, number: u64, count: usize)
+        ensures { Writes self.old self.new (λ p. Page·puts (hexadecimal count number) p) }
+    {
+        if count == 0 {
+            return;
+        }
+        self.put_digits(number / 16, count - 1);
+        self.put(digit(number % 16));
     }
-    let next = put_digits(out, at, number / 16, count - 1);
-    put(out, next, digit(number % 16))
 }

@@ -6,29 +6,34 @@ pub mod decimals;
 pub mod hexadecimal;
 pub mod quoting;
 
-ghost use Rattle.std.specs.Prelude.{◌≡◌};
-ghost use Rattle.line_pieces.specs.Page.{Page};
 ghost use Rattle.line_pieces.specs.Page.{put as Page·put, puts as Page·puts};
+ghost use Rattle.line_pieces.specs.Writes.{Writes};
 
-// The byte at a place, if it lies in the memory; then where the next one goes.
-pub fn put(out: &mut [u8], at: usize, byte: u8) -> usize
-    ensures { ◌≡◌ {A = Page} (result, out.new) (Page·put byte (at, out.old)) }
-{
-    if at < out.len() {
-        out[at] = byte;
-        return at + 1;
-    }
-    at
+// Lent memory, and where its next byte goes.
+#[derive(Drop)]
+pub struct Writer<'a> {
+    pub out: &'a mut [u8],
+    pub at: usize,
 }
 
-pub fn put_word(out: &mut [u8], at: usize, word: &[u8]) -> usize
-    ensures { ◌≡◌ {A = Page} (result, out.new) (Page·puts word.now (at, out.old)) }
-{
-    let mut next = at;
-    let mut index = 0;
-    while index < word.len() {
-        next = put(out, next, word[index]);
-        index += 1;
+impl Writer<'_> {
+    // The byte, if there is room for it.
+    #[tactic(auto, unfolding(crate::specs::Page::put))]
+    pub fn put(&mut self, byte: u8)
+        ensures { Writes self.old self.new (λ p. Page·put byte p) }
+    {
+        if self.at < self.out.len() {
+            self.out[self.at] = byte;
+            self.at += 1;
+        }
     }
-    next
+
+    #[tactic(auto, using(crate::proofs::Putting::puts_none, crate::proofs::Putting::word_on))]
+    pub fn put_word(&mut self, word: &[u8])
+        ensures { Writes self.old self.new (λ p. Page·puts word.now p) }
+    {
+        for byte in word {
+            self.put(*byte);
+        }
+    }
 }

@@ -1,46 +1,39 @@
 // Quoted text, put into lent memory: what is not plain is escaped.
 ghost use Rattle.std.specs.Prelude.{◌≡◌};
-ghost use Rattle.line_pieces.specs.Page.{Page};
 ghost use Rattle.line_pieces.specs.Page.{puts as Page·puts};
 ghost use Rattle.line_pieces.specs.Spelled.{is_plain, escaped, quoted};
+ghost use Rattle.line_pieces.specs.Writes.{Writes};
 
-use crate::hexadecimal::put_digits;
-use crate::{put, put_word};
+use crate::Writer;
 
 // Printable ASCII stands for itself, but for the quote and the backslash.
 fn is_plain(byte: u8) -> bool
     ensures { result ≡ is_plain byte }
 {
-    if byte < 0x20 {
-        return false;
-    }
-    if 0x7E < byte {
-        return false;
-    }
-    if byte == b'"' {
-        return false;
-    }
-    byte != b'\\'
+    matches!(byte, b' '..=b'~') && byte != b'"' && byte != b'\\'
 }
 
-fn put_escaped(out: &mut [u8], at: usize, byte: u8) -> usize
-    ensures { ◌≡◌ {A = Page} (result, out.new) (Page·puts (escaped byte) (at, out.old)) }
-{
-    if is_plain(byte) {
-        return put(out, at, byte);
+impl Writer<'_> {
+    #[tactic(auto, using(crate::proofs::QuotedText::escaped_plain, crate::proofs::QuotedText::escaped_other))]
+    fn put_escaped(&mut self, byte: u8)
+        ensures { Writes self.old self.new (λ p. Page·puts (escaped byte) p) }
+    {
+        if is_plain(byte) {
+            self.put(byte);
+        } else {
+            self.put_word(b"\\x");
+            self.put_digits(byte as u64, 2);
+        }
     }
-    let next = put_word(out, at, b"\\x");
-    put_digits(out, next, byte as u64, 2)
-}
 
-pub fn put_quoted(out: &mut [u8], at: usize, text: &[u8]) -> usize
-    ensures { ◌≡◌ {A = Page} (result, out.new) (Page·puts (quoted text.now) (at, out.old)) }
-{
-    let mut next = put(out, at, b'"');
-    let mut index = 0;
-    while index < text.len() {
-        next = put_escaped(out, next, text[index]);
-        index += 1;
+    #[tactic(auto, using(crate::proofs::QuotedText::escapes_none, crate::proofs::QuotedText::escapes_on, crate::proofs::QuotedText::quoted_whole))]
+    pub fn put_quoted(&mut self, text: &[u8])
+        ensures { Writes self.old self.new (λ p. Page·puts (quoted text.now) p) }
+    {
+        self.put(b'"');
+        for byte in text {
+            self.put_escaped(*byte);
+        }
+        self.put(b'"');
     }
-    put(out, next, b'"')
 }

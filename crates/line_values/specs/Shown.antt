@@ -33,8 +33,8 @@ entries_shown f r s a (suc n) =
     f (cell_at r s a) ++ ascii ": " ++ f (cell_at r s (suc a)) ++ separator n ++ entries_shown f r s (suc (suc a)) n
 
 abbrev pub parts_shown : Show → Rooms → Value → Parts → List ℕ
-parts_shown f r m (Parts.Elements s a n) = ascii "List [" ++ elements_shown f r s a n ++ code "]" ∷ []
-parts_shown f r m (Parts.Entries s a n) = ascii "Map {" ++ entries_shown f r s a n ++ code "}" ∷ []
+parts_shown f r m (Parts.Elements ro) = ascii "List [" ++ elements_shown f r ro.space ro.first ro.length ++ code "]" ∷ []
+parts_shown f r m (Parts.Entries ro) = ascii "Map {" ++ entries_shown f r ro.space ro.first ro.length ++ code "}" ∷ []
 parts_shown f r m (Parts.Present s a) = ascii "Optional of " ++ f (cell_at r s a)
 parts_shown f r m Parts.Nothing = shown_seen (seen_in r m)
 

@@ -1,48 +1,45 @@
 // A value without parts, and what stands between parts, put into lent memory.
-ghost use Rattle.std.specs.Prelude.{◌≡◌};
-ghost use Rattle.rooms_comparison.specs.Seen.{seen_of};
-ghost use Rattle.line_pieces.specs.Page.{Page, puts};
+ghost use Rattle.rooms.specs.Memory.{rooms_seen};
+ghost use Rattle.rooms_comparison.specs.Seen.{seen_plain};
+ghost use Rattle.line_pieces.specs.Page.{puts};
+ghost use Rattle.line_pieces.specs.Writes.{Writes};
 ghost use Rattle.line_values.specs.Written.{separator};
 ghost use Rattle.line_values.specs.Shown.{shown_seen};
 
-use crate::scalars::{put_bool, put_numeral, put_text};
-use line_pieces::put_word;
+use crate::scalars::{put_bool, put_numeral};
+use line_pieces::Writer;
+use rooms::memory::View;
 use rooms::value::Plain;
+use rooms_text::part_in;
 
 // A value without parts.
-pub fn put_plain(
-    literal: &[u8],
-    binding_text: &[u8],
-    text: &[u8],
-    plain: Plain,
-    out: &mut [u8],
-    at: usize,
-) -> usize
-    ensures { ◌≡◌ {A = Page} (result, out.new) (puts (shown_seen (seen_of literal.now binding_text.now text.now plain)) (at, out.old)) }
+#[tactic(auto, using(line_pieces::proofs::Putting::puts_none, crate::proofs::Steps::string_put, crate::proofs::Steps::bytes_put), unfolding(crate::specs::Written::written_scalar))]
+pub fn put_plain(view: &View, page: &mut Writer, plain: Plain)
+    ensures { Writes page.old page.new (λ p. puts (shown_seen (seen_plain (rooms_seen view.now) plain)) p) }
 {
     match plain {
-        Plain::Null => put_word(out, at, b"Null"),
-        Plain::Bool(truth) => put_bool(out, at, truth),
-        Plain::Number(number) => put_numeral(out, at, number),
-        Plain::String(space, first, length) => {
-            let next = put_word(out, at, b"String ");
-            put_text(literal, binding_text, text, space, first, length, out, next)
+        Plain::Null => page.put_word(b"Null"),
+        Plain::Bool(truth) => put_bool(page, truth),
+        Plain::Number(number) => put_numeral(page, number),
+        Plain::String(span) => {
+            page.put_word(b"String ");
+            page.put_quoted(part_in(view, span));
         }
-        Plain::Bytes(space, first, length) => {
-            let next = put_word(out, at, b"Bytes ");
-            put_text(literal, binding_text, text, space, first, length, out, next)
+        Plain::Bytes(span) => {
+            page.put_word(b"Bytes ");
+            page.put_quoted(part_in(view, span));
         }
-        Plain::OptionalNone => put_word(out, at, b"Optional none"),
-        Plain::Other => at,
+        Plain::OptionalNone => page.put_word(b"Optional none"),
+        Plain::Other => {}
     }
 }
 
 // Between two parts: where there are more to come.
-pub fn put_separator(out: &mut [u8], at: usize, left: usize) -> usize
-    ensures { ◌≡◌ {A = Page} (result, out.new) (puts (separator left) (at, out.old)) }
+#[tactic(auto, using(crate::proofs::Steps::separator_none, crate::proofs::Steps::separator_some))]
+pub fn put_separator(page: &mut Writer, left: usize)
+    ensures { Writes page.old page.new (λ p. puts (separator left) p) }
 {
-    if left == 0 {
-        return at;
+    if left != 0 {
+        page.put_word(b", ");
     }
-    put_word(out, at, b", ")
 }

@@ -3,17 +3,18 @@
 use Prim.Native.Nat.{ℕ, zero, suc, ◌+◌, ◌^◌, ◌≤◌, ◌<◌}
 use mathlib.Core.Path.{◌≡◌, refl, sym, ap, subst}
 use mathlib.Core.List.{List}
-use mathlib.Core.Option.{Option, none, some}
+use Rattle.std.specs.Prelude.{Option, None, Some}
 use mathlib.Core.Bool.{Bool, true, false, cond}
 use native.Mathlib.Omega.{arith}
-use lib.ListN.{length, take, drop, get_elem?, length-take, length-drop}
+use lib.ListN.{length, take, drop, length-take, length-drop}
+use Rattle.std.specs.Prelude.{slice_get}
 use lib.Dec.{leb}
 use borrow.Author.Tests.{leb-true}
 use mir.Syntax.{w64}
 use mir.ValLaws.{to_z-Fits}
 use Rattle.text.specs.Utf8.{well_formed}
 use Rattle.meaning.specs.Limits.{deepest_record}
-use Rattle.meaning.specs.Errors.{WrongField, WrongExtent, UnknownKind}
+use Rattle.meaning.specs.declared.refusal.Reason.TheVariants.{WrongField, WrongExtent, UnknownKind}
 use Rattle.meaning.specs.Expr.{Expr, Elements, Pairs}
 use Rattle.meaning.specs.Kinds.{ExprKind, null_kind, bool_kind, int_kind, uint_kind, double_kind, string_kind, bytes_kind, name_kind, unary_kind, binary_kind, conditional_kind, select_kind, list_kind, map_kind, comprehension_kind, function_kind, Kind, mark, expr, Called, to_one, to_none, to_two, Row, kinds}
 use Rattle.meaning.specs.Heads.{Got, got, refused, or_refuse, Head, first, second, third, field_bytes, fields_bytes, little_endian, numbers_at, row_at, head_at}
@@ -78,8 +79,8 @@ module _ (table : List ℕ) where
   row-tells : (p : ℕ) → Reads (RowTells p) (row_at word_bytes table p)
   unfolding row_at
   row-tells p =
-      reads-bind-any (or_refuse WrongExtent p (get_elem? table p))
-      (λ b. reads-or_refuse UnknownKind p (get_elem? kinds b) (get_elem-each (RowTells p) kinds b (rows_tell p)))
+      reads-bind-any (or_refuse WrongExtent p (slice_get table p))
+      (λ b. reads-or_refuse UnknownKind p (slice_get kinds b) (get_elem-each (RowTells p) kinds b (rows_tell p)))
 
   head-tells : (p end : ℕ) → Reads (λ h. ToldKind p h.kind h.numbers) (head_at word_bytes table p end)
   unfolding head_at RowTells fields_bytes field_bytes
@@ -93,7 +94,7 @@ module _ (table text : List ℕ) where
   unfolding span
   span-spells offset n a b = go (leb (offset + n) (length text)) (leb-true (offset + n) (length text))
     where
-      go : (t : Bool) → (t ≡ true → offset + n ≤ length text) → Perhaps (λ s. Spells table text s offset n) (cond t (some (take n (drop offset text))) none)
+      go : (t : Bool) → (t ≡ true → offset + n ≤ length text) → Perhaps (λ s. Spells table text s offset n) (cond t (Some (take n (drop offset text))) None)
       go true h =
           let l = h refl in
           record { long = omega (arith, length-take n (drop offset text), length-drop offset text); spelled = refl; offset_fits = a; size_fits = b }
@@ -101,10 +102,10 @@ module _ (table text : List ℕ) where
 
   utf8-spells : (offset n : ℕ) (o : Option (List ℕ)) → Perhaps (λ s. Spells table text s offset n) o → Perhaps (λ s. Spells table text s offset n) (utf8 o)
   unfolding utf8
-  utf8-spells offset n none h = tt
-  utf8-spells offset n (some s) h = go (well_formed s)
+  utf8-spells offset n None h = tt
+  utf8-spells offset n (Some s) h = go (well_formed s)
     where
-      go : (t : Bool) → Perhaps (λ s. Spells table text s offset n) (cond t (some s) none)
+      go : (t : Bool) → Perhaps (λ s. Spells table text s offset n) (cond t (Some s) None)
       go true = h
       go false = tt
 

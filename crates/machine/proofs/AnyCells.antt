@@ -17,6 +17,7 @@ use Rattle.rooms.specs.Cells.{Fits, signed_of, text_place, cell_place, bare_of, 
 use Rattle.rooms.specs.Rooms.{Rooms, cell_at}
 use Rattle.machine.specs.Refines.{FitCells}
 use Rattle.machine.proofs.Words.{bits_fit}
+use Rattle.rooms.specs.Spans.{span, row}
 
 -- either way
 pub either : {A : Type 0} (P : A → Type 0) (b : Bool) {x y : A} → (b ≡ true → P x) → (b ≡ false → P y) → P (cond b x y)
@@ -51,7 +52,7 @@ text-fits k d s a n =
     (λ g. either (λ t. Fits (text_of k d t)) (eqb s 1) (λ l. placed _)
     (λ l. either (λ t. Fits (text_of k d t)) (eqb s 2) (λ m. placed _) (λ m. tt)))))
   where
-    spanned : a < 2 ^ 16 → n < 2 ^ 16 → (s : TextSpace) → Fits (cond (eqb d 0) (cond (eqb k 5) (Value.String s a n) (Value.Bytes s a n)) Value.Absent)
+    spanned : a < 2 ^ 16 → n < 2 ^ 16 → (s : TextSpace) → Fits (cond (eqb d 0) (cond (eqb k 5) (Value.String (span s a n)) (Value.Bytes (span s a n))) Value.Absent)
     spanned h l s = either Fits (eqb d 0) (λ e. either Fits (eqb k 5) (λ f. (h, l)) (λ f. (h, l))) (λ e. tt)
 
 container-fits : (k d s a n : ℕ) → Fits (container_of k d (cell_place s a n))
@@ -65,7 +66,7 @@ container-fits k d s a n =
     (λ g. either (λ c. Fits (container_of k d c)) (eqb s 1) (λ l. placed _) (λ l. tt))))
   where
     counted : a < 2 ^ 16 → n < 2 ^ 16 → (s : CellSpace)
-        → Fits (cond (ltb 255 d) Value.Absent (cond (eqb k 12) (Value.List d s a n) (cond (eqb k 13) (Value.Map d s a n) (cond (eqb n 0) (Value.OptionalOf d s a) Value.Absent))))
+        → Fits (cond (ltb 255 d) Value.Absent (cond (eqb k 12) (Value.List d (row s a n)) (cond (eqb k 13) (Value.Map d (row s a n)) (cond (eqb n 0) (Value.OptionalOf d s a) Value.Absent))))
     counted h l s =
         either Fits (ltb 255 d) (λ e. tt)
         (λ e.

@@ -2,7 +2,7 @@
 use Prim.Native.Nat.{ℕ, ◌+◌, ◌≤◌, ◌<◌}
 use mathlib.Core.Path.{refl, sym, subst}
 use mathlib.Core.List.{List, [], ◌∷◌}
-use mathlib.Core.Option.{Option, none, some}
+use Rattle.std.specs.Prelude.{Option, None, Some}
 use mathlib.Core.Bool.{Bool, true, false}
 use native.Mathlib.Omega.{arith}
 use lib.ListN.{length}
@@ -36,10 +36,10 @@ use Rattle.machine.proofs.Gathering.{Gathers, gathers-frame, ItemsOk, items-then
 module _ (l : Counts) (src : List ℕ) where
   -- a guard, or none, in both
   abbrev pub GuardOk : Option Does → Option (Scope → Eval Meaning.Value) → Type 1
-  GuardOk none none = Unit {1}
-  GuardOk none (some f) = (P : Type 0) → P
-  GuardOk (some m) none = (P : Type 0) → P
-  GuardOk (some m) (some f) = Refines l src m f
+  GuardOk None None = Unit {1}
+  GuardOk None (Some f) = (P : Type 0) → P
+  GuardOk (Some m) None = (P : Type 0) → P
+  GuardOk (Some m) (Some f) = Refines l src m f
 
   -- a condition or a guard: it holds, it fails, or it ends the loop
   asks-says : {L : Alive} {u : Counts} {r : Rooms} {s : Code.Scope} {t : Scope} → Start l src L u r s t → (p : ℕ) (m : Does) (f : Scope → Eval Meaning.Value) → Refines l src m f → (H F : Used → Rooms → Res) (κ ρ : Rule Meaning.Value)
@@ -57,7 +57,7 @@ module _ (l : Counts) (src : List ℕ) where
       wanted : {M : Alive} {c : Counts} {q : Rooms} → Start l src M c q s t → Says l src p M c q (Outcome.Error (error_of (UnexpectedType a_bool)) p (used_of c), q) ([], error (by_rule (UnexpectedType a_bool)))
       wanted b = unfold raised_error in raises l src b p (by_rule (UnexpectedType a_bool))
 
-      chosen : (M : Alive) (c : Counts) (q : Rooms) → Start l src M c q s t → Agrees L M r q → u.cells ≤ c.cells → (x : Bool) → Says l src p M c q (branch p (used_of c) q (some x) H F) (choose κ ρ x)
+      chosen : (M : Alive) (c : Counts) (q : Rooms) → Start l src M c q s t → Agrees L M r q → u.cells ≤ c.cells → (x : Bool) → Says l src p M c q (branch p (used_of c) q (Some x) H F) (choose κ ρ x)
       chosen M c q b j d true = unfold choose in holds' M c q b j d
       chosen M c q b j d false = unfold choose in fails' M c q b j d
 
@@ -85,10 +85,10 @@ module _ (l : Counts) (src : List ℕ) where
         -- one item, its condition known to hold
         turn-ok : {L : Alive} {u : Counts} {r : Rooms} {s : Code.Scope} {t : Scope} → Start l src L u r s t → (g : Gathered) (out : Values) → Gathers g out L u r → (at : ℕ) → ItemsAt xs L r space stride at → (o : Option Does) (w : Option (Scope → Eval Meaning.Value)) → GuardOk o w → Says l src p L u r (guarded p o s (used_of u) r (λ z q. Machine.append_items path g s z q (λ h y d. R at h s y d)) (λ z q. R at g s z q)) (append_turn w step.items κ t out)
         unfolding append_turn
-        turn-ok st g out h at k none none e = adds-ok st g out h at k
-        turn-ok st g out h at k none (some f) e = e _
-        turn-ok st g out h at k (some m) none e = e _
-        turn-ok {L} {u} {r} {s} {t} st g out h at k (some m) (some f) e =
+        turn-ok st g out h at k None None e = adds-ok st g out h at k
+        turn-ok st g out h at k None (Some f) e = e _
+        turn-ok st g out h at k (Some m) None e = e _
+        turn-ok {L} {u} {r} {s} {t} st g out h at k (Some m) (Some f) e =
             asks-says st p m f e (λ z q. Machine.append_items path g s z q (λ h' y d. R at h' s y d)) (λ z q. R at g s z q) (append_items step.items κ t out) (κ t out)
             (λ M c q b j d. adds-ok b g out (gathers-frame g out L M u c r q j d h) at (items-frame L M r q j xs space stride at k))
             (λ M c q b j d. ih g out M s t c q at b (gathers-frame g out L M u c r q j d h) (items-frame L M r q j xs space stride at k))

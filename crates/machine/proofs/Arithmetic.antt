@@ -2,15 +2,15 @@
 use Prim.Native.Nat.{ℕ, suc, ◌^◌, ◌≤◌, ◌<◌, max}
 use mathlib.Core.Path.{◌≡◌, refl, sym, ap, ◌∙◌, subst, fun_ext}
 use mathlib.Core.List.{List, ◌++◌}
-use mathlib.Core.Option.{Option, none, some, bind}
+use Rattle.std.specs.Prelude.{Option, None, Some, Result, Ok, Err}
+use Rattle.meaning.specs.Options.{bind}
 use mathlib.Core.Bool.{true}
 use native.Mathlib.Omega.{arith}
 use lib.IntN.{ℤ}
 use lib.Signed.{mag}
 use lib.ListN.{length}
 use Rattle.numbers.specs.declared.double.Double.{Double}
-use Rattle.numbers.specs.declared.int.IntAnswer.{IntAnswer}
-use Rattle.numbers.specs.declared.uint.UintAnswer.{UintAnswer}
+use Rattle.numbers.specs.declared.error.ArithmeticError.{ArithmeticError}
 use Rattle.numbers.specs.declared.order.Number.TheVariants as Number
 use Rattle.numbers.specs.Int.{in_range}
 use Rattle.numbers.specs.Int as Int
@@ -46,6 +46,7 @@ use Rattle.machine.proofs.Match.{Says, value-now, error-now}
 use Rattle.machine.proofs.Numbers.{held-int, held-uint, held-double, twice, never, double_plain, string_plain, bytes_plain, plain-double, int_view, uint-view, DoubleView, double-view, TextView, string-text, bytes-text, ListView, list-view, int_or, number-int, uint_or, number-uint, double_or, number-double, text_or, string-sum, bytes-sum}
 use Rattle.machine.proofs.Building.{Spelling, lists-say, texts-say, string-spelling, bytes-spelling}
 use Rattle.rooms.proofs.Depths.{stands-nesting}
+use Rattle.rooms.specs.Spans.{span}
 
 -- a number that words hold
 int_small : (L : Alive) (r : Rooms) (z : ℤ) (m : Value) → Holds (scalar (int z)) L r m → mag z < 2 ^ 63
@@ -59,15 +60,15 @@ uint-small L r n m h = subst Fits h.stands h.fits
 module _ (l : Counts) (src : List ℕ) {L : Alive} {u : Counts} {r : Rooms} {s : Scope} {t : Comprehension.Scope} (st : Start l src L u r s t) (p : ℕ) where
   -- ---- answers of the crate numbers
 
-  int-answer : (x : IntAnswer) → IntInRange x → Says l src p L u r (int_out p (used_of u) x, r) (int_rule x)
+  int-answer : (x : Result ℤ ArithmeticError) → IntInRange x → Says l src p L u r (int_out p (used_of u) x, r) (int_rule x)
   unfolding int_rule
-  int-answer (IntAnswer.Value z) h = value-now l src st p (Value.Int z) (scalar (int z)) (held-int L r z (range_small z h))
-  int-answer (IntAnswer.Error e) h = error-now l src st p (Arithmetic e)
+  int-answer (Ok z) h = value-now l src st p (Value.Int z) (scalar (int z)) (held-int L r z (range_small z h))
+  int-answer (Err e) h = error-now l src st p (Arithmetic e)
 
-  uint-answer : (x : UintAnswer) → UintInRange x → Says l src p L u r (uint_out p (used_of u) x, r) (uint_rule x)
+  uint-answer : (x : Result ℕ ArithmeticError) → UintInRange x → Says l src p L u r (uint_out p (used_of u) x, r) (uint_rule x)
   unfolding uint_rule
-  uint-answer (UintAnswer.Value n) h = value-now l src st p (Value.Uint n) (scalar (uint n)) (held-uint L r n h)
-  uint-answer (UintAnswer.Error e) h = error-now l src st p (Arithmetic e)
+  uint-answer (Ok n) h = value-now l src st p (Value.Uint n) (scalar (uint n)) (held-uint L r n h)
+  uint-answer (Err e) h = error-now l src st p (Arithmetic e)
 
   double-answer : (d : ℕ) → d < 2 ^ 64 → Says l src p L u r (double_out (used_of u) (double_of d), r) (pure (scalar (double d)))
   double-answer d h = value-now l src st p (double_value (double_of d)) (scalar (double d)) (held-double L r d h)
@@ -84,18 +85,18 @@ module _ (l : Counts) (src : List ℕ) {L : Alive} {u : Counts} {r : Rooms} {s :
 
   int-end : (o : Arith) (a : ℤ) → in_range a ≡ true → (b : Option ℤ) → Says l src p L u r (int_or p (used_of u) o a b, r) (◌>>=◌ (or_fail NoOverload b) (λ z. int_rule (int_arith o a z)))
   unfolding ◌>>=◌ after on_value charged or_fail fail pure
-  int-end o a i none = error-now l src st p NoOverload
-  int-end o a i (some b) = int-answer (int_arith o a b) (int-in-range o a b i)
+  int-end o a i None = error-now l src st p NoOverload
+  int-end o a i (Some b) = int-answer (int_arith o a b) (int-in-range o a b i)
 
   uint-end : (o : Arith) (a : ℕ) → a < 2 ^ 64 → (b : Option ℕ) → Says l src p L u r (uint_or p (used_of u) o a b, r) (◌>>=◌ (or_fail NoOverload b) (λ n. uint_rule (uint_arith o a n)))
   unfolding ◌>>=◌ after on_value charged or_fail fail pure
-  uint-end o a i none = error-now l src st p NoOverload
-  uint-end o a i (some b) = uint-answer (uint_arith o a b) (uint-in-range o a b i)
+  uint-end o a i None = error-now l src st p NoOverload
+  uint-end o a i (Some b) = uint-answer (uint_arith o a b) (uint-in-range o a b i)
 
   double-end : (o : Arith) (x : Double) (d : ℕ) → bits_of x ≡ d → (b : Option ℕ) (y : Option Double) → DoubleView L r b y → Says l src p L u r (double_or p (used_of u) o x y, r) (◌>>=◌ (or_fail NoOverload b) (λ z. ◌>>=◌ (or_fail NoOverload (double_arith o d z)) (λ e. pure (scalar (double e)))))
   unfolding ◌>>=◌ after on_value charged or_fail fail pure
-  double-end o x d i none y h = subst (λ z. Says l src p L u r (double_or p (used_of u) o x z, r) (fail NoOverload)) (sym h) (error-now l src st p NoOverload)
-  double-end o x d i (some b) y h =
+  double-end o x d i None y h = subst (λ z. Says l src p L u r (double_or p (used_of u) o x z, r) (fail NoOverload)) (sym h) (error-now l src st p NoOverload)
+  double-end o x d i (Some b) y h =
       subst (λ z. Says l src p L u r (double_or p (used_of u) o x z, r) (◌>>=◌ (or_fail NoOverload (double_arith o d b)) (λ e. pure (scalar (double e))))) (sym h.1)
       (subst (λ z. Says l src p L u r (doubles_out p (used_of u) o x h.0, r) (◌>>=◌ (or_fail NoOverload (double_arith o z b)) (λ e. pure (scalar (double e))))) i
       (subst (λ z. Says l src p L u r (doubles_out p (used_of u) o x h.0, r) (◌>>=◌ (or_fail NoOverload (double_arith o (bits_of x) z)) (λ e. pure (scalar (double e))))) h.2 (doubles-answer o x h.0)))
@@ -120,14 +121,14 @@ module _ (l : Counts) (src : List ℕ) {L : Alive} {u : Counts} {r : Rooms} {s :
 
   text-end : (o : Arith) (kind : List ℕ → Meaning.Scalar) (make : ℕ → ℕ → Value) → Spelling l src kind make → (v : List ℕ) (x : TextSpace) (a : ℕ) → TextAt v L r x a → (b : Option (List ℕ)) (y : Option (TextSpace × ℕ × ℕ)) → TextView L r b y → Says l src p L u r (Machine.only_add p o (λ z q. text_or p make x a (length v) y z q) (used_of u) r) (◌>>=◌ (or_fail NoOverload b) (λ w. only_add o (built_text kind (v ++ w))))
   unfolding ◌>>=◌ after on_value charged or_fail fail pure
-  text-end o kind make g v x a h none y i = subst (λ z. Says l src p L u r (Machine.only_add p o (λ e q. text_or p make x a (length v) z e q) (used_of u) r) (fail NoOverload)) (sym i) (add-never o)
-  text-end o kind make g v x a h (some w) y i = subst (λ z. Says l src p L u r (Machine.only_add p o (λ e q. text_or p make x a (length v) z e q) (used_of u) r) (only_add o (built_text kind (v ++ w)))) (sym i.2) (only-add o (λ e q. text_sum make x a (length v) i.0 i.1 (length w) e q) (built_text kind (v ++ w)) (texts-say l src st p kind make g v w x i.0 a i.1 h i.3))
+  text-end o kind make g v x a h None y i = subst (λ z. Says l src p L u r (Machine.only_add p o (λ e q. text_or p make x a (length v) z e q) (used_of u) r) (fail NoOverload)) (sym i) (add-never o)
+  text-end o kind make g v x a h (Some w) y i = subst (λ z. Says l src p L u r (Machine.only_add p o (λ e q. text_or p make x a (length v) z e q) (used_of u) r) (only_add o (built_text kind (v ++ w)))) (sym i.2) (only-add o (λ e q. text_sum make x a (length v) i.0 i.1 (length w) e q) (built_text kind (v ++ w)) (texts-say l src st p kind make g v w x i.0 a i.1 h i.3))
 
   -- ---- a list on the left
 
   list-end : (o : Arith) (d : ℕ) (vs : Values) (x : CellSpace) (a : ℕ) → suc (nesting_in vs) ≤ deepest_value → StandsCells vs L r x a → (n : Value) (b : Option Values) → ListView L r b n → nesting_of n ≤ deepest_value → d ≡ max (suc (nesting_in vs)) (nesting_of n) → Says l src p L u r (Machine.only_add p o (λ z q. list_sum p d x a (count vs) (parts_of n) z q) (used_of u) r) (◌>>=◌ (or_fail NoOverload b) (λ ws. only_add o (built (join vs ws) (list (join vs ws)))))
   unfolding ◌>>=◌ after on_value charged or_fail fail pure
-  list-end o d vs x a deep h n none i dn e = go o
+  list-end o d vs x a deep h n None i dn e = go o
     where
       go : (o : Arith) → Says l src p L u r (Machine.only_add p o (λ z q. list_sum p d x a (count vs) (parts_of n) z q) (used_of u) r) (fail NoOverload)
       go add = subst (λ z. Says l src p L u r z (fail NoOverload)) (sym (i p d x a (count vs) (used_of u) r)) (error-now l src st p NoOverload)
@@ -135,7 +136,7 @@ module _ (l : Counts) (src : List ℕ) {L : Alive} {u : Counts} {r : Rooms} {s :
       go div = error-now l src st p NoOverload
       go mul = error-now l src st p NoOverload
       go rem = error-now l src st p NoOverload
-  list-end o d vs x a deep h n (some ws) i dn e =
+  list-end o d vs x a deep h n (Some ws) i dn e =
       subst (λ z. Says l src p L u r (Machine.only_add p o (λ y q. list_sum p d x a (count vs) z y q) (used_of u) r) (only_add o (built (join vs ws) (list (join vs ws))))) (sym i.2)
       (only-add o (λ y q. both_lists d x a (count vs) i.0 i.1 (count ws) y q) (built (join vs ws) (list (join vs ws))) (lists-say l src st p d vs ws x i.0 a i.1 (e ∙ ap (max (suc (nesting_in vs))) i.3) (omega (arith, e, i.3)) h i.4))
 
@@ -169,12 +170,12 @@ module _ (l : Counts) (src : List ℕ) {L : Alive} {u : Counts} {r : Rooms} {s :
         subst (λ x. Goal x (scalar (string v))) (sym h.stands.2)
         (subst (λ ρ. Says l src p L u r (Machine.only_add p o (λ z q. string_sum p h.stands.0 h.stands.1 (length v) (plain_of n) z q) (used_of u) r) ρ) (sym (twice (scalar_of w) string_in (λ b. only_add o (built_text string (v ++ b)))))
         (subst (λ f. Says l src p L u r (Machine.only_add p o f (used_of u) r) (◌>>=◌ (or_fail NoOverload (bind (scalar_of w) string_in)) (λ b. only_add o (built_text string (v ++ b))))) (sym (fun_ext (λ z. fun_ext (λ q. string-sum p h.stands.0 h.stands.1 (length v) (plain_of n) z q))))
-        (text-end o string (λ f j. Value.String Text.Evaluation f j) (string-spelling l src) v h.stands.0 h.stands.1 h.stands.3 (bind (scalar_of w) string_in) (string_plain (plain_of n)) (string-text L r w n k.stands))))
+        (text-end o string (λ f j. Value.String (span Text.Evaluation f j)) (string-spelling l src) v h.stands.0 h.stands.1 h.stands.3 (bind (scalar_of w) string_in) (string_plain (plain_of n)) (string-text L r w n k.stands))))
     arith-says (scalar (bytes v)) m h =
         subst (λ x. Goal x (scalar (bytes v))) (sym h.stands.2)
         (subst (λ ρ. Says l src p L u r (Machine.only_add p o (λ z q. bytes_sum p h.stands.0 h.stands.1 (length v) (plain_of n) z q) (used_of u) r) ρ) (sym (twice (scalar_of w) bytes_in (λ b. only_add o (built_text bytes (v ++ b)))))
         (subst (λ f. Says l src p L u r (Machine.only_add p o f (used_of u) r) (◌>>=◌ (or_fail NoOverload (bind (scalar_of w) bytes_in)) (λ b. only_add o (built_text bytes (v ++ b))))) (sym (fun_ext (λ z. fun_ext (λ q. bytes-sum p h.stands.0 h.stands.1 (length v) (plain_of n) z q))))
-        (text-end o bytes (λ f j. Value.Bytes Text.Evaluation f j) (bytes-spelling l src) v h.stands.0 h.stands.1 h.stands.3 (bind (scalar_of w) bytes_in) (bytes_plain (plain_of n)) (bytes-text L r w n k.stands))))
+        (text-end o bytes (λ f j. Value.Bytes (span Text.Evaluation f j)) (bytes-spelling l src) v h.stands.0 h.stands.1 h.stands.3 (bind (scalar_of w) bytes_in) (bytes_plain (plain_of n)) (bytes-text L r w n k.stands))))
     arith-says (list vs) m h =
         subst (λ x. Goal x (list vs)) (sym h.stands.2)
         (list-end o (max (suc (nesting_in vs)) (nesting_of n)) vs h.stands.0 h.stands.1 h.nests h.stands.3 n (elements_of w) (list-view L r w n k.stands) (omega (arith, stands-nesting L r w n k.stands, k.nests)) refl)

@@ -40,6 +40,7 @@ use Rattle.machine.proofs.Traces.{nesting-join, stands-join}
 use Rattle.machine.proofs.Match.{Says}
 use Rattle.machine.proofs.Charges.{wrote, takes, writes, wholes}
 use Rattle.rooms.proofs.Depths.{stands-nesting}
+use Rattle.rooms.specs.Spans.{span, row}
 
 module _ (l : Counts) (src : List ℕ) where
   -- ---- a present Optional
@@ -92,12 +93,12 @@ module _ (l : Counts) (src : List ℕ) where
   -- ---- a list, whose nesting is known to be allowed
 
   pub list-end : {L : Alive} {u : Counts} {r : Rooms} {s : Scope} {t : Comprehension.Scope} → Start l src L u r s t → (p n d : ℕ) (ws : Values) (q : Rooms) → n ≡ count ws → d ≡ suc (nesting_in ws) → d ≤ deepest_value → Roomy (took u n) r → Keeps u (took u n) r q → StandsCells ws (Live L u (took u n)) q Cells.Evaluation u.cells
-      → Matches L u r (Outcome.Value (Value.List d Cells.Evaluation u.cells n) (used_of (took u n)), q) (outcome (placed p (value (list ws))) (spend l (nest (nesting (list ws)) ∷ []) (took u n))) (cells ws ∷ nest (nesting (list ws)) ∷ [])
+      → Matches L u r (Outcome.Value (Value.List d (row Cells.Evaluation u.cells n)) (used_of (took u n)), q) (outcome (placed p (value (list ws))) (spend l (nest (nesting (list ws)) ∷ []) (took u n))) (cells ws ∷ nest (nesting (list ws)) ∷ [])
   unfolding Stands nesting cells_built text_built join
   list-end {L} {u} {r} a p n d ws q e i deep f kept there =
       subst (λ o. Matches L u r (o, q) (outcome (placed p (value (list ws))) (spend l (nest (suc (nesting_in ws)) ∷ []) top)) (cells ws ∷ nest (suc (nesting_in ws)) ∷ [])) said
-      (wholes l src p L u top r q (nesting_in ws) (λ j. Value.List j Cells.Evaluation u.cells n) (list ws) (cells ws ∷ nest (suc (nesting_in ws)) ∷ []) refl kept
-      (λ x. ((Cells.Evaluation, u.cells, ap₂ (λ j c. Value.List j Cells.Evaluation u.cells c) (add-one (nesting_in ws)) e, there), (omega (arith, i), omega (arith, f.cells), omega (arith, f.cells))))
+      (wholes l src p L u top r q (nesting_in ws) (λ j. Value.List j (row Cells.Evaluation u.cells n)) (list ws) (cells ws ∷ nest (suc (nesting_in ws)) ∷ []) refl kept
+      (λ x. ((Cells.Evaluation, u.cells, ap₂ (λ j c. Value.List j (row Cells.Evaluation u.cells c)) (add-one (nesting_in ws)) e, there), (omega (arith, i), omega (arith, f.cells), omega (arith, f.cells))))
       (record { cells = subst (λ vs. StandsCells vs (Live L u top) q Cells.Evaluation u.cells) (sym (none_more ws)) there; counted = ap (λ vs. u.cells + count vs) (none_more ws) ∙ ap (λ c. u.cells + c) (sym e); bytes = refl; bytes_counted = omega arith }))
     where
       top : Counts
@@ -107,8 +108,8 @@ module _ (l : Counts) (src : List ℕ) where
       none_more nil = refl
       none_more (cons v vs) = ap (cons v) (none_more vs)
 
-      said : whole (nesting_in ws) (λ j. Value.List j Cells.Evaluation u.cells n) (used_of top) ≡ Outcome.Value (Value.List d Cells.Evaluation u.cells n) (used_of top)
-      said = rw (lt-ltb (nesting_in ws) deepest_value (omega (arith, i))) (ap (λ j. Outcome.Value (Value.List j Cells.Evaluation u.cells n) (used_of top)) (add-one (nesting_in ws) ∙ sym i))
+      said : whole (nesting_in ws) (λ j. Value.List j (row Cells.Evaluation u.cells n)) (used_of top) ≡ Outcome.Value (Value.List d (row Cells.Evaluation u.cells n)) (used_of top)
+      said = rw (lt-ltb (nesting_in ws) deepest_value (omega (arith, i))) (ap (λ j. Outcome.Value (Value.List j (row Cells.Evaluation u.cells n)) (used_of top)) (add-one (nesting_in ws) ∙ sym i))
 
   -- ---- `+` on lists
 
@@ -187,7 +188,7 @@ module _ (l : Counts) (src : List ℕ) where
       → Says l src p L u r (both_lists d x b (count vs) y c (count ws) (used_of u) r) (built (join vs ws) (list (join vs ws)))
   unfolding built charged pure
   lists-say {L} {u} {r} a p d vs ws x y b c e deep hx hy =
-      takes l src a p (count vs + count ws) (join vs ws) (sym (join-count vs ws)) (λ i q. (Outcome.Value (Value.List d Cells.Evaluation u.cells (count vs + count ws)) i, copied_to (copied_to q x b u.cells (count vs)) y c (u.cells + count vs) (count ws))) (nest (nesting (list (join vs ws))) ∷ [], value (list (join vs ws)))
+      takes l src a p (count vs + count ws) (join vs ws) (sym (join-count vs ws)) (λ i q. (Outcome.Value (Value.List d (row Cells.Evaluation u.cells (count vs + count ws))) i, copied_to (copied_to q x b u.cells (count vs)) y c (u.cells + count vs) (count ws))) (nest (nesting (list (join vs ws))) ∷ [], value (list (join vs ws)))
       (λ f. list-end a p (count vs + count ws) d (join vs ws) (o a vs ws x y b c hx hy f) (sym (join-count vs ws)) deepest deep f (sum_kept a vs ws x y b c hx hy f) (sum-there a vs ws x y b c hx hy f))
     where
       deepest : d ≡ suc (nesting_in (join vs ws))
@@ -203,13 +204,13 @@ module _ (l : Counts) (src : List ℕ) where
     pub stands : (L : Alive) (r : Rooms) (s : List ℕ) (a n : ℕ) → n ≡ length s → TextAt s L r Text.Evaluation a → Stands (scalar (kind s)) L r (make a n)
     pub fits : (a n : ℕ) → a < 2 ^ 16 → n < 2 ^ 16 → Fits (make a n)
 
-  pub string-spelling : Spelling string (λ a n. Value.String Text.Evaluation a n)
+  pub string-spelling : Spelling string (λ a n. Value.String (span Text.Evaluation a n))
   unfolding Stands StandsScalar
-  string-spelling = record { stands = λ L r s a n e h. (Text.Evaluation, a, ap (λ k. Value.String Text.Evaluation a k) e, h); fits = λ a n i j. (i, j) }
+  string-spelling = record { stands = λ L r s a n e h. (Text.Evaluation, a, ap (λ k. Value.String (span Text.Evaluation a k)) e, h); fits = λ a n i j. (i, j) }
 
-  pub bytes-spelling : Spelling bytes (λ a n. Value.Bytes Text.Evaluation a n)
+  pub bytes-spelling : Spelling bytes (λ a n. Value.Bytes (span Text.Evaluation a n))
   unfolding Stands StandsScalar
-  bytes-spelling = record { stands = λ L r s a n e h. (Text.Evaluation, a, ap (λ k. Value.Bytes Text.Evaluation a k) e, h); fits = λ a n i j. (i, j) }
+  bytes-spelling = record { stands = λ L r s a n e h. (Text.Evaluation, a, ap (λ k. Value.Bytes (span Text.Evaluation a k)) e, h); fits = λ a n i j. (i, j) }
 
   pub texts-say : {L : Alive} {u : Counts} {r : Rooms} {s : Scope} {t : Comprehension.Scope} → Start l src L u r s t → (p : ℕ) (kind : List ℕ → Scalar) (make : ℕ → ℕ → Value) → Spelling kind make → (v w : List ℕ) (x y : TextSpace) (a c : ℕ) → TextAt v L r x a → TextAt w L r y c
       → Says l src p L u r (text_sum make x a (length v) y c (length w) (used_of u) r) (built_text kind (v ++ w))

@@ -18,7 +18,6 @@ use Rattle.meaning.specs.Limited as Limited
 use Rattle.meaning.specs.Limited.{spend, onward, make, ended, outcome, cells_built, text_built, charge, fits, through, stopped}
 use Rattle.rooms.specs.declared.value.Value.{Value}
 use Rattle.rooms.specs.declared.value.CellSpace.TheVariants as Cells
-use Rattle.rooms_taking.specs.declared.Taken.TheVariants as Taken
 use Rattle.rooms.specs.declared.scope.Scope.{Scope}
 use Rattle.rooms.specs.Rooms.{Rooms, part}
 use Rattle.rooms.specs.Stands.{Alive, Stands, StandsCells, Holds}
@@ -35,6 +34,7 @@ use Rattle.machine.proofs.Taking.{took, taken}
 use Rattle.machine.proofs.Traces.{paid, from-charge, cells-step, text-step}
 use Rattle.machine.proofs.Match.{Says}
 use Rattle.rooms.specs.Cells.{Fits}
+use Rattle.std.specs.Prelude.{None, Some}
 
 -- n bytes more, and n steps more
 abbrev pub wrote : Counts → ℕ → Counts
@@ -111,7 +111,7 @@ module _ (l : Counts) (src : List ℕ) where
       q : Rooms
       q = with_words r (cells_taken r.cells u.cells n)
 
-      go : (b : Bool) → leb (u.cells + n) (cell_room r.cells) ≡ b → Matches L u r (on_taken (cond b (Taken.To (u.cells + n)) Taken.Full) (λ top. k (with_cells (used_of u) top) q) (Outcome.Exhausted Limit.Cells (used_of u), q)) (paid b (cells vs) u end) (cells vs ∷ ρ.0)
+      go : (b : Bool) → leb (u.cells + n) (cell_room r.cells) ≡ b → Matches L u r (on_taken (cond b (Some (u.cells + n)) None) (λ top. k (with_cells (used_of u) top) q) (Outcome.Exhausted Limit.Cells (used_of u), q)) (paid b (cells vs) u end) (cells vs ∷ ρ.0)
       go true h = subst (λ m. Matches L u r (k (used_of (took u n)) q) (end (took u m)) (cells vs ∷ ρ.0)) e (g (record { cells = leb-true (u.cells + n) (cell_room r.cells) h; bytes = a.roomy.bytes }))
       go false h = record { good = refl; keeps = subst (λ w. Keeps u u r (with_words r w)) (cells-kept r.cells u.cells n (leb-false (u.cells + n) (cell_room r.cells) h)) (stops a) }
 
@@ -130,7 +130,7 @@ module _ (l : Counts) (src : List ℕ) where
       end d = outcome (placed p ρ.1) (spend l ρ.0 d)
 
       does : Bool → Res
-      does b = on_taken (cond b (Taken.To (u.bytes + n)) Taken.Full) k (Outcome.Exhausted Limit.Text (used_of u), r)
+      does b = on_taken (cond b (Some (u.bytes + n)) None) k (Outcome.Exhausted Limit.Text (used_of u), r)
 
       go : (b : Bool) → leb (u.bytes + n) (text_room r.text) ≡ b → Matches L u r (does b) (paid b (text bs) u end) (text bs ∷ ρ.0)
       go true h = subst (λ m. Matches L u r (k (u.bytes + n)) (end (wrote u m)) (text bs ∷ ρ.0)) e (g (record { cells = a.roomy.cells; bytes = leb-true (u.bytes + n) (text_room r.text) h }))

@@ -3,9 +3,9 @@
 use Prim.Native.Nat.{ℕ}
 use mathlib.Core.Path.{◌≡◌, refl, sym, ap, ap₂, ◌∙◌, subst}
 use mathlib.Core.List.{List}
-use mathlib.Core.Option.{Option, none, some}
+use Rattle.std.specs.Prelude.{Option, None, Some}
 use mathlib.Core.Bool.{Bool, beq}
-use Rattle.numbers.specs.declared.order.Order.{Order}
+use Rattle.std.specs.declared.cmp.Ordering.{Ordering}
 use Rattle.meaning.specs.Limits.{Counts}
 use Rattle.meaning.specs.Errors.{NoOverload, Unordered}
 use Rattle.meaning.specs.Value as Meaning
@@ -52,10 +52,10 @@ seen-view L r optional_none m h = ap (seen_in r) h
 seen-view L r (optional_of v) m h = ap (seen_in r) h.2
 
 -- two scalars that have an order
-abbrev order_option : Option Scalar → Option Scalar → Option Order
-order_option none y = none
-order_option (some x) none = none
-order_option (some x) (some y) = scalar_order (rank x) (rank y)
+abbrev order_option : Option Scalar → Option Scalar → Option (Option Ordering)
+order_option None y = None
+order_option (Some x) None = None
+order_option (Some x) (Some y) = scalar_order (rank x) (rank y)
 
 order-seen : (v w : Meaning.Value) → order_seen (seen_value v) (seen_value w) ≡ order_option (scalar_of v) (scalar_of w)
 unfolding scalar_of
@@ -70,22 +70,22 @@ order-seen optional_none w = refl
 order-seen (optional_of v) w = refl
 
 -- the rule, from the order of the two values
-abbrev order_rule : Comparison → Option Order → Rule Meaning.Value
-order_rule c none = fail NoOverload
-order_rule c (some o) = ◌>>=◌ (ordered o) (λ x. truth (holds c x))
+abbrev order_rule : Comparison → Option (Option Ordering) → Rule Meaning.Value
+order_rule c None = fail NoOverload
+order_rule c (Some o) = ◌>>=◌ (ordered o) (λ x. truth (holds c x))
 
 order-rule : (c : Comparison) (v w : Meaning.Value) → compare_rule c v w ≡ order_rule c (order_option (scalar_of v) (scalar_of w))
 unfolding compare_rule compare_values ◌>>=◌ after on_value charged or_fail fail pure
 order-rule c v w = go (scalar_of v) (scalar_of w)
   where
-    last : (o : Option Order) → ◌>>=◌ (◌>>=◌ (or_fail NoOverload o) ordered) (λ x. truth (holds c x)) ≡ order_rule c o
-    last none = refl
-    last (some o) = refl
+    last : (o : Option (Option Ordering)) → ◌>>=◌ (◌>>=◌ (or_fail NoOverload o) ordered) (λ x. truth (holds c x)) ≡ order_rule c o
+    last None = refl
+    last (Some o) = refl
 
     go : (a b : Option Scalar) → ◌>>=◌ (◌>>=◌ (or_fail NoOverload a) (λ x. ◌>>=◌ (or_fail NoOverload b) (λ y. ◌>>=◌ (or_fail NoOverload (scalar_order (rank x) (rank y))) ordered))) (λ x. truth (holds c x)) ≡ order_rule c (order_option a b)
-    go none b = refl
-    go (some x) none = refl
-    go (some x) (some y) = last (scalar_order (rank x) (rank y))
+    go None b = refl
+    go (Some x) None = refl
+    go (Some x) (Some y) = last (scalar_order (rank x) (rank y))
 
 module _ (l : Counts) (src : List ℕ) where
   -- ---- comparison of two values
@@ -95,13 +95,11 @@ module _ (l : Counts) (src : List ℕ) where
   equal-says {L} {u} {r} a p wanted m n v w h k =
       pairs-then l src a p (equal v w) _ (equal-pairs L r l.steps v w m n u.steps h.stands k.stands) (λ b z. truth_out (beq wanted b) z) (λ b. truth (beq wanted b)) (λ c z b. truth-now l src z p (beq wanted b))
 
-  order-end : {L : Alive} {u : Counts} {r : Rooms} {s : Scope} {t : Comprehension.Scope} → Start l src L u r s t → (p : ℕ) (c : Comparison) (o : Option Order) → Says l src p L u r (compared_out c p (used_of u) (compared_of o), r) (order_rule c o)
-  unfolding ◌>>=◌ after on_value charged fail pure ordered
-  order-end a p c none = error-now l src a p NoOverload
-  order-end a p c (some Order.Less) = truth-now l src a p (holds c Order.Less)
-  order-end a p c (some Order.Equal) = truth-now l src a p (holds c Order.Equal)
-  order-end a p c (some Order.Greater) = truth-now l src a p (holds c Order.Greater)
-  order-end a p c (some Order.Unordered) = error-now l src a p Unordered
+  order-end : {L : Alive} {u : Counts} {r : Rooms} {s : Scope} {t : Comprehension.Scope} → Start l src L u r s t → (p : ℕ) (c : Comparison) (o : Option (Option Ordering)) → Says l src p L u r (compared_out c p (used_of u) (compared_of o), r) (order_rule c o)
+  unfolding ◌>>=◌ after on_value charged fail pure ordered or_fail
+  order-end a p c None = error-now l src a p NoOverload
+  order-end a p c (Some (Some o)) = truth-now l src a p (holds c o)
+  order-end a p c (Some None) = error-now l src a p Unordered
 
   pub compare-says : {L : Alive} {u : Counts} {r : Rooms} {s : Scope} {t : Comprehension.Scope} → Start l src L u r s t → (p : ℕ) (c : Comparison) (m n : Value) (v w : Meaning.Value) → Holds v L r m → Holds w L r n → Says l src p L u r (compare_out c p m n (used_of u) r, r) (compare_rule c v w)
   compare-says {L} {u} {r} a p c m n v w h k =

@@ -36,6 +36,7 @@ use Rattle.machine.proofs.Charges.{takes}
 use Rattle.machine.proofs.Operands.{operand-says}
 use Rattle.machine.proofs.Building.{list-end}
 use Rattle.machine.proofs.Runs.{flat, flat-snoc, RunsAt, runs-frame, runs-snoc, runs_to, RunsDone, runs_done}
+use Rattle.rooms.specs.Spans.{row}
 
 -- what was gathered so far
 pub record Gathers (g : Gathered) (out : Values) (L : Alive) (u : Counts) (r : Rooms) : Type 0 where
@@ -104,7 +105,7 @@ module _ (l : Counts) (src : List ℕ) where
   pub gathered-says : {L : Alive} {u : Counts} {r : Rooms} {s : Code.Scope} {t : Scope} → Start l src L u r s t → (p : ℕ) (g : Gathered) (out : Values) → Gathers g out L u r → Says l src p L u r (gathered g (used_of u) r) (built out (list out))
   unfolding built charged pure
   gathered-says {L} {u} {r} {s} {t} st p g out h =
-      takes l src st p g.count out h.total (λ w q. (Outcome.Value (Value.List g.nesting Cells.Evaluation u.cells g.count) w, runs_to q g.firsts g.counts g.runs 0 u.cells)) (nest (nesting (list out)) ∷ [], value (list out))
+      takes l src st p g.count out h.total (λ w q. (Outcome.Value (Value.List g.nesting (row Cells.Evaluation u.cells g.count)) w, runs_to q g.firsts g.counts g.runs 0 u.cells)) (nest (nesting (list out)) ∷ [], value (list out))
       (λ f. list-end l src st p g.count g.nesting out (runs_to (taken u g.count r f) g.firsts g.counts g.runs 0 u.cells) h.total h.deep h.shallow f (kept f) (there f))
     where
       top : Counts

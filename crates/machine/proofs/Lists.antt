@@ -2,7 +2,7 @@
 use Prim.Native.Nat.{ℕ, suc, ◌+◌, ◌≤◌, ◌<◌, max}
 use mathlib.Core.Path.{◌≡◌, refl, sym, ap, ◌∙◌, subst}
 use mathlib.Core.List.{List, [], ◌∷◌, ◌++◌, append-nil}
-use mathlib.Core.Option.{Option, none, some}
+use Rattle.std.specs.Prelude.{Option, None, Some}
 use mathlib.Core.Bool.{Bool, true, false}
 use native.Mathlib.Omega.{arith}
 use native.Mathlib.Numerals.{add-one}
@@ -11,7 +11,7 @@ use Rattle.meaning.specs.Value as Meaning
 use Rattle.meaning.specs.Value.{Values, nil, cons, list, nesting, nesting_in, count, join}
 use Rattle.meaning.specs.Run.{Charge, cells, nest, Trace, Result, value, error, Raised, Eval, Rule, pure, charged, after, on_value, ◌>>=◌, placed}
 use Rattle.meaning.specs.Containers.{Making, keeping, having, ready_in, unmarked, kept, append, element_rule, pad, finished, list_rule, into}
-use Rattle.meaning.specs.Optionals.{Unwrapped, NotOptional, Some, None, unwrap_optional}
+use Rattle.meaning.specs.Optionals.{Unwrapped, NotOptional, PresentOptional, NoneOptional, unwrap_optional}
 use Rattle.meaning.specs.Comprehension as Comprehension
 use Rattle.meaning.specs.Limited.{spend, outcome}
 use Rattle.rooms.specs.declared.value.Value.{Value}
@@ -39,6 +39,7 @@ use Rattle.machine.proofs.Filling.{Filling, stored-keeps, fill-store, Stored, em
 use Rattle.machine.proofs.Makings.{closing, FillsTo, fills-error, fills-done, fills-then}
 use Rattle.rooms.specs.Cells.{Fits}
 use Rattle.rooms.proofs.Depths.{stands-nesting}
+use Rattle.rooms.specs.Spans.{row}
 
 -- one element more
 pub longer : (vs : Values) (v : Meaning.Value) → count (join vs (cons v nil)) ≡ count vs + 1
@@ -64,10 +65,10 @@ module _ (l : Counts) (src : List ℕ) (p : ℕ) where
   pub list_done_lem : ListFills (λ s base m d u r. list_done base m d u r) (λ t vs. pure vs) 0
   unfolding nesting
   list_done_lem B L o n dn tr u r s t st i =
-      fills-done l src p itself list st dn refl (nesting_in dn) (λ k. Value.List k Cells.Evaluation o.cells (count dn)) (unfold nesting in refl)
-      (λ deep. unfold Stands nesting in ((Cells.Evaluation, o.cells, ap (λ k. Value.List k Cells.Evaluation o.cells (count dn)) (add-one (nesting_in dn)), frame-cells L (Live B o u) r r (agrees-sub L (Live B o u) r st.sub st.begun.below.bytes) dn Cells.Evaluation o.cells st.filled), small deep))
+      fills-done l src p itself list st dn refl (nesting_in dn) (λ k. Value.List k (row Cells.Evaluation o.cells (count dn))) (unfold nesting in refl)
+      (λ deep. unfold Stands nesting in ((Cells.Evaluation, o.cells, ap (λ k. Value.List k (row Cells.Evaluation o.cells (count dn))) (add-one (nesting_in dn)), frame-cells L (Live B o u) r r (agrees-sub L (Live B o u) r st.sub st.begun.below.bytes) dn Cells.Evaluation o.cells st.filled), small deep))
     where
-      small : nesting (list dn) ≤ deepest_value → Fits (Value.List (nesting_in dn + 1) Cells.Evaluation o.cells (count dn))
+      small : nesting (list dn) ≤ deepest_value → Fits (Value.List (nesting_in dn + 1) (row Cells.Evaluation o.cells (count dn)))
       small deep = (omega arith, omega (arith, st.taken, st.begun.roomy.cells), omega (arith, st.inside, st.taken, st.begun.roomy.cells))
 
   module _ (F : Scope → (base m d : ℕ) → Used → Rooms → Res) (M : Comprehension.Scope → Values → Making Values) (z : ℕ) (ih : ListFills F M z) where
@@ -76,7 +77,7 @@ module _ (l : Counts) (src : List ℕ) (p : ℕ) where
       added x = add_element o.cells (count dn) (nesting_in dn) x (used_of u) r (λ m d w q. F s o.cells m d w q)
 
       -- a value is stored
-      store_ok : (m : Value) (v : Meaning.Value) → Holds v L r m → FillsTo l src p itself list B o n tr u r (added (some m)) (M t (join dn (cons v nil)))
+      store_ok : (m : Value) (v : Meaning.Value) → Holds v L r m → FillsTo l src p itself list B o n tr u r (added (Some m)) (M t (join dn (cons v nil)))
       store_ok m v h =
           let free : count dn < n = omega arith in
           let q : Rooms = written r (o.cells + count dn) m in
@@ -92,15 +93,15 @@ module _ (l : Counts) (src : List ℕ) (p : ℕ) where
           }
 
       -- nothing is
-      skip-ok : FillsTo l src p itself list B o n tr u r (added none) (M t dn)
+      skip-ok : FillsTo l src p itself list B o n tr u r (added None) (M t dn)
       skip-ok = ih B L o n dn tr u r s t st (omega arith)
 
       -- by the mark
       unmarked-ok : (m : Value) (x : Unwrapped) → UnwrapView l src L r x m → FillsTo l src p itself list B o n tr u r (added (unmarked_in r m (optional_in m))) (M t (append dn (unmarked x)))
       unfolding unmarked append
       unmarked-ok m (NotOptional v) h = subst (λ y. FillsTo l src p itself list B o n tr u r (added (unmarked_in r m y)) (M t (join dn (cons v nil)))) (sym h.0) (store_ok m v h.1)
-      unmarked-ok m (Some v) h = subst (λ y. FillsTo l src p itself list B o n tr u r (added (unmarked_in r m y)) (M t (join dn (cons v nil)))) (sym h.2) (store_ok (cell_at r h.0 h.1) v h.3)
-      unmarked-ok m None h = subst (λ y. FillsTo l src p itself list B o n tr u r (added (unmarked_in r y (optional_in y))) (M t dn)) (sym h) skip-ok
+      unmarked-ok m (PresentOptional v) h = subst (λ y. FillsTo l src p itself list B o n tr u r (added (unmarked_in r m y)) (M t (join dn (cons v nil)))) (sym h.2) (store_ok (cell_at r h.0 h.1) v h.3)
+      unmarked-ok m NoneOptional h = subst (λ y. FillsTo l src p itself list B o n tr u r (added (unmarked_in r y (optional_in y))) (M t dn)) (sym h) skip-ok
 
       part-ok : (marked : Bool) (m : Value) (v : Meaning.Value) → Holds v L r m → FillsTo l src p itself list B o n tr u r (added (part_in r marked m)) (M t (append dn (kept marked v)))
       unfolding kept append

@@ -2,7 +2,7 @@
 use Prim.Native.Nat.{ℕ, ◌+◌}
 use mathlib.Core.Path.{◌≡◌, refl, sym, ap, ◌∙◌, subst}
 use mathlib.Core.List.{List}
-use mathlib.Core.Option.{Option, none, some}
+use Rattle.std.specs.Prelude.{Option, None, Some}
 use native.Mathlib.Omega.{arith}
 use Rattle.numbers.specs.declared.double.Double.{Double}
 use Rattle.numbers.specs.declared.double.Double.TheVariants as Bits
@@ -28,6 +28,7 @@ use Rattle.machine.specs.Refines.{used_of, Start}
 use Rattle.machine.proofs.Match.{Says, value-now, error-now}
 use Rattle.machine.proofs.Seen.{held-bool}
 use Rattle.machine.proofs.Numbers.{held-int, held-uint, held-double}
+use Rattle.rooms.specs.Spans.{span}
 
 -- ---- texts that the table spells
 
@@ -35,13 +36,13 @@ module _ (table src : List ℕ) (L : Alive) (r : Rooms) (e : r.literal ≡ src) 
   spelled_at : (s : List ℕ) (a n : ℕ) → Spells table src s a n → TextAt s L r Text.Literal a
   spelled_at s a n h = record { within = tt; spells = subst (λ k. part r.literal a k ≡ s) h.long (ap (λ x. part x a n) e ∙ h.spelled) }
 
-  pub held-string : (s : List ℕ) (a n : ℕ) → Spells table src s a n → Holds (scalar (string s)) L r (Value.String Text.Literal a n)
+  pub held-string : (s : List ℕ) (a n : ℕ) → Spells table src s a n → Holds (scalar (string s)) L r (Value.String (span Text.Literal a n))
   unfolding Stands StandsScalar nesting
-  held-string s a n h = record { stands = (Text.Literal, a, ap (λ k. Value.String Text.Literal a k) h.long, spelled_at s a n h); fits = (h.offset_fits, h.size_fits); nests = omega arith }
+  held-string s a n h = record { stands = (Text.Literal, a, ap (λ k. Value.String (span Text.Literal a k)) h.long, spelled_at s a n h); fits = (h.offset_fits, h.size_fits); nests = omega arith }
 
-  held_bytes : (s : List ℕ) (a n : ℕ) → Spells table src s a n → Holds (scalar (bytes s)) L r (Value.Bytes Text.Literal a n)
+  held_bytes : (s : List ℕ) (a n : ℕ) → Spells table src s a n → Holds (scalar (bytes s)) L r (Value.Bytes (span Text.Literal a n))
   unfolding Stands StandsScalar nesting
-  held_bytes s a n h = record { stands = (Text.Literal, a, ap (λ k. Value.Bytes Text.Literal a k) h.long, spelled_at s a n h); fits = (h.offset_fits, h.size_fits); nests = omega arith }
+  held_bytes s a n h = record { stands = (Text.Literal, a, ap (λ k. Value.Bytes (span Text.Literal a k)) h.long, spelled_at s a n h); fits = (h.offset_fits, h.size_fits); nests = omega arith }
 
   held-null : Holds (scalar null) L r Value.Null
   unfolding Stands StandsScalar nesting
@@ -80,8 +81,8 @@ value-named L r p u (optional_of v) m h = subst (λ x. name_out p x u ≡ Outcom
 module _ (l : Counts) (src : List ℕ) {L : Alive} {u : Counts} {r : Rooms} {s : Scope} {t : Comprehension.Scope} (st : Start l src L u r s t) (p : ℕ) where
   slot-says : (o : Option Meaning.Value) (m : Value) → StandsSlot o L r m → Says l src p L u r (name_out p m (used_of u), r) (or_fail UndeclaredReference o)
   unfolding or_fail
-  slot-says none m h = subst (λ x. Says l src p L u r (name_out p x (used_of u), r) (fail UndeclaredReference)) (sym h) (error-now l src st p UndeclaredReference)
-  slot-says (some v) m h = subst (λ x. Says l src p L u r (x, r) (pure v)) (sym (value-named L r p (used_of u) v m h.stands)) (value-now l src st p m v h)
+  slot-says None m h = subst (λ x. Says l src p L u r (name_out p x (used_of u), r) (fail UndeclaredReference)) (sym h) (error-now l src st p UndeclaredReference)
+  slot-says (Some v) m h = subst (λ x. Says l src p L u r (x, r) (pure v)) (sym (value-named L r p (used_of u) v m h.stands)) (value-now l src st p m v h)
 
   pub name-says : (n : ℕ) → Says l src p L u r (name_out p (slot_of s n) (used_of u), r) (or_fail UndeclaredReference (t n))
   name-says n = slot-says (t n) (slot_of s n) (st.scope.each n)

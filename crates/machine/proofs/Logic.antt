@@ -2,7 +2,7 @@
 use Prim.Native.Nat.{ℕ}
 use mathlib.Core.Path.{◌≡◌, refl, sym, ap, ◌∙◌, subst}
 use mathlib.Core.List.{List, []}
-use mathlib.Core.Option.{Option, none, some}
+use Rattle.std.specs.Prelude.{Option, None, Some}
 use mathlib.Core.Bool.{Bool, true, false, cond, not, beq, true≢false}
 use Rattle.numbers.specs.declared.error.ArithmeticError.TheVariants as Arithmetic
 use Rattle.meaning.specs.Limits.{Counts}
@@ -65,8 +65,8 @@ module _ (l : Counts) (src : List ℕ) where
 
   not_end : {L : Alive} {u : Counts} {r : Rooms} {s : Scope} {t : Comprehension.Scope} → Start l src L u r s t → (p : ℕ) (o : Option Bool) → Says l src p L u r (not_out p (used_of u) o, r) (◌>>=◌ (or_fail NoOverload o) (λ b. truth (not b)))
   unfolding ◌>>=◌ after on_value charged or_fail fail pure
-  not_end a p none = error-now l src a p NoOverload
-  not_end a p (some b) = truth-now a p (not b)
+  not_end a p None = error-now l src a p NoOverload
+  not_end a p (Some b) = truth-now a p (not b)
 
   pub not-says : {L : Alive} {u : Counts} {r : Rooms} {s : Scope} {t : Comprehension.Scope} → Start l src L u r s t → (p : ℕ) (m : Value) (v : Meaning.Value) → Holds v L r m → Says l src p L u r (not_out p (used_of u) (bool_in m), r) (not_rule v)
   unfolding not_rule
@@ -85,12 +85,12 @@ module _ (l : Counts) (src : List ℕ) where
 
   module _ (fold : LogicalFold) (p : ℕ) where
     -- both are Bools or neither is, and the left one did not decide
-    both_end : {L : Alive} {u : Counts} {r : Rooms} {s : Scope} {t : Comprehension.Scope} → Start l src L u r s t → (a : Bool) (o : Option Bool) (d : Bool) → absorbs fold o ≡ d → (m : Value) → bool_in m ≡ some a → (z : Used) → Says l src p L u r (logic_bool fold p (Outcome.Value m z) (used_of u) d o, r) (◌>>=◌ (or_fail NoOverload o) (λ b. truth b))
+    both_end : {L : Alive} {u : Counts} {r : Rooms} {s : Scope} {t : Comprehension.Scope} → Start l src L u r s t → (a : Bool) (o : Option Bool) (d : Bool) → absorbs fold o ≡ d → (m : Value) → bool_in m ≡ Some a → (z : Used) → Says l src p L u r (logic_bool fold p (Outcome.Value m z) (used_of u) d o, r) (◌>>=◌ (or_fail NoOverload o) (λ b. truth b))
     unfolding ◌>>=◌ after on_value charged or_fail fail pure absorbs
-    both_end {L} {u} {r} st a none false e m i z = subst (λ o. Says l src p L u r (both_bools p (used_of u) o none, r) (fail NoOverload)) (sym i) (error-now l src st p NoOverload)
-    both_end {L} {u} {r} st a none true e m i z = absurd (true≢false (sym e))
-    both_end {L} {u} {r} st a (some b) true e m i z = subst (λ c. Says l src p L u r (truth_out c (used_of u), r) (truth b)) (beq-true b (absorbing fold) e) (truth-now st p b)
-    both_end {L} {u} {r} st a (some b) false e m i z = subst (λ o. Says l src p L u r (both_bools p (used_of u) o (some b), r) (truth b)) (sym i) (truth-now st p b)
+    both_end {L} {u} {r} st a None false e m i z = subst (λ o. Says l src p L u r (both_bools p (used_of u) o None, r) (fail NoOverload)) (sym i) (error-now l src st p NoOverload)
+    both_end {L} {u} {r} st a None true e m i z = absurd (true≢false (sym e))
+    both_end {L} {u} {r} st a (Some b) true e m i z = subst (λ c. Says l src p L u r (truth_out c (used_of u), r) (truth b)) (beq-true b (absorbing fold) e) (truth-now st p b)
+    both_end {L} {u} {r} st a (Some b) false e m i z = subst (λ o. Says l src p L u r (both_bools p (used_of u) o (Some b), r) (truth b)) (sym i) (truth-now st p b)
 
     -- the left one raised an error, or is no Bool
     kept-end : {L : Alive} {u : Counts} {r : Rooms} {s : Scope} {t : Comprehension.Scope} → Start l src L u r s t → (e : Raised) (d : Bool) (x : Outcome) → x ≡ cond (bool_wanted (raised_error e)) (no_overload p (used_of u)) (Outcome.Error (error_of (raised_error e)) (raised_place p e) (used_of u)) → (o : Option Bool) (left : Outcome) → undecided p left (used_of u) o ≡ x → Says l src p L u r (logic_bool fold p left (used_of u) d o, r) (choose (truth (absorbing fold)) (Logic.left_error e) d)
@@ -110,9 +110,9 @@ module _ (l : Counts) (src : List ℕ) where
       abbrev does : Scope → Res → Res
       does s x = on_left (logic_left fold x.0) x.0 x.1 (λ w q. goes s x.0 w q)
 
-      after-bool : {L : Alive} {u : Counts} {r : Rooms} {s : Scope} {t : Comprehension.Scope} → Start l src L u r s t → (m : Value) (a : Bool) → bool_in m ≡ some a → Says l src p L u r (does s (Outcome.Value m (used_of u), r)) (after_left fold (g t) (value a))
+      after-bool : {L : Alive} {u : Counts} {r : Rooms} {s : Scope} {t : Comprehension.Scope} → Start l src L u r s t → (m : Value) (a : Bool) → bool_in m ≡ Some a → Says l src p L u r (does s (Outcome.Value m (used_of u), r)) (after_left fold (g t) (value a))
       unfolding after_left choose
-      after-bool {L} {u} {r} {s} {t} st m a i = subst (λ o. Says l src p L u r (on_left (unless_decided (absorbs fold o) (used_of u)) (Outcome.Value m (used_of u)) r (λ w q. goes s (Outcome.Value m (used_of u)) w q)) (choose (truth a) (right_bool (g t)) (absorbs fold (some a)))) (sym i) (go (absorbs fold (some a)))
+      after-bool {L} {u} {r} {s} {t} st m a i = subst (λ o. Says l src p L u r (on_left (unless_decided (absorbs fold o) (used_of u)) (Outcome.Value m (used_of u)) r (λ w q. goes s (Outcome.Value m (used_of u)) w q)) (choose (truth a) (right_bool (g t)) (absorbs fold (Some a)))) (sym i) (go (absorbs fold (Some a)))
         where
           go : (d : Bool) → Says l src p L u r (on_left (unless_decided d (used_of u)) (Outcome.Value m (used_of u)) r (λ w q. goes s (Outcome.Value m (used_of u)) w q)) (choose (truth a) (right_bool (g t)) d)
           go true = subst (λ x. Says l src p L u r (Outcome.Value x (used_of u), r) (truth a)) (sym (bool_is m a i)) (truth-now st p a)
@@ -150,6 +150,6 @@ module _ (l : Counts) (src : List ℕ) where
       K : Res → Res
       K x = with_value x.0 x.1 (λ v w q. branch p w q (bool_in v) (λ z d. if_true s z d) (λ z d. if_false s z d))
 
-      chosen : {M : Alive} {c : Counts} {q : Rooms} → Start l src M c q s t → (x : Bool) → Says l src p M c q (branch p (used_of c) q (some x) (λ z d. if_true s z d) (λ z d. if_false s z d)) (choose (operand (g t)) (operand (h t)) x)
+      chosen : {M : Alive} {c : Counts} {q : Rooms} → Start l src M c q s t → (x : Bool) → Says l src p M c q (branch p (used_of c) q (Some x) (λ z d. if_true s z d) (λ z d. if_false s z d)) (choose (operand (g t)) (operand (h t)) x)
       chosen {M} {c} {q} b true = unfold choose in operand-says l src p M c q (if_true s (used_of c) q) (g t) (hg M s t c q b)
       chosen {M} {c} {q} b false = unfold choose in operand-says l src p M c q (if_false s (used_of c) q) (h t) (hh M s t c q b)

@@ -2,7 +2,8 @@
 use Prim.Native.Nat.{ℕ, zero, suc, ◌+◌, ◌≤◌, ◌<◌, max}
 use mathlib.Core.Path.{◌≡◌, refl, sym, subst}
 use mathlib.Core.List.{List}
-use mathlib.Core.Option.{Option, none, some, bind}
+use Rattle.std.specs.Prelude.{Option, None, Some}
+use Rattle.meaning.specs.Options.{bind}
 use mathlib.Core.Bool.{Bool, true, false, cond}
 use native.Mathlib.Omega.{arith}
 use lib.IntN.{ℤ, pos, negsuc}
@@ -44,39 +45,40 @@ use Rattle.machine.proofs.Seen.{held_none, Probe, probe-view}
 use Rattle.machine.proofs.Logic.{truth-now}
 use Rattle.machine.proofs.Building.{present-says}
 use Rattle.rooms_text.proofs.SizeMeaning.{nth-stands}
+use Rattle.rooms.specs.Spans.{row}
 
-none≢some : {v : Meaning.Value} → ◌≡◌ {A = Option Meaning.Value} none (some v) → ⊥
-none≢some e = let z : ◌≡◌ {A = ℕ} 0 1 = cc in omega arith
+None≢Some : {v : Meaning.Value} → ◌≡◌ {A = Option Meaning.Value} None (Some v) → ⊥
+None≢Some e = let z : ◌≡◌ {A = ℕ} 0 1 = cc in omega arith
 
-some-injective : {v w : Meaning.Value} → ◌≡◌ {A = Option Meaning.Value} (some v) (some w) → v ≡ w
+some-injective : {v w : Meaning.Value} → ◌≡◌ {A = Option Meaning.Value} (Some v) (Some w) → v ≡ w
 some-injective e = cc
 
 -- ---- parts nest no deeper than their container
 
-nth-nesting : (vs : Values) (i : ℕ) (v : Meaning.Value) → nth vs i ≡ some v → nesting v ≤ nesting_in vs
+nth-nesting : (vs : Values) (i : ℕ) (v : Meaning.Value) → nth vs i ≡ Some v → nesting v ≤ nesting_in vs
 unfolding nth nesting_in
-nth-nesting nil i v e = absurd (none≢some e)
+nth-nesting nil i v e = absurd (None≢Some e)
 nth-nesting (cons w vs) zero v e = subst (λ z. nesting z ≤ max (nesting w) (nesting_in vs)) (some-injective e) (omega arith)
 nth-nesting (cons w vs) (suc i) v e = omega (arith, nth-nesting vs i v e)
 
-nth_inside : (vs : Values) (i : ℕ) (v : Meaning.Value) → nth vs i ≡ some v → i < count vs
+nth_inside : (vs : Values) (i : ℕ) (v : Meaning.Value) → nth vs i ≡ Some v → i < count vs
 unfolding nth count
-nth_inside nil i v e = absurd (none≢some e)
+nth_inside nil i v e = absurd (None≢Some e)
 nth_inside (cons w vs) zero v e = omega arith
 nth_inside (cons w vs) (suc i) v e = omega (arith, nth_inside vs i v e)
 
-nth-outside : (vs : Values) (i : ℕ) → nth vs i ≡ none → count vs ≤ i
+nth-outside : (vs : Values) (i : ℕ) → nth vs i ≡ None → count vs ≤ i
 unfolding nth count
 nth-outside nil i e = omega arith
-nth-outside (cons w vs) zero e = absurd (none≢some (sym e))
+nth-outside (cons w vs) zero e = absurd (None≢Some (sym e))
 nth-outside (cons w vs) (suc i) e = omega (arith, nth-outside vs i e)
 
-find-nesting : (x : Scalar) (es : Entries) (v : Meaning.Value) → (find x es).1 ≡ some v → nesting v ≤ nesting_over es
+find-nesting : (x : Scalar) (es : Entries) (v : Meaning.Value) → (find x es).1 ≡ Some v → nesting v ≤ nesting_over es
 unfolding find tick nesting_over
-find-nesting x empty v e = absurd (none≢some e)
+find-nesting x empty v e = absurd (None≢Some e)
 find-nesting x (entry k w es) v e = go (scalar_equal x (key_scalar k)) e (λ i. omega (arith, find-nesting x es v i))
   where
-    go : (b : Bool) → (cond b (0, some w) (find x es)).1 ≡ some v → ((find x es).1 ≡ some v → nesting v ≤ max (nesting w) (nesting_over es)) → nesting v ≤ max (nesting w) (nesting_over es)
+    go : (b : Bool) → (cond b (0, Some w) (find x es)).1 ≡ Some v → ((find x es).1 ≡ Some v → nesting v ≤ max (nesting w) (nesting_over es)) → nesting v ≤ max (nesting w) (nesting_over es)
     go true i f = subst (λ z. nesting z ≤ max (nesting w) (nesting_over es)) (some-injective i) (omega arith)
     go false i f = f i
 
@@ -94,8 +96,8 @@ module _ (l : Counts) (src : List ℕ) where
 
     element-end : (vs : Values) (space : CellSpace) (a i : ℕ) → suc (nesting_in vs) ≤ deepest_value → StandsCells vs L r space a → (o : Option Meaning.Value) → nth vs i ≡ o → Says l src p L u r (element_out p r space a (used_of u) (Positions.inside i (count vs)), r) (or_fail IndexOutOfBounds o)
     unfolding or_fail
-    element-end vs space a i deep h none e = rw (le-ltb i (count vs) (nth-outside vs i e)) (error-now l src st p IndexOutOfBounds)
-    element-end vs space a i deep h (some v) e =
+    element-end vs space a i deep h None e = rw (le-ltb i (count vs) (nth-outside vs i e)) (error-now l src st p IndexOutOfBounds)
+    element-end vs space a i deep h (Some v) e =
         rw (lt-ltb i (count vs) (nth_inside vs i v e)) (value-now l src st p (cell_at r space (a + i)) v (held-cell st v space (a + i) (nth-stands L r vs space a i v h e).1 (omega (arith, nth-nesting vs i v e))))
 
     index-end : (vs : Values) (space : CellSpace) (a : ℕ) → suc (nesting_in vs) ≤ deepest_value → StandsCells vs L r space a → (z : ℤ) → Says l src p L u r (element_out p r space a (used_of u) (inside_int z (count vs)), r) (or_fail IndexOutOfBounds (element_at vs z))
@@ -126,18 +128,18 @@ module _ (l : Counts) (src : List ℕ) where
     -- a key looked up, by what comes of it
     map-end : (es : Entries) (space : CellSpace) (a : ℕ) → suc (nesting_over es) ≤ deepest_value → StandsEntries es L r space a → (n : Value) (o : Option Scalar) → Probe L r o n → Says l src p L u r (cond (is_key n) (entry_out l.steps p r space a (count_entries es) n (used_of u)) (no_overload p (used_of u)), r) (◌>>=◌ (or_fail NoOverload o) (λ x. ◌>>=◌ (compared (find x es)) (or_fail NoSuchKey)))
     unfolding ◌>>=◌ after on_value charged or_fail fail pure
-    map-end es space a deep h n none k = rw k (error-now l src st p NoOverload)
-    map-end es space a deep h n (some x) k =
+    map-end es space a deep h n None k = rw k (error-now l src st p NoOverload)
+    map-end es space a deep h n (Some x) k =
         rw k.0
         (found-then l src st p space (find x es) (find_in l.steps r n space a (count_entries es) u.steps) (find-ok L r l.steps x n es space a u.steps k.1 h)
         (λ f. (on_found f (used_of u) (λ c w. Outcome.Value (cell_at r space c) w) (λ w. Outcome.Error Error.NoSuchKey p w), r)) (or_fail NoSuchKey) (λ j. refl)
         (λ j b. error-now l src b p NoSuchKey)
         (λ j b v e c i g. value-now l src b p (cell_at r space c) v (held-cell b v space c g (omega (arith, find-nesting x es v e)))))
 
-    in-map-end : (es : Entries) (space : CellSpace) (a : ℕ) → StandsEntries es L r space a → (n : Value) (o : Option Scalar) → Probe L r o n → Says l src p L u r (in_parts l.steps p r n (used_of u) (Parts.Entries space a (count_entries es)), r) (◌>>=◌ (or_fail NoOverload o) (λ x. ◌>>=◌ (compared (find x es)) (λ found. truth (is_found found))))
+    in-map-end : (es : Entries) (space : CellSpace) (a : ℕ) → StandsEntries es L r space a → (n : Value) (o : Option Scalar) → Probe L r o n → Says l src p L u r (in_parts l.steps p r n (used_of u) (Parts.Entries (row space a (count_entries es))), r) (◌>>=◌ (or_fail NoOverload o) (λ x. ◌>>=◌ (compared (find x es)) (λ found. truth (is_found found))))
     unfolding ◌>>=◌ after on_value charged or_fail fail pure is_found
-    in-map-end es space a h n none k = rw k (error-now l src st p NoOverload)
-    in-map-end es space a h n (some x) k =
+    in-map-end es space a h n None k = rw k (error-now l src st p NoOverload)
+    in-map-end es space a h n (Some x) k =
         rw k.0
         (found-then l src st p space (find x es) (find_in l.steps r n space a (count_entries es) u.steps) (find-ok L r l.steps x n es space a u.steps k.1 h)
         (λ f. (on_found f (used_of u) (λ c w. truth_out true w) (λ w. truth_out false w), r)) (λ found. truth (is_found found)) (λ j. refl)

@@ -2,7 +2,7 @@
 use Prim.Native.Nat.{ℕ, suc, ◌+◌, ◌*◌, ◌≤◌, ◌<◌, max}
 use mathlib.Core.Path.{◌≡◌, refl, sym, ap, ◌∙◌, subst}
 use mathlib.Core.List.{List, [], ◌∷◌, ◌++◌, append_assoc, append-nil}
-use mathlib.Core.Option.{Option, none, some}
+use Rattle.std.specs.Prelude.{Option, None, Some}
 use mathlib.Core.Bool.{Bool, true, false}
 use native.Mathlib.Omega.{arith}
 use native.Mathlib.Numerals.{add-one}
@@ -14,7 +14,7 @@ use Rattle.meaning.specs.Value.{Values, nil, cons, Entries, empty, entry, scalar
 use Rattle.meaning.specs.Run.{Charge, step, cells, nest, Trace, Result, value, error, Raised, by_rule, Eval, Rule, pure, charged, after, on_value, ◌>>=◌, fail, or_fail, operand, placed}
 use Rattle.meaning.specs.Comparison.{Tally, find, compared}
 use Rattle.meaning.specs.Containers.{Making, keeping, having, ready_in, unmarked, kept, add_new, insert, entry_rule, pair_rule, pad, cells_an_entry, entry_cells, finished, map_rule, into}
-use Rattle.meaning.specs.Optionals.{Unwrapped, NotOptional, Some, None, unwrap_optional}
+use Rattle.meaning.specs.Optionals.{Unwrapped, NotOptional, PresentOptional, NoneOptional, unwrap_optional}
 use Rattle.meaning.specs.Comprehension as Comprehension
 use Rattle.meaning.specs.Logic.{raised_error}
 use Rattle.meaning.specs.Limited.{spend, outcome}
@@ -56,6 +56,7 @@ use Rattle.machine.proofs.Makings.{closing, FillsTo, fills-error, fills-done, fi
 use Rattle.machine.proofs.Lists.{longer}
 use Rattle.rooms.specs.Cells.{Fits}
 use Rattle.rooms.proofs.Depths.{stands-nesting}
+use Rattle.rooms.specs.Spans.{row}
 
 -- ---- entries and their cells
 
@@ -116,11 +117,11 @@ module _ (es : Entries) (rest : Entries → Making Entries) where
   unfolding having keeping after charged on_value fail
   making-fail = refl
 
-  making-no-key : (κ : Meaning.Key → Rule Entries) → making (◌>>=◌ (or_fail UnsupportedKeyType none) κ) ≡ ([], error (es, by_rule UnsupportedKeyType))
+  making-no-key : (κ : Meaning.Key → Rule Entries) → making (◌>>=◌ (or_fail UnsupportedKeyType None) κ) ≡ ([], error (es, by_rule UnsupportedKeyType))
   unfolding having keeping ◌>>=◌ after charged on_value or_fail fail
   making-no-key κ = refl
 
-  making-key : (k : Meaning.Key) (κ : Meaning.Key → Rule Entries) → making (◌>>=◌ (or_fail UnsupportedKeyType (some k)) κ) ≡ making (κ k)
+  making-key : (k : Meaning.Key) (κ : Meaning.Key → Rule Entries) → making (◌>>=◌ (or_fail UnsupportedKeyType (Some k)) κ) ≡ making (κ k)
   unfolding ◌>>=◌ after charged on_value or_fail pure
   making-key k κ = refl
 
@@ -142,10 +143,10 @@ module _ (l : Counts) (src : List ℕ) (p : ℕ) where
   pub map-done : MapFills (λ s base m d u r. map_done base m d u r) (λ t es. pure es) 0
   unfolding nesting
   map-done B L o n es tr u r s t st i =
-      fills-done l src p entry_cells map st es refl (nesting_over es) (λ k. Value.Map k Cells.Evaluation o.cells (count_entries es)) refl
-      (λ deep. unfold Stands in ((Cells.Evaluation, o.cells, ap (λ k. Value.Map k Cells.Evaluation o.cells (count_entries es)) (add-one (nesting_over es)), frame-entries L (Live B o u) r r (agrees-sub L (Live B o u) r st.sub st.begun.below.bytes) es Cells.Evaluation o.cells (cells-entries es L r Cells.Evaluation o.cells st.filled)), small deep))
+      fills-done l src p entry_cells map st es refl (nesting_over es) (λ k. Value.Map k (row Cells.Evaluation o.cells (count_entries es))) refl
+      (λ deep. unfold Stands in ((Cells.Evaluation, o.cells, ap (λ k. Value.Map k (row Cells.Evaluation o.cells (count_entries es))) (add-one (nesting_over es)), frame-entries L (Live B o u) r r (agrees-sub L (Live B o u) r st.sub st.begun.below.bytes) es Cells.Evaluation o.cells (cells-entries es L r Cells.Evaluation o.cells st.filled)), small deep))
     where
-      small : nesting (map es) ≤ deepest_value → Fits (Value.Map (nesting_over es + 1) Cells.Evaluation o.cells (count_entries es))
+      small : nesting (map es) ≤ deepest_value → Fits (Value.Map (nesting_over es + 1) (row Cells.Evaluation o.cells (count_entries es)))
       small deep = (omega arith, omega (arith, st.taken, st.begun.roomy.cells), omega (arith, st.taken, st.begun.roomy.cells, st.inside, cells_count es))
 
   module _ (F : Scope → (base m d : ℕ) → Used → Rooms → Res) (M : Comprehension.Scope → Entries → Making Entries) (z : ℕ) (ih : MapFills F M z) where
@@ -238,8 +239,8 @@ module _ (l : Counts) (src : List ℕ) (p : ℕ) where
         -- after the look-up, by what it found
         tested : (j : ℕ) (x : Option Meaning.Value) (f : ℕ → Found) → FoundIs L r Cells.Evaluation x f → Comes (walked u j) (new (f j)) (making es rest (add_new es k v x))
         unfolding add_new raised_error
-        tested j none f h = subst (λ (g : ℕ → Found). Comes (walked u j) (new (g j)) (making es rest (pure (add_entry es k v)))) (sym h) (subst (λ y. Comes (walked u j) (new (Found.Missing j)) y) (sym (making-value es rest (add_entry es k v))) (entry-stored es (fill-walked l src st j) i k key hk v m hv))
-        tested j (some x) f h = subst (λ (g : ℕ → Found). Comes (walked u j) (new (g j)) (making es rest (fail DuplicateKey))) (sym h.1) (subst (λ y. Comes (walked u j) (new (Found.At h.0 j)) y) (sym (making-fail es rest)) (fills-error l src p entry_cells map (fill-walked l src st j) es refl (by_rule DuplicateKey)))
+        tested j None f h = subst (λ (g : ℕ → Found). Comes (walked u j) (new (g j)) (making es rest (pure (add_entry es k v)))) (sym h) (subst (λ y. Comes (walked u j) (new (Found.Missing j)) y) (sym (making-value es rest (add_entry es k v))) (entry-stored es (fill-walked l src st j) i k key hk v m hv))
+        tested j (Some x) f h = subst (λ (g : ℕ → Found). Comes (walked u j) (new (g j)) (making es rest (fail DuplicateKey))) (sym h.1) (subst (λ y. Comes (walked u j) (new (Found.At h.0 j)) y) (sym (making-fail es rest)) (fills-error l src p entry_cells map (fill-walked l src st j) es refl (by_rule DuplicateKey)))
 
         found : Finds L r Cells.Evaluation l.steps u.steps (find (key_scalar k) es) (find_in l.steps r key Cells.Evaluation o.cells (count_entries es) u.steps)
         unfolding Stands
@@ -262,29 +263,29 @@ module _ (l : Counts) (src : List ℕ) (p : ℕ) where
             subst (λ f. Matches B o r (new f) (outcome (placed p closed.1) (spend l (replicate steps step ++ closed.0) u)) (log ++ (replicate steps step ++ closed.0))) (sym (found.2 ∙ found_in l.steps u.steps steps found.0))
             (steps_then l (λ j. Found.Out j) new B o u r p (λ j. refl) (λ j. keeps_same o (walked u j) r (record { cells = (since l src st).cells; bytes = (since l src st).bytes }) (record { cells = st.begun.roomy.cells; bytes = st.begun.roomy.bytes })) log found.0 closed steps u.steps (tested (u.steps + steps) (find (key_scalar k) es).1 found.0 found.1))
 
-        new_ok : Comes u (adds (some m)) (making es rest (◌>>=◌ (compared (find (key_scalar k) es)) (add_new es k v)))
+        new_ok : Comes u (adds (Some m)) (making es rest (◌>>=◌ (compared (find (key_scalar k) es)) (add_new es k v)))
         new_ok =
-            subst (λ y. Comes u (adds (some m)) y) (sym (making-steps es rest (find (key_scalar k) es) (add_new es k v)))
-            (subst (λ (y : Rule Meaning.Value). Matches B o r (adds (some m)) (outcome (placed p y.1) (spend l y.0 u)) (log ++ y.0)) (sym (steps-closed (replicate steps step) left)) tested-pays)
+            subst (λ y. Comes u (adds (Some m)) y) (sym (making-steps es rest (find (key_scalar k) es) (add_new es k v)))
+            (subst (λ (y : Rule Meaning.Value). Matches B o r (adds (Some m)) (outcome (placed p y.1) (spend l y.0 u)) (log ++ y.0)) (sym (steps-closed (replicate steps step) left)) tested-pays)
           where
             steps-closed : (T : Trace) (y : Making Entries) → ◌≡◌ {A = Rule Meaning.Value} (after (T ++ y.0, y.1) (closing l src p entry_cells map)) (T ++ (after y (closing l src p entry_cells map)).0, (after y (closing l src p entry_cells map)).1)
             steps-closed T y = unfold after charged in λ j. (append_assoc T y.0 (closing l src p entry_cells map y.1).0 j, (closing l src p entry_cells map y.1).1)
 
       -- what an entry adds, in the rooms and in the definition
       abbrev Inserted : Option Meaning.Value → Option Value → Type 0
-      Inserted none y = y ≡ none
-      Inserted (some v) y = (m : Value) × (y ≡ some m) × Holds v L r m
+      Inserted None y = y ≡ None
+      Inserted (Some v) y = (m : Value) × (y ≡ Some m) × Holds v L r m
 
       insert-ok : (x : Option Meaning.Value) (y : Option Value) → Inserted x y → Comes u (adds y) (making es rest (insert es k x))
       unfolding insert
-      insert-ok none y h = subst (λ a. Comes u (adds a) (making es rest (pure es))) (sym h) (subst (λ a. Comes u (adds none) a) (sym (making-value es rest es)) (ih B L o n es tr u r s t st (omega arith)))
-      insert-ok (some v) y h = subst (λ a. Comes u (adds a) (making es rest (◌>>=◌ (compared (find (key_scalar k) es)) (add_new es k v)))) (sym h.1) (new_ok v h.0 h.2)
+      insert-ok None y h = subst (λ a. Comes u (adds a) (making es rest (pure es))) (sym h) (subst (λ a. Comes u (adds None) a) (sym (making-value es rest es)) (ih B L o n es tr u r s t st (omega arith)))
+      insert-ok (Some v) y h = subst (λ a. Comes u (adds a) (making es rest (◌>>=◌ (compared (find (key_scalar k) es)) (add_new es k v)))) (sym h.1) (new_ok v h.0 h.2)
 
       unmarked-view : (m : Value) (x : Unwrapped) → UnwrapView l src L r x m → Inserted (unmarked x) (unmarked_in r m (optional_in m))
       unfolding unmarked
       unmarked-view m (NotOptional v) h = (m, ap (unmarked_in r m) h.0, h.1)
-      unmarked-view m (Some v) h = (cell_at r h.0 h.1, ap (unmarked_in r m) h.2, h.3)
-      unmarked-view m None h = ap (λ y. unmarked_in r y (optional_in y)) h
+      unmarked-view m (PresentOptional v) h = (cell_at r h.0 h.1, ap (unmarked_in r m) h.2, h.3)
+      unmarked-view m NoneOptional h = ap (λ y. unmarked_in r y (optional_in y)) h
 
       kept-view : (marked : Bool) (m : Value) (v : Meaning.Value) → Holds v L r m → Inserted (kept marked v) (part_in r marked m)
       unfolding kept
@@ -310,8 +311,8 @@ module _ (l : Counts) (src : List ℕ) (p : ℕ) where
 
         after-key : (key : Value) (o' : Option Meaning.Key) → KeyView L r o' key → Fits key → FillsTo l src p entry_cells map B o n tr u r (if_key (is_key key) p (used_of u) r (λ y q. ends key (value_does s y q))) (making es (λ fs. M t fs) (◌>>=◌ (or_fail UnsupportedKeyType o') (λ k. value_rule t es k)))
         unfolding raised_error
-        after-key key none h x = rw h (subst (λ y. FillsTo l src p entry_cells map B o n tr u r (Outcome.Error Error.UnsupportedKeyType p (used_of u), r) y) (sym (making-no-key es (λ fs. M t fs) (λ k. value_rule t es k))) (fills-error l src p entry_cells map st es refl (by_rule UnsupportedKeyType)))
-        after-key key (some k) h x =
+        after-key key None h x = rw h (subst (λ y. FillsTo l src p entry_cells map B o n tr u r (Outcome.Error Error.UnsupportedKeyType p (used_of u), r) y) (sym (making-no-key es (λ fs. M t fs) (λ k. value_rule t es k))) (fills-error l src p entry_cells map st es refl (by_rule UnsupportedKeyType)))
+        after-key key (Some k) h x =
             rw h.0
             (subst (λ y. FillsTo l src p entry_cells map B o n tr u r (ends key (value_does s (used_of u) r)) y) (sym (making-key es (λ fs. M t fs) k (λ j. value_rule t es j) ∙ making-bind es (λ fs. M t fs) (operand (g t)) (λ j. insert es k (kept marked j))))
             (fills-then l src p entry_cells map st value_does g hg (ends key) (λ y. making es (λ fs. M t fs) (on_value (λ j. insert es k (kept marked j)) y))

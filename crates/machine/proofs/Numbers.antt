@@ -3,7 +3,8 @@
 use Prim.Native.Nat.{ℕ, suc, ◌^◌, ◌<◌}
 use mathlib.Core.Path.{◌≡◌, refl, ap, ◌∙◌}
 use mathlib.Core.List.{List}
-use mathlib.Core.Option.{Option, none, some, bind}
+use Rattle.std.specs.Prelude.{Option, None, Some}
+use Rattle.meaning.specs.Options.{bind}
 use native.Mathlib.Omega.{arith}
 use lib.IntN.{ℤ}
 use lib.Signed.{mag}
@@ -34,6 +35,7 @@ use Rattle.machine.specs.Outcomes.{Res, no_overload}
 use Rattle.machine.specs.Numbers.{int_out, uint_out, doubles_out, number_arith, text_sum, string_sum, bytes_sum, list_sum}
 use Rattle.machine.proofs.Words.{bits_fit}
 use Rattle.rooms_comparison.proofs.SeenMeaning.{scalar-parts}
+use Rattle.rooms.specs.Spans.{span, row}
 
 -- ---- numbers are held
 
@@ -54,66 +56,66 @@ held-double L r d h = record { stands = (double_of d, refl, bits_back d h); fits
 -- one view after the other
 pub twice : {A B : Type 0} (o : Option A) (f : A → Option B) (k : B → Rule Meaning.Value) → ◌>>=◌ (or_fail NoOverload o) (λ y. ◌>>=◌ (or_fail NoOverload (f y)) k) ≡ ◌>>=◌ (or_fail NoOverload (bind o f)) k
 unfolding ◌>>=◌ after on_value charged or_fail fail pure bind
-twice none f k = refl
-twice (some y) f k = refl
+twice None f k = refl
+twice (Some y) f k = refl
 
 -- no kind of the right operand helps
 pub never : {A : Type 0} (o : Option A) → ◌>>=◌ (or_fail NoOverload o) (λ (y : A). fail {A = Meaning.Value} NoOverload) ≡ fail NoOverload
 unfolding ◌>>=◌ after on_value charged or_fail fail pure
-never none = refl
-never (some y) = refl
+never None = refl
+never (Some y) = refl
 
 abbrev pub int_plain : Plain → Option ℤ
-int_plain Plain.Null = none
-int_plain (Plain.Bool b) = none
-int_plain (Plain.Number (Number.Int z)) = some z
-int_plain (Plain.Number (Number.Uint n)) = none
-int_plain (Plain.Number (Number.Double d)) = none
-int_plain (Plain.String s a n) = none
-int_plain (Plain.Bytes s a n) = none
-int_plain Plain.OptionalNone = none
-int_plain Plain.Other = none
+int_plain Plain.Null = None
+int_plain (Plain.Bool b) = None
+int_plain (Plain.Number (Number.Int z)) = Some z
+int_plain (Plain.Number (Number.Uint n)) = None
+int_plain (Plain.Number (Number.Double d)) = None
+int_plain (Plain.String sp) = None
+int_plain (Plain.Bytes sp) = None
+int_plain Plain.OptionalNone = None
+int_plain Plain.Other = None
 
 abbrev pub uint_plain : Plain → Option ℕ
-uint_plain Plain.Null = none
-uint_plain (Plain.Bool b) = none
-uint_plain (Plain.Number (Number.Int z)) = none
-uint_plain (Plain.Number (Number.Uint n)) = some n
-uint_plain (Plain.Number (Number.Double d)) = none
-uint_plain (Plain.String s a n) = none
-uint_plain (Plain.Bytes s a n) = none
-uint_plain Plain.OptionalNone = none
-uint_plain Plain.Other = none
+uint_plain Plain.Null = None
+uint_plain (Plain.Bool b) = None
+uint_plain (Plain.Number (Number.Int z)) = None
+uint_plain (Plain.Number (Number.Uint n)) = Some n
+uint_plain (Plain.Number (Number.Double d)) = None
+uint_plain (Plain.String sp) = None
+uint_plain (Plain.Bytes sp) = None
+uint_plain Plain.OptionalNone = None
+uint_plain Plain.Other = None
 
 abbrev pub double_plain : Plain → Option Double
-double_plain Plain.Null = none
-double_plain (Plain.Bool b) = none
-double_plain (Plain.Number (Number.Int z)) = none
-double_plain (Plain.Number (Number.Uint n)) = none
-double_plain (Plain.Number (Number.Double d)) = some d
-double_plain (Plain.String s a n) = none
-double_plain (Plain.Bytes s a n) = none
-double_plain Plain.OptionalNone = none
-double_plain Plain.Other = none
+double_plain Plain.Null = None
+double_plain (Plain.Bool b) = None
+double_plain (Plain.Number (Number.Int z)) = None
+double_plain (Plain.Number (Number.Uint n)) = None
+double_plain (Plain.Number (Number.Double d)) = Some d
+double_plain (Plain.String sp) = None
+double_plain (Plain.Bytes sp) = None
+double_plain Plain.OptionalNone = None
+double_plain Plain.Other = None
 
 -- space, first byte, length
 abbrev pub string_plain : Plain → Option (TextSpace × ℕ × ℕ)
-string_plain Plain.Null = none
-string_plain (Plain.Bool b) = none
-string_plain (Plain.Number n) = none
-string_plain (Plain.String s a n) = some (s, a, n)
-string_plain (Plain.Bytes s a n) = none
-string_plain Plain.OptionalNone = none
-string_plain Plain.Other = none
+string_plain Plain.Null = None
+string_plain (Plain.Bool b) = None
+string_plain (Plain.Number n) = None
+string_plain (Plain.String sp) = Some (sp.space, sp.first, sp.length)
+string_plain (Plain.Bytes sp) = None
+string_plain Plain.OptionalNone = None
+string_plain Plain.Other = None
 
 abbrev pub bytes_plain : Plain → Option (TextSpace × ℕ × ℕ)
-bytes_plain Plain.Null = none
-bytes_plain (Plain.Bool b) = none
-bytes_plain (Plain.Number n) = none
-bytes_plain (Plain.String s a n) = none
-bytes_plain (Plain.Bytes s a n) = some (s, a, n)
-bytes_plain Plain.OptionalNone = none
-bytes_plain Plain.Other = none
+bytes_plain Plain.Null = None
+bytes_plain (Plain.Bool b) = None
+bytes_plain (Plain.Number n) = None
+bytes_plain (Plain.String sp) = None
+bytes_plain (Plain.Bytes sp) = Some (sp.space, sp.first, sp.length)
+bytes_plain Plain.OptionalNone = None
+bytes_plain Plain.Other = None
 
 pub plain-double : (x : Double) → plain_of (double_value x) ≡ Plain.Number (Number.Double x)
 plain-double (Bits.Plain x) = refl
@@ -150,8 +152,8 @@ module _ (L : Alive) (r : Rooms) where
 
   -- the same bits, or no Double
   abbrev pub DoubleView : Option ℕ → Option Double → Type 0
-  DoubleView none o = o ≡ none
-  DoubleView (some d) o = (x : Double) × (o ≡ some x) × (bits_of x ≡ d)
+  DoubleView None o = o ≡ None
+  DoubleView (Some d) o = (x : Double) × (o ≡ Some x) × (bits_of x ≡ d)
 
   pub double-view : (w : Meaning.Value) (m : Value) → Stands w L r m → DoubleView (bind (scalar_of w) double_in) (double_plain (plain_of m))
   unfolding Stands StandsScalar scalar_of double_in bind
@@ -169,8 +171,8 @@ module _ (L : Alive) (r : Rooms) where
 
   -- where the text lies, or that there is none
   abbrev pub TextView : Option (List ℕ) → Option (TextSpace × ℕ × ℕ) → Type 0
-  TextView none o = o ≡ none
-  TextView (some s) o = (space : TextSpace) × (a : ℕ) × (o ≡ some (space, a, length s)) × TextAt s L r space a
+  TextView None o = o ≡ None
+  TextView (Some s) o = (space : TextSpace) × (a : ℕ) × (o ≡ Some (space, a, length s)) × TextAt s L r space a
 
   pub string-text : (w : Meaning.Value) (m : Value) → Stands w L r m → TextView (bind (scalar_of w) string_in) (string_plain (plain_of m))
   unfolding Stands StandsScalar scalar_of string_in bind
@@ -202,8 +204,8 @@ module _ (L : Alive) (r : Rooms) where
 
   -- the elements, or that there are none
   abbrev pub ListView : Option Values → Value → Type 0
-  ListView none m = (p : ℕ) (d : ℕ) (s : CellSpace) (a n : ℕ) (u : Used) (q : Rooms) → list_sum p d s a n (parts_of m) u q ≡ (no_overload p u, q)
-  ListView (some ws) m = (space : CellSpace) × (a : ℕ) × (parts_of m ≡ Parts.Elements space a (count ws)) × (nesting_of m ≡ suc (nesting_in ws)) × StandsCells ws L r space a
+  ListView None m = (p : ℕ) (d : ℕ) (s : CellSpace) (a n : ℕ) (u : Used) (q : Rooms) → list_sum p d s a n (parts_of m) u q ≡ (no_overload p u, q)
+  ListView (Some ws) m = (space : CellSpace) × (a : ℕ) × (parts_of m ≡ Parts.Elements (row space a (count ws))) × (nesting_of m ≡ suc (nesting_in ws)) × StandsCells ws L r space a
 
   pub list-view : (w : Meaning.Value) (m : Value) → Stands w L r m → ListView (elements_of w) m
   unfolding Stands elements_of
@@ -216,8 +218,8 @@ module _ (L : Alive) (r : Rooms) where
 -- ---- what the machine does with a number on the left, by the view of the right one
 
 abbrev pub int_or : ℕ → Used → Arith → ℤ → Option ℤ → Outcome
-int_or p u o a none = no_overload p u
-int_or p u o a (some b) = int_out p u (int_arith o a b)
+int_or p u o a None = no_overload p u
+int_or p u o a (Some b) = int_out p u (int_arith o a b)
 
 pub number-int : (p : ℕ) (u : Used) (o : Arith) (a : ℤ) (x : Plain) → number_arith p u o (Number.Int a) x ≡ int_or p u o a (int_plain x)
 number-int p u o a Plain.Null = refl
@@ -225,14 +227,14 @@ number-int p u o a (Plain.Bool b) = refl
 number-int p u o a (Plain.Number (Number.Int z)) = refl
 number-int p u o a (Plain.Number (Number.Uint n)) = refl
 number-int p u o a (Plain.Number (Number.Double d)) = refl
-number-int p u o a (Plain.String s b n) = refl
-number-int p u o a (Plain.Bytes s b n) = refl
+number-int p u o a (Plain.String sp) = refl
+number-int p u o a (Plain.Bytes sp) = refl
 number-int p u o a Plain.OptionalNone = refl
 number-int p u o a Plain.Other = refl
 
 abbrev pub uint_or : ℕ → Used → Arith → ℕ → Option ℕ → Outcome
-uint_or p u o a none = no_overload p u
-uint_or p u o a (some b) = uint_out p u (uint_arith o a b)
+uint_or p u o a None = no_overload p u
+uint_or p u o a (Some b) = uint_out p u (uint_arith o a b)
 
 pub number-uint : (p : ℕ) (u : Used) (o : Arith) (a : ℕ) (x : Plain) → number_arith p u o (Number.Uint a) x ≡ uint_or p u o a (uint_plain x)
 number-uint p u o a Plain.Null = refl
@@ -240,14 +242,14 @@ number-uint p u o a (Plain.Bool b) = refl
 number-uint p u o a (Plain.Number (Number.Int z)) = refl
 number-uint p u o a (Plain.Number (Number.Uint n)) = refl
 number-uint p u o a (Plain.Number (Number.Double d)) = refl
-number-uint p u o a (Plain.String s b n) = refl
-number-uint p u o a (Plain.Bytes s b n) = refl
+number-uint p u o a (Plain.String sp) = refl
+number-uint p u o a (Plain.Bytes sp) = refl
 number-uint p u o a Plain.OptionalNone = refl
 number-uint p u o a Plain.Other = refl
 
 abbrev pub double_or : ℕ → Used → Arith → Double → Option Double → Outcome
-double_or p u o a none = no_overload p u
-double_or p u o a (some b) = doubles_out p u o a b
+double_or p u o a None = no_overload p u
+double_or p u o a (Some b) = doubles_out p u o a b
 
 pub number-double : (p : ℕ) (u : Used) (o : Arith) (a : Double) (x : Plain) → number_arith p u o (Number.Double a) x ≡ double_or p u o a (double_plain x)
 number-double p u o a Plain.Null = refl
@@ -255,29 +257,29 @@ number-double p u o a (Plain.Bool b) = refl
 number-double p u o a (Plain.Number (Number.Int z)) = refl
 number-double p u o a (Plain.Number (Number.Uint n)) = refl
 number-double p u o a (Plain.Number (Number.Double d)) = refl
-number-double p u o a (Plain.String s b n) = refl
-number-double p u o a (Plain.Bytes s b n) = refl
+number-double p u o a (Plain.String sp) = refl
+number-double p u o a (Plain.Bytes sp) = refl
 number-double p u o a Plain.OptionalNone = refl
 number-double p u o a Plain.Other = refl
 
 abbrev pub text_or : ℕ → (ℕ → ℕ → Value) → TextSpace → ℕ → ℕ → Option (TextSpace × ℕ × ℕ) → Used → Rooms → Res
-text_or p make s a n none u r = (no_overload p u, r)
-text_or p make s a n (some x) u r = text_sum make s a n x.0 x.1 x.2 u r
+text_or p make s a n None u r = (no_overload p u, r)
+text_or p make s a n (Some x) u r = text_sum make s a n x.0 x.1 x.2 u r
 
-pub string-sum : (p : ℕ) (s : TextSpace) (a n : ℕ) (x : Plain) (u : Used) (r : Rooms) → string_sum p s a n x u r ≡ text_or p (λ f k. Value.String Text.Evaluation f k) s a n (string_plain x) u r
+pub string-sum : (p : ℕ) (s : TextSpace) (a n : ℕ) (x : Plain) (u : Used) (r : Rooms) → string_sum p s a n x u r ≡ text_or p (λ f k. Value.String (span Text.Evaluation f k)) s a n (string_plain x) u r
 string-sum p s a n Plain.Null u r = refl
 string-sum p s a n (Plain.Bool b) u r = refl
 string-sum p s a n (Plain.Number b) u r = refl
-string-sum p s a n (Plain.String t b m) u r = refl
-string-sum p s a n (Plain.Bytes t b m) u r = refl
+string-sum p s a n (Plain.String sp) u r = refl
+string-sum p s a n (Plain.Bytes sp) u r = refl
 string-sum p s a n Plain.OptionalNone u r = refl
 string-sum p s a n Plain.Other u r = refl
 
-pub bytes-sum : (p : ℕ) (s : TextSpace) (a n : ℕ) (x : Plain) (u : Used) (r : Rooms) → bytes_sum p s a n x u r ≡ text_or p (λ f k. Value.Bytes Text.Evaluation f k) s a n (bytes_plain x) u r
+pub bytes-sum : (p : ℕ) (s : TextSpace) (a n : ℕ) (x : Plain) (u : Used) (r : Rooms) → bytes_sum p s a n x u r ≡ text_or p (λ f k. Value.Bytes (span Text.Evaluation f k)) s a n (bytes_plain x) u r
 bytes-sum p s a n Plain.Null u r = refl
 bytes-sum p s a n (Plain.Bool b) u r = refl
 bytes-sum p s a n (Plain.Number b) u r = refl
-bytes-sum p s a n (Plain.String t b m) u r = refl
-bytes-sum p s a n (Plain.Bytes t b m) u r = refl
+bytes-sum p s a n (Plain.String sp) u r = refl
+bytes-sum p s a n (Plain.Bytes sp) u r = refl
 bytes-sum p s a n Plain.OptionalNone u r = refl
 bytes-sum p s a n Plain.Other u r = refl

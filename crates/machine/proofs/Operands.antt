@@ -2,7 +2,8 @@
 use Prim.Native.Nat.{ℕ, ◌≤◌}
 use mathlib.Core.Path.{◌≡◌, refl, sym, ap, ◌∙◌, subst}
 use mathlib.Core.List.{List, append_assoc}
-use mathlib.Core.Option.{Option, none, some, bind}
+use Rattle.std.specs.Prelude.{Option, None, Some}
+use Rattle.meaning.specs.Options.{bind}
 use mathlib.Core.Bool.{Bool}
 use Rattle.numbers.specs.declared.double.Double.{Double}
 use Rattle.numbers.specs.declared.double.Double.TheVariants as Bits
@@ -35,7 +36,7 @@ after-assoc r f g = λ i. (append_assoc r.0 (f r.1).0 (g (f r.1).1).0 i, (g (f r
 
 -- ---- a Bool
 
-double-no-bool : (x : Double) → bool_in (double_value x) ≡ none
+double-no-bool : (x : Double) → bool_in (double_value x) ≡ None
 double-no-bool (Bits.Plain x) = refl
 double-no-bool (Bits.Nan b) = refl
 
@@ -76,17 +77,17 @@ module _ (l : Counts) (src : List ℕ) where
 
   -- an operand that has to be a Bool
   abbrev pub OnBool : ℕ → Alive → Rooms → Scope → Comprehension.Scope → (Res → Res) → (Result Raised Bool → Rule Meaning.Value) → Type 1
-  OnBool p L r s t K k = (M : Alive) (c : Counts) (q : Rooms) → Start l src M c q s t → Agrees L M r q → (m : Value) (b : Bool) → bool_in m ≡ some b → Says l src p M c q (K (Outcome.Value m (used_of c), q)) (k (value b))
+  OnBool p L r s t K k = (M : Alive) (c : Counts) (q : Rooms) → Start l src M c q s t → Agrees L M r q → (m : Value) (b : Bool) → bool_in m ≡ Some b → Says l src p M c q (K (Outcome.Value m (used_of c), q)) (k (value b))
 
   abbrev pub OnOther : ℕ → Alive → Rooms → Scope → Comprehension.Scope → (Res → Res) → (Result Raised Bool → Rule Meaning.Value) → Type 1
-  OnOther p L r s t K k = (M : Alive) (c : Counts) (q : Rooms) → Start l src M c q s t → Agrees L M r q → (m : Value) → bool_in m ≡ none → Says l src p M c q (K (Outcome.Value m (used_of c), q)) (k (error (by_rule (UnexpectedType a_bool))))
+  OnOther p L r s t K k = (M : Alive) (c : Counts) (q : Rooms) → Start l src M c q s t → Agrees L M r q → (m : Value) → bool_in m ≡ None → Says l src p M c q (K (Outcome.Value m (used_of c), q)) (k (error (by_rule (UnexpectedType a_bool))))
 
   abbrev pub OnBoolError : ℕ → Alive → Rooms → Scope → Comprehension.Scope → (Res → Res) → (Result Raised Bool → Rule Meaning.Value) → Type 1
   OnBoolError p L r s t K k = (M : Alive) (c : Counts) (q : Rooms) → Start l src M c q s t → Agrees L M r q → (e : Raised) → Says l src p M c q (K (Outcome.Error (error_of (raised_error e)) (raised_place p e) (used_of c), q)) (k (error e))
 
   -- the same, where it matters that cells are only taken
   abbrev pub OnBoolGrown : ℕ → Alive → Counts → Rooms → Scope → Comprehension.Scope → (Res → Res) → (Result Raised Bool → Rule Meaning.Value) → Type 1
-  OnBoolGrown p L u r s t K k = (M : Alive) (c : Counts) (q : Rooms) → Start l src M c q s t → Agrees L M r q → u.cells ≤ c.cells → (m : Value) (b : Bool) → bool_in m ≡ some b → Says l src p M c q (K (Outcome.Value m (used_of c), q)) (k (value b))
+  OnBoolGrown p L u r s t K k = (M : Alive) (c : Counts) (q : Rooms) → Start l src M c q s t → Agrees L M r q → u.cells ≤ c.cells → (m : Value) (b : Bool) → bool_in m ≡ Some b → Says l src p M c q (K (Outcome.Value m (used_of c), q)) (k (value b))
 
   pub try-bool-grown : {L : Alive} {u : Counts} {r : Rooms} {s : Scope} {t : Comprehension.Scope} → Start l src L u r s t → (p : ℕ) (m : Does) (f : Comprehension.Scope → Eval Meaning.Value) → Refines l src m f → (K : Res → Res) (k : Result Raised Bool → Rule Meaning.Value)
       → OnBoolGrown p L u r s t K k → OnOther p L r s t K k → OnBoolError p L r s t K k → HandsOut l src K
@@ -99,8 +100,8 @@ module _ (l : Counts) (src : List ℕ) where
       (λ M c q b j n. unfold on_value after charged in e M c q b j n) w)
     where
       go : (M : Alive) (c : Counts) (q : Rooms) → Start l src M c q s t → Agrees L M r q → u.cells ≤ c.cells → (n : Value) (v : Meaning.Value) (x : Option Bool) → bool_in n ≡ x → Says l src p M c q (K (Outcome.Value n (used_of c), q)) (after (or_fail (UnexpectedType a_bool) x) k)
-      go M c q b j d n v none i = unfold or_fail fail after charged in o M c q b j n i
-      go M c q b j d n v (some y) i = unfold or_fail pure after charged in g M c q b j d n y i
+      go M c q b j d n v None i = unfold or_fail fail after charged in o M c q b j n i
+      go M c q b j d n v (Some y) i = unfold or_fail pure after charged in g M c q b j d n y i
 
   pub try-bool : {L : Alive} {u : Counts} {r : Rooms} {s : Scope} {t : Comprehension.Scope} → Start l src L u r s t → (p : ℕ) (m : Does) (f : Comprehension.Scope → Eval Meaning.Value) → Refines l src m f → (K : Res → Res) (k : Result Raised Bool → Rule Meaning.Value)
       → OnBool p L r s t K k → OnOther p L r s t K k → OnBoolError p L r s t K k → HandsOut l src K

@@ -2,7 +2,7 @@
 use Prim.Native.Nat.{ℕ, suc, ◌+◌, ◌≤◌}
 use mathlib.Core.Path.{◌≡◌, refl, sym, ap, subst}
 use mathlib.Core.List.{List, [], ◌∷◌, ◌++◌, append-nil}
-use mathlib.Core.Option.{Option, none, some, map}
+use Rattle.std.specs.Prelude.{Option, None, Some, option_map}
 use mathlib.Core.Bool.{Bool, true, false, cond}
 use native.Mathlib.Omega.{arith}
 use lib.Dec.{eqb}
@@ -31,8 +31,8 @@ use Rattle.machine.proofs.Comprehending.{PathOk}
 
 append-count : (vs : Values) (o : Option Meaning.Value) → count (append vs o) ≤ count vs + 1
 unfolding append
-append-count vs none = omega arith
-append-count vs (some v) = omega (arith, longer vs v)
+append-count vs None = omega arith
+append-count vs (Some v) = omega (arith, longer vs v)
 
 value-is : {vs ws : Values} → ◌≡◌ {A = Result (Values × Raised) Values} (value vs) (value ws) → vs ≡ ws
 value-is e = cc
@@ -100,17 +100,17 @@ is-list p n m f v e = go m.1 refl e
 -- ---- which steps append
 
 -- by cases on a test
-by-test : {A B : Type 0} (R : Option A → Option B → Type 1) → R none none → (b : Bool) (x : Option A) (y : Option B) → R x y → R (cond b x none) (cond b y none)
+by-test : {A B : Type 0} (R : Option A → Option B → Type 1) → R None None → (b : Bool) (x : Option A) (y : Option B) → R x y → R (cond b x None) (cond b y None)
 by-test R n true x y h = h
 by-test R n false x y h = n
 
 module _ (l : Counts) (src : List ℕ) where
   -- an items list, or none, in both
   abbrev pub ListedOk : Option Does → Option (Scope → Eval Values) → Type 1
-  ListedOk none none = Unit {1}
-  ListedOk none (some f) = (P : Type 0) → P
-  ListedOk (some m) none = (P : Type 0) → P
-  ListedOk (some m) (some f) = ItemsOk l src m f
+  ListedOk None None = Unit {1}
+  ListedOk None (Some f) = (P : Type 0) → P
+  ListedOk (Some m) None = (P : Type 0) → P
+  ListedOk (Some m) (Some f) = ItemsOk l src m f
 
   pub elements-items : (p : ℕ) (es : Elements) (m : Does) → Refines l src m (λ t. begin p (into list (list_rule (count_elements es) (run_elements es t nil)))) → ItemsOk l src m (λ t. begin p (list_rule (count_elements es) (run_elements es t nil)))
   unfolding count
@@ -126,59 +126,59 @@ module _ (l : Counts) (src : List ℕ) where
       fewer ws h = omega arith
 
   -- `name + [..]`
-  sum-ok : (a : ℕ) (n : Option ℕ) (does : Option Does) (items : Option (Scope → Eval Values)) → ListedOk does items → ListedOk (cond (named a n) does none) (of_name a (a_sum n items).adds)
+  sum-ok : (a : ℕ) (n : Option ℕ) (does : Option Does) (items : Option (Scope → Eval Values)) → ListedOk does items → ListedOk (cond (named a n) does None) (of_name a (a_sum n items).adds)
   unfolding a_sum of_name named
-  sum-ok a none does items h = tt
-  sum-ok a (some n) does none h = go (eqb n a) does h
+  sum-ok a None does items h = tt
+  sum-ok a (Some n) does None h = go (eqb n a) does h
     where
-      go : (b : Bool) (does : Option Does) → ListedOk does none → ListedOk (cond b does none) none
+      go : (b : Bool) (does : Option Does) → ListedOk does None → ListedOk (cond b does None) None
       go true does h = h
       go false does h = tt
-  sum-ok a (some n) does (some f) h = by-test ListedOk tt (eqb n a) does (some f) h
+  sum-ok a (Some n) does (Some f) h = by-test ListedOk tt (eqb n a) does (Some f) h
 
   -- without a guard, and under one
-  unguarded-ok : (a : ℕ) (n : Option ℕ) (does : Option Does) (items : Option (Scope → Eval Values)) → ListedOk does items → PathOk l src (appending none (cond (named a n) does none)) (of_name a (a_sum n items).appends)
+  unguarded-ok : (a : ℕ) (n : Option ℕ) (does : Option Does) (items : Option (Scope → Eval Values)) → ListedOk does items → PathOk l src (appending None (cond (named a n) does None)) (of_name a (a_sum n items).appends)
   unfolding a_sum of_name named
-  unguarded-ok a none does items h = tt
-  unguarded-ok a (some n) does none h = go (eqb n a) does h
+  unguarded-ok a None does items h = tt
+  unguarded-ok a (Some n) does None h = go (eqb n a) does h
     where
-      go : (b : Bool) (does : Option Does) → ListedOk does none → PathOk l src (appending none (cond b does none)) none
-      go true none h = tt
-      go true (some m) h = h
+      go : (b : Bool) (does : Option Does) → ListedOk does None → PathOk l src (appending None (cond b does None)) None
+      go true None h = tt
+      go true (Some m) h = h
       go false does h = tt
-  unguarded-ok a (some n) does (some f) h = go (eqb n a) does h
+  unguarded-ok a (Some n) does (Some f) h = go (eqb n a) does h
     where
-      go : (b : Bool) (does : Option Does) → ListedOk does (some f) → PathOk l src (appending none (cond b does none)) (cond b (some (record { guard = none; items = f })) none)
-      go true none h = h
-      go true (some m) h = (tt, h)
+      go : (b : Bool) (does : Option Does) → ListedOk does (Some f) → PathOk l src (appending None (cond b does None)) (cond b (Some (record { guard = None; items = f })) None)
+      go true None h = h
+      go true (Some m) h = (tt, h)
       go false does h = tt
 
   module _ (guard : Does) (f : Scope → Eval Meaning.Value) (h : Refines l src guard f) where
     -- the sum, of one name
-    guarded-sum : (does : Option Does) (items : Option (Scope → Eval Values)) (n : ℕ) → ListedOk does items → PathOk l src (appending (some guard) does) (map (λ x. x.1) (map (guarded_by f n) items))
+    guarded-sum : (does : Option Does) (items : Option (Scope → Eval Values)) (n : ℕ) → ListedOk does items → PathOk l src (appending (Some guard) does) (option_map (λ x. x.1) (option_map (guarded_by f n) items))
     unfolding guarded_by
-    guarded-sum none none n k = tt
-    guarded-sum none (some g) n k = k
-    guarded-sum (some m) none n k = k
-    guarded-sum (some m) (some g) n k = (h, k)
+    guarded-sum None None n k = tt
+    guarded-sum None (Some g) n k = k
+    guarded-sum (Some m) None n k = k
+    guarded-sum (Some m) (Some g) n k = (h, k)
 
-    pub conditional-ok : (a : ℕ) (does : Option Does) (sum : Option (ℕ × (Scope → Eval Values))) (n : Option ℕ) → ListedOk does (of_name a sum) → PathOk l src (cond (named a n) (appending (some guard) does) none) (of_name a (a_conditional f sum n).appends)
+    pub conditional-ok : (a : ℕ) (does : Option Does) (sum : Option (ℕ × (Scope → Eval Values))) (n : Option ℕ) → ListedOk does (of_name a sum) → PathOk l src (cond (named a n) (appending (Some guard) does) None) (of_name a (a_conditional f sum n).appends)
     unfolding a_conditional named
-    conditional-ok a does sum none k = unfold of_name in tt
-    conditional-ok a does sum (some n) k = go (eqb n a) refl
+    conditional-ok a does sum None k = unfold of_name in tt
+    conditional-ok a does sum (Some n) k = go (eqb n a) refl
       where
         -- what is seen of one name, found again under it
-        again : (b : Bool) (items : Option (Scope → Eval Values)) → eqb n a ≡ b → of_name a (map (guarded_by f n) items) ≡ cond b (map (λ x. x.1) (map (guarded_by f n) items)) none
-        again b none e = unfold of_name in same b
+        again : (b : Bool) (items : Option (Scope → Eval Values)) → eqb n a ≡ b → of_name a (option_map (guarded_by f n) items) ≡ cond b (option_map (λ x. x.1) (option_map (guarded_by f n) items)) None
+        again b None e = unfold of_name in same b
           where
-            same : (b : Bool) → ◌≡◌ {A = Option Rules.AppendStep} none (cond b none none)
+            same : (b : Bool) → ◌≡◌ {A = Option Rules.AppendStep} None (cond b None None)
             same true = refl
             same false = refl
-        again b (some g) e = unfold of_name guarded_by in ap (λ z. cond z (some (record { guard = some f; items = g })) none) e
+        again b (Some g) e = unfold of_name guarded_by in ap (λ z. cond z (Some (record { guard = Some f; items = g })) None) e
 
-        go : (b : Bool) → eqb n a ≡ b → PathOk l src (cond (eqb n a) (appending (some guard) does) none) (of_name a (map (guarded_by f n) (of_name n sum)))
-        go true e = subst (λ z. PathOk l src z (of_name a (map (guarded_by f n) (of_name n sum)))) (ap (λ b. cond b (appending (some guard) does) none) (sym e)) (subst (λ z. PathOk l src (appending (some guard) does) z) (sym (again true (of_name n sum) e)) (guarded-sum does (of_name n sum) n (subst (λ z. ListedOk does (of_name z sum)) (sym (eqb-true n a e)) k)))
-        go false e = subst (λ z. PathOk l src z (of_name a (map (guarded_by f n) (of_name n sum)))) (ap (λ b. cond b (appending (some guard) does) none) (sym e)) (subst (λ z. PathOk l src none z) (sym (again false (of_name n sum) e)) tt)
+        go : (b : Bool) → eqb n a ≡ b → PathOk l src (cond (eqb n a) (appending (Some guard) does) None) (of_name a (option_map (guarded_by f n) (of_name n sum)))
+        go true e = subst (λ z. PathOk l src z (of_name a (option_map (guarded_by f n) (of_name n sum)))) (ap (λ b. cond b (appending (Some guard) does) None) (sym e)) (subst (λ z. PathOk l src (appending (Some guard) does) z) (sym (again true (of_name n sum) e)) (guarded-sum does (of_name n sum) n (subst (λ z. ListedOk does (of_name z sum)) (sym (eqb-true n a e)) k)))
+        go false e = subst (λ z. PathOk l src z (of_name a (option_map (guarded_by f n) (of_name n sum)))) (ap (λ b. cond b (appending (Some guard) does) None) (sym e)) (subst (λ z. PathOk l src None z) (sym (again false (of_name n sum) e)) tt)
 
   -- ---- by the operator
 
@@ -190,19 +190,19 @@ module _ (l : Counts) (src : List ℕ) where
   arith-sum mul a x y does h = tt
   arith-sum rem a x y does h = tt
 
-  fold-adds : (fold : LogicalFold) (a : ℕ) (n : Option ℕ) → of_name a (a_fold fold n).adds ≡ none
+  fold-adds : (fold : LogicalFold) (a : ℕ) (n : Option ℕ) → of_name a (a_fold fold n).adds ≡ None
   unfolding a_fold of_name
-  fold-adds fold a none = refl
-  fold-adds fold a (some n) = refl
+  fold-adds fold a None = refl
+  fold-adds fold a (Some n) = refl
 
-  fold-appends : (fold : LogicalFold) (a : ℕ) (n : Option ℕ) → of_name a (a_fold fold n).appends ≡ none
+  fold-appends : (fold : LogicalFold) (a : ℕ) (n : Option ℕ) → of_name a (a_fold fold n).appends ≡ None
   unfolding a_fold of_name
-  fold-appends fold a none = refl
-  fold-appends fold a (some n) = refl
+  fold-appends fold a None = refl
+  fold-appends fold a (Some n) = refl
 
   pub binary-sum : (o : Binary) (a : ℕ) (x y : Look) (does : Option Does) → ListedOk does y.lists → ListedOk (sum_to a o x.is_name does) (of_name a (binary_look o x y).adds)
   unfolding binary_look of_name
-  binary-sum (logic fold) a x y does h = subst (λ z. ListedOk none z) (sym (fold-adds fold a x.is_name)) tt
+  binary-sum (logic fold) a x y does h = subst (λ z. ListedOk None z) (sym (fold-adds fold a x.is_name)) tt
   binary-sum equals a x y does h = tt
   binary-sum not_equals a x y does h = tt
   binary-sum index a x y does h = tt
@@ -212,7 +212,7 @@ module _ (l : Counts) (src : List ℕ) where
   binary-sum (compare c) a x y does h = tt
   binary-sum is_in a x y does h = tt
 
-  arith-path : (o : Arith) (a : ℕ) (x y : Look) (does : Option Does) → ListedOk does y.lists → PathOk l src (appending none (added_to a o x.is_name does)) (of_name a (arith_look o x y).appends)
+  arith-path : (o : Arith) (a : ℕ) (x y : Look) (does : Option Does) → ListedOk does y.lists → PathOk l src (appending None (added_to a o x.is_name does)) (of_name a (arith_look o x y).appends)
   unfolding arith_look of_name
   arith-path add a x y does h = unguarded-ok a x.is_name does y.lists h
   arith-path sub a x y does h = tt
@@ -220,9 +220,9 @@ module _ (l : Counts) (src : List ℕ) where
   arith-path mul a x y does h = tt
   arith-path rem a x y does h = tt
 
-  pub binary-path : (o : Binary) (a : ℕ) (x y : Look) (does : Option Does) → ListedOk does y.lists → PathOk l src (appending none (sum_to a o x.is_name does)) (of_name a (binary_look o x y).appends)
+  pub binary-path : (o : Binary) (a : ℕ) (x y : Look) (does : Option Does) → ListedOk does y.lists → PathOk l src (appending None (sum_to a o x.is_name does)) (of_name a (binary_look o x y).appends)
   unfolding binary_look of_name
-  binary-path (logic fold) a x y does h = subst (λ z. PathOk l src none z) (sym (fold-appends fold a x.is_name)) tt
+  binary-path (logic fold) a x y does h = subst (λ z. PathOk l src None z) (sym (fold-appends fold a x.is_name)) tt
   binary-path equals a x y does h = tt
   binary-path not_equals a x y does h = tt
   binary-path index a x y does h = tt

@@ -3,7 +3,7 @@
 use Prim.Native.Nat.{ℕ, ◌+◌, ◌*◌}
 use mathlib.Core.Path.{refl}
 use mathlib.Core.List.{List}
-use mathlib.Core.Option.{Option, none, some}
+use Rattle.std.specs.Prelude.{Option, None, Some}
 use mathlib.Core.Bool.{Bool, true, false, cond, ◌&&◌}
 use Rattle.meaning.specs.Limits.{Counts}
 use Rattle.meaning.specs.Value as Meaning
@@ -110,31 +110,31 @@ module _ (table src : List ℕ) (l : Counts) where
   map-ok p n F M h = record-ok p (λ s u r. taking (cells_an_entry * n) u r (λ w q. F s u.cells 0 0 w q)) (λ t. into map (map_rule n (M t empty))) (λ L u r s t st. map-says l src p F M n h st)
 
   -- records that are no append step, no sum and no list
-  none-path : (a : ℕ) → PathOk l src none (of_name a none)
+  none-path : (a : ℕ) → PathOk l src None (of_name a None)
   unfolding of_name
   none-path a = tt
 
-  none-sum : (a : ℕ) → ListedOk l src none (of_name a none)
+  none-sum : (a : ℕ) → ListedOk l src None (of_name a None)
   unfolding of_name
   none-sum a = tt
 
-  conditional-sum : (a : ℕ) (sum : Option (ℕ × (Comprehension.Scope → Eval Values))) (n : Option ℕ) (f : Comprehension.Scope → Eval Meaning.Value) → ListedOk l src none (of_name a (Look.a_conditional f sum n).adds)
+  conditional-sum : (a : ℕ) (sum : Option (ℕ × (Comprehension.Scope → Eval Values))) (n : Option ℕ) (f : Comprehension.Scope → Eval Meaning.Value) → ListedOk l src None (of_name a (Look.a_conditional f sum n).adds)
   unfolding of_name Look.a_conditional
-  conditional-sum a sum none f = tt
-  conditional-sum a sum (some n) f = tt
+  conditional-sum a sum None f = tt
+  conditional-sum a sum (Some n) f = tt
 
-  no-list-either : (sum : Option (ℕ × (Comprehension.Scope → Eval Values))) (n : Option ℕ) (f : Comprehension.Scope → Eval Meaning.Value) → ListedOk l src none (Look.a_conditional f sum n).lists
+  no-list-either : (sum : Option (ℕ × (Comprehension.Scope → Eval Values))) (n : Option ℕ) (f : Comprehension.Scope → Eval Meaning.Value) → ListedOk l src None (Look.a_conditional f sum n).lists
   unfolding Look.a_conditional
-  no-list-either sum none f = tt
-  no-list-either sum (some n) f = tt
+  no-list-either sum None f = tt
+  no-list-either sum (Some n) f = tt
 
-  no-list : (o : Binary) (x y : Look) → ListedOk l src none (Look.binary_look o x y).lists
+  no-list : (o : Binary) (x y : Look) → ListedOk l src None (Look.binary_look o x y).lists
   unfolding Look.binary_look
   no-list (logic fold) x y = folded x.is_name
     where
-      folded : (n : Option ℕ) → ListedOk l src none (Look.a_fold fold n).lists
-      folded none = unfold Look.a_fold in tt
-      folded (some n) = unfold Look.a_fold in tt
+      folded : (n : Option ℕ) → ListedOk l src None (Look.a_fold fold n).lists
+      folded None = unfold Look.a_fold in tt
+      folded (Some n) = unfold Look.a_fold in tt
   no-list equals x y = tt
   no-list not_equals x y = tt
   no-list index x y = tt
@@ -142,12 +142,12 @@ module _ (table src : List ℕ) (l : Counts) where
   no-list opt_select x y = tt
   no-list (arith o) x y = summed o x.is_name y.lists
     where
-      added : (n : Option ℕ) (f : Option (Comprehension.Scope → Eval Values)) → ListedOk l src none (Look.a_sum n f).lists
-      added none f = unfold Look.a_sum in tt
-      added (some n) none = unfold Look.a_sum in tt
-      added (some n) (some f) = unfold Look.a_sum in tt
+      added : (n : Option ℕ) (f : Option (Comprehension.Scope → Eval Values)) → ListedOk l src None (Look.a_sum n f).lists
+      added None f = unfold Look.a_sum in tt
+      added (Some n) None = unfold Look.a_sum in tt
+      added (Some n) (Some f) = unfold Look.a_sum in tt
 
-      summed : (o : Arith) (n : Option ℕ) (f : Option (Comprehension.Scope → Eval Values)) → ListedOk l src none (Look.arith_look o x y).lists
+      summed : (o : Arith) (n : Option ℕ) (f : Option (Comprehension.Scope → Eval Values)) → ListedOk l src None (Look.arith_look o x y).lists
       summed add n f = unfold Look.arith_look in added x.is_name y.lists
       summed sub n f = unfold Look.arith_look in tt
       summed div n f = unfold Look.arith_look in tt
@@ -157,7 +157,7 @@ module _ (table src : List ℕ) (l : Counts) where
   no-list is_in x y = tt
 
   -- the append path is open, or closed, in both
-  open-ok : (b : Bool) (path : Option Machine2.AppendStep) (step : Option Comprehension.AppendStep) → PathOk l src path step → PathOk l src (cond b path none) (cond b step none)
+  open-ok : (b : Bool) (path : Option Machine2.AppendStep) (step : Option Comprehension.AppendStep) → PathOk l src path step → PathOk l src (cond b path None) (cond b step None)
   open-ok true path step h = h
   open-ok false path step h = tt
 
@@ -181,7 +181,7 @@ module _ (table src : List ℕ) (l : Counts) where
     refines (map_of p ps) w = map-ok p (count_pairs ps) (λ s base m d u r. entries table l.steps p ps s base m d u r) (λ t es. run_pairs ps t es) (fills-pairs ps w p)
     refines (comprehension p a i range init condition step result) w =
         record-ok p _ _ (λ L u r s t st. comprehends-says l src p a i w.0 w.1 (of_name a (look step).folds) (does condition) (does step) (does result) (means condition) (means step) (means result) (refines condition w.4) (refines step w.5) (refines result w.6) (does range) (does init) (means range) (means init) (refines range w.2) (refines init w.3)
-        (cond ((look condition).is_literal && named a (look result).is_name) (append_step table l.steps a step) none) (Look.append_step a (look condition) (look step) (look result)) (open-ok ((look condition).is_literal && named a (look result).is_name) (append_step table l.steps a step) (of_name a (look step).appends) (paths step w.5 a)) st)
+        (cond ((look condition).is_literal && named a (look result).is_name) (append_step table l.steps a step) None) (Look.append_step a (look condition) (look step) (look result)) (open-ok ((look condition).is_literal && named a (look result).is_name) (append_step table l.steps a step) (of_name a (look step).appends) (paths step w.5 a)) st)
     refines (call p f e) w = one_ok p (does e) (means e) (refines e w) (λ v z q. called p f v z q) (call_rule f) (λ L u r s t st y v k. call-says l src st p f v y k)
     refines (none_call p) w = none-ok p
     refines (or_value p e f) w = record-ok p (λ s u r. or_value_does p (does e) (does f) s u r) (λ t. or_value_call (run e t) (run f t)) (λ L u r s t st. or_value-says l src st p (does e) (means e) (refines e w.0) (does f) (means f) (refines f w.1))

@@ -2,7 +2,8 @@
 use Prim.Native.Nat.{ℕ}
 use mathlib.Core.Path.{◌≡◌, refl, ap, ◌∙◌}
 use mathlib.Core.List.{List}
-use mathlib.Core.Option.{Option, none, some, bind}
+use Rattle.std.specs.Prelude.{Option, None, Some}
+use Rattle.meaning.specs.Options.{bind}
 use mathlib.Core.Bool.{Bool, true, false}
 use native.Mathlib.Omega.{arith}
 use Rattle.numbers.specs.declared.double.Double.{Double}
@@ -18,17 +19,17 @@ use Rattle.machine.specs.Views.{bool_in, is_string, not_optional, optional_in}
 
 -- ---- Bools
 
-pub bool_is : (m : Value) (b : Bool) → bool_in m ≡ some b → m ≡ Value.Bool b
+pub bool_is : (m : Value) (b : Bool) → bool_in m ≡ Some b → m ≡ Value.Bool b
 bool_is Value.Null b e = cc
 bool_is (Value.Bool x) b e = cc
 bool_is (Value.Int z) b e = cc
 bool_is (Value.Uint n) b e = cc
 bool_is (Value.Double x) b e = cc
 bool_is (Value.Nan x) b e = cc
-bool_is (Value.String s a n) b e = cc
-bool_is (Value.Bytes s a n) b e = cc
-bool_is (Value.List d s a n) b e = cc
-bool_is (Value.Map d s a n) b e = cc
+bool_is (Value.String sp) b e = cc
+bool_is (Value.Bytes sp) b e = cc
+bool_is (Value.List d ro) b e = cc
+bool_is (Value.Map d ro) b e = cc
 bool_is Value.OptionalNone b e = cc
 bool_is (Value.OptionalOf d s a) b e = cc
 bool_is Value.Absent b e = cc
@@ -67,8 +68,8 @@ module _ (L : Alive) (r : Rooms) where
 
   -- what may be looked up, or not
   abbrev pub Probe : Option Meaning.Scalar → Value → Type 0
-  Probe none m = is_key m ≡ false
-  Probe (some x) m = (is_key m ≡ true) × StandsScalar x L r m
+  Probe None m = is_key m ≡ false
+  Probe (Some x) m = (is_key m ≡ true) × StandsScalar x L r m
 
   pub probe-view : (w : Meaning.Value) (m : Value) → Stands w L r m → Probe (probe_of w) m
   unfolding Stands StandsScalar probe_of scalar_of probe_in bind
@@ -85,8 +86,8 @@ module _ (L : Alive) (r : Rooms) where
   probe-view (optional_of v) m h = ap is_key h.2
 
   abbrev pub KeyView : Option Meaning.Key → Value → Type 0
-  KeyView none m = is_key m ≡ false
-  KeyView (some k) m = (is_key m ≡ true) × StandsScalar (key_scalar k) L r m
+  KeyView None m = is_key m ≡ false
+  KeyView (Some k) m = (is_key m ≡ true) × StandsScalar (key_scalar k) L r m
 
   pub key-view : (w : Meaning.Value) (m : Value) → Stands w L r m → KeyView (key_of w) m
   unfolding Stands StandsScalar key_of scalar_of key_in key_scalar bind
@@ -109,8 +110,8 @@ module _ (L : Alive) (r : Rooms) where
   double-string (Bits.Nan b) = refl
 
   abbrev pub StringView : Option (List ℕ) → Value → Type 0
-  StringView none m = is_string m ≡ false
-  StringView (some s) m = (is_string m ≡ true) × Stands (scalar (string s)) L r m
+  StringView None m = is_string m ≡ false
+  StringView (Some s) m = (is_string m ≡ true) × Stands (scalar (string s)) L r m
 
   pub string-view : (w : Meaning.Value) (m : Value) → Stands w L r m → StringView (string_of w) m
   unfolding Stands StandsScalar string_of scalar_of string_in bind

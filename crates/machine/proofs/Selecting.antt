@@ -2,7 +2,7 @@
 use Prim.Native.Nat.{ℕ}
 use mathlib.Core.Path.{◌≡◌, refl, sym, ap, subst}
 use mathlib.Core.List.{List}
-use mathlib.Core.Option.{Option, none, some}
+use Rattle.std.specs.Prelude.{Option, None, Some}
 use mathlib.Core.Bool.{Bool, true, false}
 use native.Mathlib.Omega.{arith}
 use Rattle.meaning.specs.Limits.{Counts}
@@ -10,7 +10,7 @@ use Rattle.meaning.specs.Errors.{NoOverload, NoSuchKey, FunctionError}
 use Rattle.meaning.specs.Value as Meaning
 use Rattle.meaning.specs.Value.{string, scalar, list, map, optional_none, optional_of, nesting, string_of}
 use Rattle.meaning.specs.Run.{Eval, Rule, pure, charged, after, on_value, ◌>>=◌, fail, or_fail, operand}
-use Rattle.meaning.specs.Optionals.{Unwrapped, NotOptional, Some, None, unwrap_optional}
+use Rattle.meaning.specs.Optionals.{Unwrapped, NotOptional, PresentOptional, NoneOptional, unwrap_optional}
 use Rattle.meaning.specs.Selection as Rules
 use Rattle.meaning.specs.Selection.{index_rule, opt_select_rule, opt_select_in}
 use Rattle.meaning.specs.Maps as Maps
@@ -43,8 +43,8 @@ module _ (l : Counts) (src : List ℕ) where
 
   abbrev pub UnwrapView : Alive → Rooms → Unwrapped → Value → Type 0
   UnwrapView L r (NotOptional w) m = (optional_in m ≡ not_optional) × Holds w L r m
-  UnwrapView L r (Some w) m = (space : CellSpace) × (a : ℕ) × (optional_in m ≡ Views.present space a) × Holds w L r (cell_at r space a)
-  UnwrapView L r None m = m ≡ Value.OptionalNone
+  UnwrapView L r (PresentOptional w) m = (space : CellSpace) × (a : ℕ) × (optional_in m ≡ Views.present space a) × Holds w L r (cell_at r space a)
+  UnwrapView L r NoneOptional m = m ≡ Value.OptionalNone
 
   pub unwrap-view : {L : Alive} {u : Counts} {r : Rooms} {s : Scope} {t : Comprehension.Scope} → Start l src L u r s t → (v : Meaning.Value) (m : Value) → Holds v L r m → UnwrapView L r (unwrap_optional v) m
   unfolding unwrap_optional Stands nesting
@@ -105,26 +105,26 @@ module _ (l : Counts) (src : List ℕ) where
     -- the look-up of a known index, in an Optional or in another value
     abbrev pub indexed : Bool → Unwrapped → Meaning.Value → Rule Meaning.Value
     indexed optional (NotOptional v) i = Rules.perhaps optional (Maps.look_up v i)
-    indexed optional (Some v) i = Rules.optionally (Maps.look_up v i)
-    indexed optional None i = pure optional_none
+    indexed optional (PresentOptional v) i = Rules.optionally (Maps.look_up v i)
+    indexed optional NoneOptional i = pure optional_none
 
     pub index-says : (optional : Bool) (o : Unwrapped) (m : Value) → UnwrapView L r o m → (w : Meaning.Value) (n : Value) → Holds w L r n → Says l src p L u r (index l.steps p optional m n (used_of u) r) (indexed optional o w)
     index-says optional (NotOptional v) m h w n k = subst (λ y. Says l src p L u r (index_in l.steps p optional m n (used_of u) r y) (Rules.perhaps optional (Maps.look_up v w))) (sym h.0) (perhaps-says optional (look_up l.steps p r m n (used_of u)) _ (look_up-says l src st p w n k v m h.1))
-    index-says optional (Some v) m h w n k = subst (λ y. Says l src p L u r (index_in l.steps p optional m n (used_of u) r y) (Rules.optionally (Maps.look_up v w))) (sym h.2) (optionally-says l src st p (look_up l.steps p r (cell_at r h.0 h.1) n (used_of u)) _ (look_up-says l src st p w n k v (cell_at r h.0 h.1) h.3))
-    index-says optional None m h w n k = subst (λ y. Says l src p L u r (index l.steps p optional y n (used_of u) r) (pure optional_none)) (sym h) (value-now l src st p Value.OptionalNone optional_none (held_none L r))
+    index-says optional (PresentOptional v) m h w n k = subst (λ y. Says l src p L u r (index_in l.steps p optional m n (used_of u) r y) (Rules.optionally (Maps.look_up v w))) (sym h.2) (optionally-says l src st p (look_up l.steps p r (cell_at r h.0 h.1) n (used_of u)) _ (look_up-says l src st p w n k v (cell_at r h.0 h.1) h.3))
+    index-says optional NoneOptional m h w n k = subst (λ y. Says l src p L u r (index l.steps p optional y n (used_of u) r) (pure optional_none)) (sym h) (value-now l src st p Value.OptionalNone optional_none (held_none L r))
 
     -- ---- optional select
 
     select_in : (field : List ℕ) (o : Unwrapped) (m : Value) → UnwrapView L r o m → (n : Value) → Holds (scalar (string field)) L r n → Says l src p L u r (index l.steps p true m n (used_of u) r) (opt_select_in field o)
     unfolding opt_select_in Rules.perhaps
     select_in field (NotOptional v) m h n k = index-says true (NotOptional v) m h (scalar (string field)) n k
-    select_in field (Some v) m h n k = index-says true (Some v) m h (scalar (string field)) n k
-    select_in field None m h n k = index-says true None m h (scalar (string field)) n k
+    select_in field (PresentOptional v) m h n k = index-says true (PresentOptional v) m h (scalar (string field)) n k
+    select_in field NoneOptional m h n k = index-says true NoneOptional m h (scalar (string field)) n k
 
     opt-end : (target : Unwrapped) (m : Value) → UnwrapView L r target m → (w : Meaning.Value) (n : Value) → Holds w L r n → (o : Option (List ℕ)) → StringView L r o n → Says l src p L u r (opt_select l.steps p m n (used_of u) r) (◌>>=◌ (or_fail FunctionError o) (λ field. opt_select_in field target))
     unfolding ◌>>=◌ after on_value charged or_fail fail pure nesting
-    opt-end target m h w n k none i = rw i (error-now l src st p FunctionError)
-    opt-end target m h w n k (some field) i = rw i.0 (select_in field target m h n (record { stands = i.1; fits = k.fits; nests = omega arith }))
+    opt-end target m h w n k None i = rw i (error-now l src st p FunctionError)
+    opt-end target m h w n k (Some field) i = rw i.0 (select_in field target m h n (record { stands = i.1; fits = k.fits; nests = omega arith }))
 
     pub opt_select-says : (v : Meaning.Value) (m : Value) → Holds v L r m → (w : Meaning.Value) (n : Value) → Holds w L r n → Says l src p L u r (opt_select l.steps p m n (used_of u) r) (opt_select_rule (unwrap_optional v) w)
     unfolding opt_select_rule
@@ -142,11 +142,11 @@ module _ (l : Counts) (src : List ℕ) where
         subst (λ y. Says l src p L u r (on_left (unless_none y (used_of u)) (Outcome.Value m (used_of u)) r (λ c q. with_value (right s c q).0 (right s c q).1 (λ n z d. index l.steps p optional m n z d))) (◌>>=◌ (operand (g t)) (λ j. Rules.perhaps optional (Maps.look_up w j)))) (sym i.0)
         (value_of l src st p right g hg (λ n z d. index l.steps p optional m n z d) (λ j. Rules.perhaps optional (Maps.look_up w j))
         (λ M c q b a n x k. index-says b p optional (NotOptional w) m (subst (λ y. UnwrapView M q y m) e (unwrap-view b v m (holds_frame L M r q a v m h))) x n k))
-    after-value {L} {u} {r} {s} {t} st v m h (Some w) e i =
+    after-value {L} {u} {r} {s} {t} st v m h (PresentOptional w) e i =
         subst (λ y. Says l src p L u r (on_left (unless_none y (used_of u)) (Outcome.Value m (used_of u)) r (λ c q. with_value (right s c q).0 (right s c q).1 (λ n z d. index l.steps p optional m n z d))) (◌>>=◌ (operand (g t)) (λ j. Rules.optionally (Maps.look_up w j)))) (sym i.2)
         (value_of l src st p right g hg (λ n z d. index l.steps p optional m n z d) (λ j. Rules.optionally (Maps.look_up w j))
-        (λ M c q b a n x k. index-says b p optional (Some w) m (subst (λ y. UnwrapView M q y m) e (unwrap-view b v m (holds_frame L M r q a v m h))) x n k))
-    after-value {L} {u} {r} {s} {t} st v m h None e i = subst (λ y. Says l src p L u r (index_does optional p right s (Outcome.Value y (used_of u), r)) (pure optional_none)) (sym i) (value-now l src st p Value.OptionalNone optional_none (held_none L r))
+        (λ M c q b a n x k. index-says b p optional (PresentOptional w) m (subst (λ y. UnwrapView M q y m) e (unwrap-view b v m (holds_frame L M r q a v m h))) x n k))
+    after-value {L} {u} {r} {s} {t} st v m h NoneOptional e i = subst (λ y. Says l src p L u r (index_does optional p right s (Outcome.Value y (used_of u), r)) (pure optional_none)) (sym i) (value-now l src st p Value.OptionalNone optional_none (held_none L r))
 
     pub index_of : {L : Alive} {u : Counts} {r : Rooms} {s : Scope} {t : Comprehension.Scope} → Start l src L u r s t → (left : Does) (f : Comprehension.Scope → Eval Meaning.Value) → Refines l src left f → Says l src p L u r (index_does optional p right s (left s (used_of u) r)) (of_one (f t) (λ v. index_rule optional (g t) (unwrap_optional v)))
     unfolding of_one ◌>>=◌ on_value

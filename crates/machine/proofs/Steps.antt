@@ -3,7 +3,7 @@
 use Prim.Native.Nat.{ℕ, zero, suc, ◌+◌}
 use mathlib.Core.Path.{◌≡◌, refl, sym, ap, ◌∙◌, subst}
 use mathlib.Core.List.{List, [], ◌∷◌, ◌++◌, append-nil}
-use mathlib.Core.Option.{Option, none, some}
+use Rattle.std.specs.Prelude.{Option, None, Some}
 use mathlib.Core.Bool.{Bool, true, false, cond}
 use native.Mathlib.Omega.{arith}
 use lib.Dec.{ltb}
@@ -115,8 +115,8 @@ module _ (l : Counts) (src : List ℕ) where
   pub found-then : {L : Alive} {u : Counts} {r : Rooms} {s : Scope} {t : Comprehension.Scope} → Start l src L u r s t → (p : ℕ) (space : CellSpace) (n : Tally (Option Meaning.Value)) (x : Found) → Finds L r space l.steps u.steps n x
       → (G : Found → Res) (k : Option Meaning.Value → Rule Meaning.Value)
       → ((j : ℕ) → G (Found.Out j) ≡ (Outcome.Exhausted Limit.Steps (used_of (walked u j)), r))
-      → ((j : ℕ) → Start l src L (walked u j) r s t → Says l src p L (walked u j) r (G (Found.Missing j)) (k none))
-      → ((j : ℕ) → Start l src L (walked u j) r s t → (v : Meaning.Value) → n.1 ≡ some v → (c : ℕ) → L.cells space c → Stands v L r (cell_at r space c) → Says l src p L (walked u j) r (G (Found.At c j)) (k (some v)))
+      → ((j : ℕ) → Start l src L (walked u j) r s t → Says l src p L (walked u j) r (G (Found.Missing j)) (k None))
+      → ((j : ℕ) → Start l src L (walked u j) r s t → (v : Meaning.Value) → n.1 ≡ Some v → (c : ℕ) → L.cells space c → Stands v L r (cell_at r space c) → Says l src p L (walked u j) r (G (Found.At c j)) (k (Some v)))
       → Says l src p L u r (G x) (◌>>=◌ (compared n) k)
   found-then {L} {u} {r} {s} {t} a p space n x h G k ends missing at =
       subst (λ ρ. Says l src p L u r (G x) ρ) (sym (compared_is n k))
@@ -127,5 +127,5 @@ module _ (l : Counts) (src : List ℕ) where
       j = u.steps + n.0
 
       end : (o : Option Meaning.Value) → n.1 ≡ o → FoundIs L r space o h.0 → Start l src L (walked u j) r s t → Says l src p L (walked u j) r (G (h.0 j)) (k o)
-      end none e i z = subst (λ (f : ℕ → Found). Says l src p L (walked u j) r (G (f j)) (k none)) (sym i) (missing j z)
-      end (some v) e i z = subst (λ (f : ℕ → Found). Says l src p L (walked u j) r (G (f j)) (k (some v))) (sym i.1) (at j z v e i.0 i.2 i.3)
+      end None e i z = subst (λ (f : ℕ → Found). Says l src p L (walked u j) r (G (f j)) (k None)) (sym i) (missing j z)
+      end (Some v) e i z = subst (λ (f : ℕ → Found). Says l src p L (walked u j) r (G (f j)) (k (Some v))) (sym i.1) (at j z v e i.0 i.2 i.3)

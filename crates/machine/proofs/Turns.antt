@@ -3,7 +3,7 @@
 use Prim.Native.Nat.{ℕ, suc, ◌+◌, ◌≤◌, ◌<◌}
 use mathlib.Core.Path.{◌≡◌, refl, sym, subst}
 use mathlib.Core.List.{List, [], ◌∷◌, ◌++◌}
-use mathlib.Core.Option.{Option, none, some}
+use Rattle.std.specs.Prelude.{Option, None, Some}
 use mathlib.Core.Bool.{Bool, true, false}
 use native.Mathlib.Omega.{arith}
 use lib.ListN.{length}
@@ -63,8 +63,8 @@ map-items L r (entry k v es) space a h = (h.0, h.1, omega arith, subst (λ i. It
 
 -- an error that is pending, in both
 abbrev pub pending_of : Rules.Pending → Machine.Pending
-pending_of none = none
-pending_of (some e) = some (error_of e.error, e.place)
+pending_of None = None
+pending_of (Some e) = Some (error_of e.error, e.place)
 
 -- ---- a run that is no rule yet
 
@@ -108,8 +108,8 @@ module _ (l : Counts) (src : List ℕ) where
 
     finish-says : {L : Alive} {u : Counts} {r : Rooms} {s : Code.Scope} {t : Scope} → Start l src L u r s t → (e : Rules.Pending) → Says l src p L u r (Machine.finish mr (pending_of e) s (used_of u) r) (finish fr t e)
     unfolding finish raised_error
-    finish-says {L} {u} {r} {s} {t} st none = operand-says l src p L u r (mr s (used_of u) r) (fr t) (hr L s t u r st)
-    finish-says {L} {u} {r} {s} {t} st (some e) = raises l src st p (by_operand e)
+    finish-says {L} {u} {r} {s} {t} st None = operand-says l src p L u r (mr s (used_of u) r) (fr t) (hr L s t u r st)
+    finish-says {L} {u} {r} {s} {t} st (Some e) = raises l src st p (by_operand e)
 
     module _ (space : CellSpace) (stride : ℕ) where
       -- the rest of a loop, over these items
@@ -119,40 +119,40 @@ module _ (l : Counts) (src : List ℕ) where
       module _ (xs : List Meaning.Value) (R : Machine.Pending → ℕ → Does) (κ : Onward) (ih : LoopOk xs R κ) where
         module _ {L : Alive} {u : Counts} {r : Rooms} {s : Code.Scope} {t : Scope} (st : Start l src L u r s t) (at : ℕ) (h : ItemsAt xs L r space stride at) where
           abbrev binds : Machine.Binds
-          binds w z q = R none at (stored s a w) z q
+          binds w z q = R None at (stored s a w) z q
 
           abbrev holds : Machine.Holds
           holds e z q = R e at s z q
 
           -- the accumulator is bound
-          bound-ok : (m : Value) (v : Meaning.Value) → Holds v L r m → Says l src p L u r (R none at (stored s a m) (used_of u) r) (κ (store t a v) none)
-          bound-ok m v k = ih none L (stored s a m) (store t a v) u r at (stores st a ia m v k) h
+          bound-ok : (m : Value) (v : Meaning.Value) → Holds v L r m → Says l src p L u r (R None at (stored s a m) (used_of u) r) (κ (store t a v) None)
+          bound-ok m v k = ih None L (stored s a m) (store t a v) u r at (stores st a ia m v k) h
 
-          clear-ok : (m : Value) (v : Meaning.Value) → Holds v L r m → (e : ErrorAt) (b : Bool) → Says l src p L u r (Machine.unless_cleared b (pending_of (some e)) m (used_of u) r binds holds) (choose (κ (store t a v) none) (κ t (some e)) b)
+          clear-ok : (m : Value) (v : Meaning.Value) → Holds v L r m → (e : ErrorAt) (b : Bool) → Says l src p L u r (Machine.unless_cleared b (pending_of (Some e)) m (used_of u) r binds holds) (choose (κ (store t a v) None) (κ t (Some e)) b)
           unfolding choose
           clear-ok m v k e true = bound-ok m v k
-          clear-ok m v k e false = ih (some e) L s t u r at st h
+          clear-ok m v k e false = ih (Some e) L s t u r at st h
 
           fold_ok : (f : LogicalFold) (e : Rules.Pending) (m : Value) (v : Meaning.Value) → Holds v L r m → Says l src p L u r (Machine.fold_value f (pending_of e) m (used_of u) r binds holds) (fold_step a f κ t e v)
           unfolding fold_step
-          fold_ok f none m v k = bound-ok m v k
-          fold_ok f (some e) m v k = subst (λ o. Says l src p L u r (Machine.unless_cleared (absorbs f o) (pending_of (some e)) m (used_of u) r binds holds) (choose (κ (store t a v) none) (κ t (some e)) (absorbs f (bool_of v)))) (sym (bool-view L r v m k.stands)) (clear-ok m v k e (absorbs f (bool_of v)))
+          fold_ok f None m v k = bound-ok m v k
+          fold_ok f (Some e) m v k = subst (λ o. Says l src p L u r (Machine.unless_cleared (absorbs f o) (pending_of (Some e)) m (used_of u) r binds holds) (choose (κ (store t a v) None) (κ t (Some e)) (absorbs f (bool_of v)))) (sym (bool-view L r v m k.stands)) (clear-ok m v k e (absorbs f (bool_of v)))
 
           step_value : (o : Option LogicalFold) (e : Rules.Pending) (m : Value) (v : Meaning.Value) → Holds v L r m → Says l src p L u r (Machine.step_value o (pending_of e) m (used_of u) r binds holds) (after_step a o κ t e (value v))
           unfolding after_step
-          step_value none e m v k = bound-ok m v k
-          step_value (some f) e m v k = fold_ok f e m v k
+          step_value None e m v k = bound-ok m v k
+          step_value (Some f) e m v k = fold_ok f e m v k
 
           step-error : (o : Option LogicalFold) (e : Rules.Pending) (x : ErrorAt) → Says l src p L u r (Machine.step_error o (error_of x.error) x.place (used_of u) r holds) (after_step a o κ t e (error x))
           unfolding after_step raised_error
-          step-error none e x = raises l src st p (by_operand x)
-          step-error (some f) e x = ih (some x) L s t u r at st h
+          step-error None e x = raises l src st p (by_operand x)
+          step-error (Some f) e x = ih (Some x) L s t u r at st h
 
         -- one item, its condition known to hold
         turn-ok : {L : Alive} {u : Counts} {r : Rooms} {s : Code.Scope} {t : Scope} → Start l src L u r s t → (e : Rules.Pending) (at : ℕ) (v : Meaning.Value) → ItemsAt (v ∷ xs) L r space stride at → Says l src p L u r (Machine.turn looping (cell_at r space at) (pending_of e) (λ o t' z q. R o (at + stride) t' z q) s (used_of u) r) (after (fn (store t i v)) (after_step a fold κ (store t i v) e))
         turn-ok {L} {u} {r} {s} {t} st e at v h =
             eval-then (stores st i ii (cell_at r space at) v (record { stands = h.1; fits = st.fitting space at; nests = h.2 })) p mn fn hn
-            (λ y. Machine.after_step fold (pending_of e) y.0 y.1 (λ w z q. R none (at + stride) (stored (stored s i (cell_at r space at)) a w) z q) (λ o z q. R o (at + stride) (stored s i (cell_at r space at)) z q)) (after_step a fold κ (store t i v) e)
+            (λ y. Machine.after_step fold (pending_of e) y.0 y.1 (λ w z q. R None (at + stride) (stored (stored s i (cell_at r space at)) a w) z q) (λ o z q. R o (at + stride) (stored s i (cell_at r space at)) z q)) (after_step a fold κ (store t i v) e)
             (λ M c q b j y w k. step_value b (at + stride) (items-frame L M r q j xs space stride (at + stride) h.3) fold e y w k)
             (λ M c q b j x. step-error b (at + stride) (items-frame L M r q j xs space stride (at + stride) h.3) fold e x)
             (λ x y q. refl)
@@ -176,6 +176,6 @@ module _ (l : Counts) (src : List ℕ) where
             wanted : {M : Alive} {c : Counts} {q : Rooms} → Start l src M c q s t → Says l src p M c q (Outcome.Error (error_of (UnexpectedType a_bool)) p (used_of c), q) ([], error (by_rule (UnexpectedType a_bool)))
             wanted b = unfold raised_error in raises l src b p (by_rule (UnexpectedType a_bool))
 
-            chosen : LoopOk xs (λ e' at'. turns looping space stride (length xs) at' e') (λ t' e'. loop meant xs t' e') → (M : Alive) (c : Counts) (q : Rooms) → Start l src M c q s t → ItemsAt (x ∷ xs) M q space stride at → (m : Value) (y : Bool) → bool_in m ≡ some y → Says l src p M c q (branch p (used_of c) q (bool_in m) (λ w d. Machine.turn looping (cell_at d space at) (pending_of e) (λ o' t' z d'. turns looping space stride (length xs) (at + stride) o' t' z d') s w d) (λ w d. Machine.finish mr (pending_of e) s w d)) (choose (after (fn (store t i x)) (after_step a fold (λ t' e'. loop meant xs t' e') (store t i x) e)) (finish fr t e) y)
+            chosen : LoopOk xs (λ e' at'. turns looping space stride (length xs) at' e') (λ t' e'. loop meant xs t' e') → (M : Alive) (c : Counts) (q : Rooms) → Start l src M c q s t → ItemsAt (x ∷ xs) M q space stride at → (m : Value) (y : Bool) → bool_in m ≡ Some y → Says l src p M c q (branch p (used_of c) q (bool_in m) (λ w d. Machine.turn looping (cell_at d space at) (pending_of e) (λ o' t' z d'. turns looping space stride (length xs) (at + stride) o' t' z d') s w d) (λ w d. Machine.finish mr (pending_of e) s w d)) (choose (after (fn (store t i x)) (after_step a fold (λ t' e'. loop meant xs t' e') (store t i x) e)) (finish fr t e) y)
             chosen ih M c q b g m true k = subst (λ o. Says l src p M c q (branch p (used_of c) q o (λ w d. Machine.turn looping (cell_at d space at) (pending_of e) (λ o' t' z d'. turns looping space stride (length xs) (at + stride) o' t' z d') s w d) (λ w d. Machine.finish mr (pending_of e) s w d)) (choose (after (fn (store t i x)) (after_step a fold (λ t' e'. loop meant xs t' e') (store t i x) e)) (finish fr t e) true)) (sym k) (unfold choose in turn-ok xs (λ o at' t' z d. turns looping space stride (length xs) at' o t' z d) (λ t' e'. loop meant xs t' e') ih b e at x g)
             chosen ih M c q b g m false k = subst (λ o. Says l src p M c q (branch p (used_of c) q o (λ w d. Machine.turn looping (cell_at d space at) (pending_of e) (λ o' t' z d'. turns looping space stride (length xs) (at + stride) o' t' z d') s w d) (λ w d. Machine.finish mr (pending_of e) s w d)) (choose (after (fn (store t i x)) (after_step a fold (λ t' e'. loop meant xs t' e') (store t i x) e)) (finish fr t e) false)) (sym k) (unfold choose in finish-says b e)

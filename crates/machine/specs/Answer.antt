@@ -1,7 +1,6 @@
 -- A whole run: the root record with nothing charged yet, then both rooms cleared below the counts unless there is a value. And what such an answer
 -- says.
-use Rattle.std.specs.Prelude.{ℕ, suc, ◌+◌, ◌*◌, ◌≡◌, List, [], ◌∷◌, length, get_or, take, drop}
-use Rattle.std.proofs.Math.Option.{some}
+use Rattle.std.specs.Prelude.{ℕ, suc, ◌+◌, ◌*◌, ◌≡◌, List, [], ◌∷◌, length, get_or, take, drop, Some}
 use Rattle.meaning.specs.Limits.{nothing_yet}
 use Rattle.meaning.specs.Expr.{Expr}
 use Rattle.meaning.specs.Run.{Trace}
@@ -51,13 +50,13 @@ answered table limit e s r =
 
 -- a value reads as the definition's, an error has its number and place, exhaustion its limit; the counts are the same
 abbrev pub Reads : Rooms → Outcome → Limited.Outcome → Type 0
-Reads q o (Limited.value v c) = (m : Value) × (o ≡ Outcome.Value m (used_of c)) × (reading q m ≡ some v)
+Reads q o (Limited.value v c) = (m : Value) × (o ≡ Outcome.Value m (used_of c)) × (reading q m ≡ Some v)
 Reads q o (Limited.error e c) = o ≡ Outcome.Error (error_of e.error) e.place (used_of c)
 Reads q o (Limited.exhausted x c) = o ≡ Outcome.Exhausted (limit_of x) (used_of c)
 
 abbrev pub CellHas : Rooms → ℕ → Cell → Type 0
 CellHas q i zero_cell = (get_or q.cells (i * 2) 0 ≡ 0) × (get_or q.cells (i * 2 + 1) 0 ≡ 0)
-CellHas q i (holding v) = reading q (cell_at q Cells.Evaluation i) ≡ some v
+CellHas q i (holding v) = reading q (cell_at q Cells.Evaluation i) ≡ Some v
 
 abbrev pub CellsHave : Rooms → ℕ → List Cell → Type 0
 CellsHave q i [] = Unit {0}

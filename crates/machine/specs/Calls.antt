@@ -2,7 +2,7 @@
 use Rattle.std.specs.Prelude.{ℕ, true, false, pos}
 use Rattle.meaning.specs.Expr.{Function, size_call, of_call, has_value_call, value_call}
 use Rattle.rooms.specs.declared.value.Value.{Value}
-use Rattle.rooms_text.specs.declared.sizes.Size.{Size}
+use Rattle.std.specs.Prelude.{Option, None, Some}
 use Rattle.rooms.specs.Rooms.{Rooms, cell_at}
 use Rattle.rooms_text.specs.Sizes.{size_of}
 use Rattle.machine.specs.declared.outcome.Used.{Used}
@@ -12,9 +12,9 @@ use Rattle.machine.specs.Outcomes.{Res, truth_out, no_overload, present}
 use Rattle.machine.specs.Views.{Optional, not_optional, none_present, optional_in}
 use Rattle.machine.specs.Views as Views
 
-abbrev pub size_out : ℕ → Used → Size → Outcome
-size_out p u (Size.Is n) = Outcome.Value (Value.Int (pos n)) u
-size_out p u Size.Unsized = no_overload p u
+abbrev pub size_out : ℕ → Used → Option ℕ → Outcome
+size_out p u (Some n) = Outcome.Value (Value.Int (pos n)) u
+size_out p u None = no_overload p u
 
 abbrev pub has_value_out : ℕ → Used → Optional → Outcome
 has_value_out p u not_optional = no_overload p u
@@ -32,7 +32,7 @@ or_value_out p default u r none_present = Outcome.Value default u
 or_value_out p default u r (Views.present s a) = Outcome.Value (cell_at r s a) u
 
 abbrev pub called : ℕ → Function → Value → Used → Rooms → Res
-called p size_call v u r = (size_out p u (size_of r.literal r.binding_text r.text v), r)
+called p size_call v u r = (size_out p u (size_of r v), r)
 called p of_call v u r = present v u r
 called p has_value_call v u r = (has_value_out p u (optional_in v), r)
 called p value_call v u r = (value_out p u r (optional_in v), r)

@@ -1,7 +1,7 @@
 -- Module 2 on rooms: `==`, `!=` and the order, with a step for each pair.
-use Rattle.std.specs.Prelude.{ℕ, Bool, true, false}
+use Rattle.std.specs.Prelude.{ℕ, Bool, true, false, Option, None, Some}
 use Rattle.std.specs.Bool.{beq}
-use Rattle.numbers.specs.declared.order.Order.{Order}
+use Rattle.std.specs.declared.cmp.Ordering.{Ordering}
 use Rattle.meaning.specs.Expr.{Comparison}
 use Rattle.meaning.specs.Comparison.{holds}
 use Rattle.rooms.specs.declared.value.Value.{Value}
@@ -33,11 +33,9 @@ on_found (Found.Out k) u f g = Outcome.Exhausted Limit.Steps (with_steps u k)
 abbrev pub equal_out : (limit : ℕ) → (wanted : Bool) → Value → Value → Used → Rooms → Outcome
 equal_out limit wanted v w u r = on_pairs (equal_pairs limit r v w u.steps) u (λ b z. truth_out (beq wanted b) z)
 
-abbrev pub ordered_out : Comparison → ℕ → Used → Order → Outcome
-ordered_out c p u Order.Less = truth_out (holds c Order.Less) u
-ordered_out c p u Order.Equal = truth_out (holds c Order.Equal) u
-ordered_out c p u Order.Greater = truth_out (holds c Order.Greater) u
-ordered_out c p u Order.Unordered = Outcome.Error Error.Unordered p u
+abbrev pub ordered_out : Comparison → ℕ → Used → Option Ordering → Outcome
+ordered_out c p u (Some o) = truth_out (holds c o) u
+ordered_out c p u None = Outcome.Error Error.Unordered p u
 
 abbrev pub compared_out : Comparison → ℕ → Used → Compared → Outcome
 compared_out c p u (Compared.Is o) = ordered_out c p u o

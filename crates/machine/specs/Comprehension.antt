@@ -1,6 +1,5 @@
 -- Module 9 on rooms: the loop with its pending error, and the append path. What a part of a comprehension does is a function here.
-use Rattle.std.specs.Prelude.{ℕ, zero, suc, ◌+◌, max, List, Bool, true, false, eqb, get_or, set, replicate}
-use Rattle.std.proofs.Math.Option.{Option, none, some}
+use Rattle.std.specs.Prelude.{ℕ, zero, suc, ◌+◌, max, List, Bool, true, false, eqb, get_or, set, replicate, Option, None, Some}
 use Rattle.meaning.specs.Expr.{LogicalFold}
 use Rattle.meaning.specs.Logic.{absorbs}
 use Rattle.rooms.specs.declared.value.Value.{Value}
@@ -12,31 +11,27 @@ use Rattle.rooms.specs.Value.{parts_of, nesting_of}
 use Rattle.rooms.specs.Rooms.{Rooms, cell_at}
 use Rattle.rooms.specs.Scope.{stored}
 use Rattle.rooms_taking.specs.Taking.{copied}
+-- space, first, count and stride, passed on to the laws
+pub use Rattle.machine.specs.declared.items.Items.{Items}
 use Rattle.machine.specs.declared.outcome.Used.{Used}
 use Rattle.machine.specs.declared.outcome.Error.{Error}
 use Rattle.machine.specs.declared.outcome.Outcome.{Outcome}
 use Rattle.machine.specs.Outcomes.{Res, Does, with_words, with_value, taking}
 use Rattle.machine.specs.Views.{bool_in}
 use Rattle.machine.specs.Logic.{branch}
+use Rattle.rooms.specs.Spans.{row}
 
 -- ---- what is iterated over
 
--- the items: their space, the first cell, how many there are, and how many cells lie from one to the next (two for a Map's keys)
-pub record Items : Type 0 where
-  pub space : CellSpace
-  pub first : ℕ
-  pub count : ℕ
-  pub stride : ℕ
-
 abbrev pub items_parts : Parts → Option Items
-items_parts (Parts.Elements s a n) = some (record { space = s; first = a; count = n; stride = 1 })
-items_parts (Parts.Entries s a n) = some (record { space = s; first = a; count = n; stride = 2 })
-items_parts (Parts.Present s a) = none
-items_parts Parts.Nothing = none
+items_parts (Parts.Elements ro) = Some (record { space = ro.space; first = ro.first; count = ro.length; stride = 1 })
+items_parts (Parts.Entries ro) = Some (record { space = ro.space; first = ro.first; count = ro.length; stride = 2 })
+items_parts (Parts.Present s a) = None
+items_parts Parts.Nothing = None
 
 abbrev pub on_items : ℕ → Used → Rooms → Option Items → (Items → Res) → Res
-on_items p u r none k = (Outcome.Error Error.IterableWanted p u, r)
-on_items p u r (some items) k = k items
+on_items p u r None k = (Outcome.Error Error.IterableWanted p u, r)
+on_items p u r (Some items) k = k items
 
 -- ---- the parts of a comprehension
 
@@ -61,8 +56,8 @@ asks p x holds fails = with_value x.0 x.1 (λ v u r. branch p u r (bool_in v) ho
 
 -- the pending error, or the result
 abbrev pub finish : (result : Does) → Pending → Does
-finish result none s u r = result s u r
-finish result (some e) s u r = (Outcome.Error e.0 e.1 u, r)
+finish result None s u r = result s u r
+finish result (Some e) s u r = (Outcome.Error e.0 e.1 u, r)
 
 -- the accumulator is bound, or an error is held
 abbrev pub Binds : Type 0
@@ -76,17 +71,17 @@ unless_cleared true held v u r binds holds = binds v u r
 unless_cleared false held v u r binds holds = holds held u r
 
 abbrev pub fold_value : LogicalFold → Pending → Value → Used → Rooms → Binds → Holds → Res
-fold_value fold none v u r binds holds = binds v u r
-fold_value fold (some e) v u r binds holds = unless_cleared (absorbs fold (bool_in v)) (some e) v u r binds holds
+fold_value fold None v u r binds holds = binds v u r
+fold_value fold (Some e) v u r binds holds = unless_cleared (absorbs fold (bool_in v)) (Some e) v u r binds holds
 
 abbrev pub step_value : Option LogicalFold → Pending → Value → Used → Rooms → Binds → Holds → Res
-step_value none held v u r binds holds = binds v u r
-step_value (some fold) held v u r binds holds = fold_value fold held v u r binds holds
+step_value None held v u r binds holds = binds v u r
+step_value (Some fold) held v u r binds holds = fold_value fold held v u r binds holds
 
 -- only a fold holds an error of its step pending
 abbrev pub step_error : Option LogicalFold → Error → ℕ → Used → Rooms → Holds → Res
-step_error none e p u r holds = (Outcome.Error e p u, r)
-step_error (some fold) e p u r holds = holds (some (e, p)) u r
+step_error None e p u r holds = (Outcome.Error e p u, r)
+step_error (Some fold) e p u r holds = holds (Some (e, p)) u r
 
 abbrev pub after_step : Option LogicalFold → Pending → Outcome → Rooms → Binds → Holds → Res
 after_step fold held (Outcome.Value v u) r binds holds = step_value fold held v u r binds holds
@@ -98,7 +93,7 @@ abbrev pub turn : Loop → Value → Pending → (Pending → Does) → Does
 turn c v held rest s u r =
     let t : Scope = stored s c.item v in
     let y : Res = c.step t u r in
-    after_step c.fold held y.0 y.1 (λ w z q. rest none (stored t c.accumulator w) z q) (λ e z q. rest e t z q)
+    after_step c.fold held y.0 y.1 (λ w z q. rest None (stored t c.accumulator w) z q) (λ e z q. rest e t z q)
 
 -- n items are left, the next of them in cell `at`; its condition sees the item before it
 unfoldable pub turns : Loop → CellSpace → (stride n at : ℕ) → Pending → Does
@@ -141,9 +136,9 @@ Gathering = Gathered → Used → Rooms → Res
 -- a cell for each element that the item adds, and at once a copy of the element. What is added is the value of a List record, so the other arms
 -- are never taken
 abbrev pub gather_parts : Value → Gathered → Parts → Used → Rooms → Gathering → Res
-gather_parts v g (Parts.Elements s a n) u r k =
-    taking n u r (λ w q. k (add_run (eqb n 0) g u.cells n (nesting_of v)) w (with_words q (copied q.binding_cells s q.cells a u.cells n)))
-gather_parts v g (Parts.Entries s a n) u r k = (Outcome.Value v u, r)
+gather_parts v g (Parts.Elements ro) u r k =
+    taking ro.length u r (λ w q. k (add_run (eqb ro.length 0) g u.cells ro.length (nesting_of v)) w (with_words q (copied q.binding_cells ro.space q.cells ro.first u.cells ro.length)))
+gather_parts v g (Parts.Entries ro) u r k = (Outcome.Value v u, r)
 gather_parts v g (Parts.Present s a) u r k = (Outcome.Value v u, r)
 gather_parts v g Parts.Nothing u r k = (Outcome.Value v u, r)
 
@@ -157,13 +152,13 @@ abbrev pub gathered : Gathered → Used → Rooms → Res
 gathered g u r =
     taking g.count u r
     (λ w q. (
-      Outcome.Value (Value.List g.nesting Cells.Evaluation u.cells g.count) w,
+      Outcome.Value (Value.List g.nesting (row Cells.Evaluation u.cells g.count)) w,
       with_words q (runs_copied q.binding_cells g.firsts g.counts g.runs 0 u.cells q.cells),
     ))
 
 abbrev pub guarded : ℕ → Option Does → Scope → Used → Rooms → (Used → Rooms → Res) → (Used → Rooms → Res) → Res
-guarded p none s u r holds fails = holds u r
-guarded p (some guard) s u r holds fails = asks p (guard s u r) holds fails
+guarded p None s u r holds fails = holds u r
+guarded p (Some guard) s u r holds fails = asks p (guard s u r) holds fails
 
 -- what one item adds; then the rest
 abbrev pub append_items : AppendStep → Gathered → Scope → Used → Rooms → Gathering → Res
@@ -185,19 +180,19 @@ append_turns c path space stride (suc n) at g s u r =
 -- ---- the record
 
 abbrev pub empty_parts : Parts → Bool
-empty_parts (Parts.Elements s a n) = eqb n 0
-empty_parts (Parts.Entries s a n) = false
+empty_parts (Parts.Elements ro) = eqb ro.length 0
+empty_parts (Parts.Entries ro) = false
 empty_parts (Parts.Present s a) = false
 empty_parts Parts.Nothing = false
 
 abbrev pub appends : Bool → Loop → AppendStep → Value → Items → Does
 appends true c path init items s u r = append_turns c path items.space items.stride items.count items.first nothing_gathered s u r
-appends false c path init items s u r = turns c items.space items.stride items.count items.first none (stored s c.accumulator init) u r
+appends false c path init items s u r = turns c items.space items.stride items.count items.first None (stored s c.accumulator init) u r
 
 -- the append path is taken only from an empty list
 abbrev pub loop_from : Loop → Option AppendStep → Value → Items → Does
-loop_from c none init items s u r = turns c items.space items.stride items.count items.first none (stored s c.accumulator init) u r
-loop_from c (some path) init items s u r = appends (empty_parts (parts_of init)) c path init items s u r
+loop_from c None init items s u r = turns c items.space items.stride items.count items.first None (stored s c.accumulator init) u r
+loop_from c (Some path) init items s u r = appends (empty_parts (parts_of init)) c path init items s u r
 
 -- init, then range
 abbrev pub comprehends : Loop → Option AppendStep → (init range : Does) → Does

@@ -9,6 +9,7 @@ use Rattle.rooms.specs.Value.{double_value}
 use Rattle.machine.specs.declared.outcome.Used.{Used}
 use Rattle.machine.specs.declared.outcome.Error.TheVariants as Error
 use Rattle.machine.specs.declared.outcome.Outcome.{Outcome}
+use Rattle.rooms.specs.Spans.{span}
 
 module _ (table : List ℕ) where
   -- the literal at a place
@@ -18,12 +19,12 @@ module _ (table : List ℕ) where
   literal_value p (int z) = Value.Int z
   literal_value p (uint n) = Value.Uint n
   literal_value p (double d) = double_value (double_of d)
-  literal_value p (string s) = Value.String Text.Literal (word_at table (p + 3)) (word_at table (p + 5))
-  literal_value p (bytes s) = Value.Bytes Text.Literal (word_at table (p + 3)) (word_at table (p + 5))
+  literal_value p (string s) = Value.String (span Text.Literal (word_at table (p + 3)) (word_at table (p + 5)))
+  literal_value p (bytes s) = Value.Bytes (span Text.Literal (word_at table (p + 3)) (word_at table (p + 5)))
 
   -- the field of the select at a place
   abbrev pub field_value : ℕ → Value
-  field_value p = Value.String Text.Literal (word_at table (p + 4)) (word_at table (p + 6))
+  field_value p = Value.String (span Text.Literal (word_at table (p + 4)) (word_at table (p + 6)))
 
 -- what a name's slot holds
 abbrev pub name_out : ℕ → Value → Used → Outcome
@@ -33,10 +34,10 @@ name_out p (Value.Int z) u = Outcome.Value (Value.Int z) u
 name_out p (Value.Uint n) u = Outcome.Value (Value.Uint n) u
 name_out p (Value.Double x) u = Outcome.Value (Value.Double x) u
 name_out p (Value.Nan b) u = Outcome.Value (Value.Nan b) u
-name_out p (Value.String s a n) u = Outcome.Value (Value.String s a n) u
-name_out p (Value.Bytes s a n) u = Outcome.Value (Value.Bytes s a n) u
-name_out p (Value.List d s a n) u = Outcome.Value (Value.List d s a n) u
-name_out p (Value.Map d s a n) u = Outcome.Value (Value.Map d s a n) u
+name_out p (Value.String sp) u = Outcome.Value (Value.String sp) u
+name_out p (Value.Bytes sp) u = Outcome.Value (Value.Bytes sp) u
+name_out p (Value.List d ro) u = Outcome.Value (Value.List d ro) u
+name_out p (Value.Map d ro) u = Outcome.Value (Value.Map d ro) u
 name_out p Value.OptionalNone u = Outcome.Value Value.OptionalNone u
 name_out p (Value.OptionalOf d s a) u = Outcome.Value (Value.OptionalOf d s a) u
 name_out p Value.Absent u = Outcome.Error Error.UndeclaredReference p u

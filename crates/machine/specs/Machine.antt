@@ -1,6 +1,5 @@
 -- The machine: what each record does on rooms, under a limit on steps. Cells and text are limited by the rooms' lengths, up to document 01's limits.
-use Rattle.std.specs.Prelude.{ℕ, ◌*◌, List, Bool, true, false, cond, ◌&&◌}
-use Rattle.std.proofs.Math.Option.{Option, none, some}
+use Rattle.std.specs.Prelude.{ℕ, ◌*◌, List, Bool, true, false, cond, ◌&&◌, Option, None, Some}
 use Rattle.meaning.specs.Expr.{Unary, not_op, negate_op, not_strictly_false, Arith, add, sub, div, mul, rem, Binary, logic, equals, not_equals, index, opt_index, opt_select, arith, compare, is_in, Function, Expr, literal, name, unary, binary, conditional, select, list_of, map_of, comprehension, call, none_call, or_value, Elements, no_elements, element, marked_element, Pairs, no_pairs, pair, marked_pair, count_elements, count_pairs}
 use Rattle.meaning.specs.Containers.{cells_an_entry}
 use Rattle.meaning.specs.Look.{of_name, named}
@@ -41,19 +40,19 @@ unary_does p o operand s u r =
 
 -- whether the right operand is begun, and from which counts
 abbrev pub wants_value : Outcome → Option Used
-wants_value (Outcome.Value v u) = some u
-wants_value (Outcome.Error e p u) = none
-wants_value (Outcome.Exhausted x u) = none
+wants_value (Outcome.Value v u) = Some u
+wants_value (Outcome.Error e p u) = None
+wants_value (Outcome.Exhausted x u) = None
 
 abbrev pub unless_none : Optional → Used → Option Used
-unless_none not_optional u = some u
-unless_none none_present u = none
-unless_none (Views.present s a) u = some u
+unless_none not_optional u = Some u
+unless_none none_present u = None
+unless_none (Views.present s a) u = Some u
 
 abbrev pub index_left : Outcome → Option Used
 index_left (Outcome.Value v u) = unless_none (optional_in v) u
-index_left (Outcome.Error e p u) = none
-index_left (Outcome.Exhausted x u) = none
+index_left (Outcome.Error e p u) = None
+index_left (Outcome.Exhausted x u) = None
 
 abbrev pub left_of : Binary → Outcome → Option Used
 left_of (logic fold) o = logic_left fold o
@@ -96,8 +95,8 @@ right_of limit p (compare c) left w u r = both left r (λ v. values_out limit p 
 right_of limit p is_in left w u r = both left r (λ v. values_out limit p is_in v w u r)
 
 abbrev pub on_left : Option Used → Outcome → Rooms → (Used → Rooms → Res) → Res
-on_left none left r k = (left, r)
-on_left (some u) left r k = k u r
+on_left None left r k = (left, r)
+on_left (Some u) left r k = k u r
 
 abbrev pub binary_does : (limit : ℕ) → ℕ → Binary → Does → Does → Does
 binary_does limit p o left right s u r =
@@ -133,26 +132,26 @@ or_value_does p target argument s u r =
 
 -- the items list of `accumulator + [..]`
 abbrev pub added_to : ℕ → Arith → Option ℕ → Option Does → Option Does
-added_to a add n items = cond (named a n) items none
-added_to a sub n items = none
-added_to a div n items = none
-added_to a mul n items = none
-added_to a rem n items = none
+added_to a add n items = cond (named a n) items None
+added_to a sub n items = None
+added_to a div n items = None
+added_to a mul n items = None
+added_to a rem n items = None
 
 abbrev pub sum_to : ℕ → Binary → Option ℕ → Option Does → Option Does
-sum_to a (logic fold) n items = none
-sum_to a equals n items = none
-sum_to a not_equals n items = none
-sum_to a index n items = none
-sum_to a opt_index n items = none
-sum_to a opt_select n items = none
+sum_to a (logic fold) n items = None
+sum_to a equals n items = None
+sum_to a not_equals n items = None
+sum_to a index n items = None
+sum_to a opt_index n items = None
+sum_to a opt_select n items = None
 sum_to a (arith o) n items = added_to a o n items
-sum_to a (compare c) n items = none
-sum_to a is_in n items = none
+sum_to a (compare c) n items = None
+sum_to a is_in n items = None
 
 abbrev pub appending : Option Does → Option Does → Option AppendStep
-appending guard none = none
-appending guard (some items) = some (record { guard = guard; items = items })
+appending guard None = None
+appending guard (Some items) = Some (record { guard = guard; items = items })
 
 -- ---- records
 
@@ -181,7 +180,7 @@ module _ (table : List ℕ) (limit : ℕ) where
           step = recorded limit (λ t w q. body step t w q);
           result = recorded limit (λ t w q. body result t w q);
         })
-        (cond ((look condition).is_literal && named a (look result).is_name) (append_step a step) none)
+        (cond ((look condition).is_literal && named a (look result).is_name) (append_step a step) None)
         (recorded limit (λ t w q. body init t w q)) (recorded limit (λ t w q. body range t w q)) s u r
     body (call p f e) s u r = call_does p f (recorded limit (λ t w q. body e t w q)) s u r
     body (none_call p) s u r = (Outcome.Value Value.OptionalNone u, r)
@@ -206,48 +205,48 @@ module _ (table : List ℕ) (limit : ℕ) where
 
     -- the append path that a step opens
     pub append_step : ℕ → Expr → Option AppendStep
-    append_step a (literal p x) = none
-    append_step a (name p n) = none
-    append_step a (unary p o e) = none
-    append_step a (binary p o e f) = appending none (sum_to a o (look e).is_name (items_list f))
-    append_step a (conditional p c e f) = cond (named a (look f).is_name) (appending (some (recorded limit (λ t w q. body c t w q))) (append_sum a e)) none
-    append_step a (select p test field e) = none
-    append_step a (list_of p es) = none
-    append_step a (map_of p es) = none
-    append_step a (comprehension p b i range init condition step result) = none
-    append_step a (call p f e) = none
-    append_step a (none_call p) = none
-    append_step a (or_value p target argument) = none
+    append_step a (literal p x) = None
+    append_step a (name p n) = None
+    append_step a (unary p o e) = None
+    append_step a (binary p o e f) = appending None (sum_to a o (look e).is_name (items_list f))
+    append_step a (conditional p c e f) = cond (named a (look f).is_name) (appending (Some (recorded limit (λ t w q. body c t w q))) (append_sum a e)) None
+    append_step a (select p test field e) = None
+    append_step a (list_of p es) = None
+    append_step a (map_of p es) = None
+    append_step a (comprehension p b i range init condition step result) = None
+    append_step a (call p f e) = None
+    append_step a (none_call p) = None
+    append_step a (or_value p target argument) = None
 
     -- what the list of `accumulator + [..]` does
     pub append_sum : ℕ → Expr → Option Does
-    append_sum a (literal p x) = none
-    append_sum a (name p n) = none
-    append_sum a (unary p o e) = none
+    append_sum a (literal p x) = None
+    append_sum a (name p n) = None
+    append_sum a (unary p o e) = None
     append_sum a (binary p o e f) = sum_to a o (look e).is_name (items_list f)
-    append_sum a (conditional p c e f) = none
-    append_sum a (select p test field e) = none
-    append_sum a (list_of p es) = none
-    append_sum a (map_of p es) = none
-    append_sum a (comprehension p b i range init condition step result) = none
-    append_sum a (call p f e) = none
-    append_sum a (none_call p) = none
-    append_sum a (or_value p target argument) = none
+    append_sum a (conditional p c e f) = None
+    append_sum a (select p test field e) = None
+    append_sum a (list_of p es) = None
+    append_sum a (map_of p es) = None
+    append_sum a (comprehension p b i range init condition step result) = None
+    append_sum a (call p f e) = None
+    append_sum a (none_call p) = None
+    append_sum a (or_value p target argument) = None
 
     -- what a List record does
     pub items_list : Expr → Option Does
-    items_list (literal p x) = none
-    items_list (name p n) = none
-    items_list (unary p o e) = none
-    items_list (binary p o e f) = none
-    items_list (conditional p c e f) = none
-    items_list (select p test field e) = none
-    items_list (list_of p es) = some (recorded limit (λ s u r. taking (count_elements es) u r (λ w q. elements es s u.cells 0 0 w q)))
-    items_list (map_of p es) = none
-    items_list (comprehension p a i range init condition step result) = none
-    items_list (call p f e) = none
-    items_list (none_call p) = none
-    items_list (or_value p target argument) = none
+    items_list (literal p x) = None
+    items_list (name p n) = None
+    items_list (unary p o e) = None
+    items_list (binary p o e f) = None
+    items_list (conditional p c e f) = None
+    items_list (select p test field e) = None
+    items_list (list_of p es) = Some (recorded limit (λ s u r. taking (count_elements es) u r (λ w q. elements es s u.cells 0 0 w q)))
+    items_list (map_of p es) = None
+    items_list (comprehension p a i range init condition step result) = None
+    items_list (call p f e) = None
+    items_list (none_call p) = None
+    items_list (or_value p target argument) = None
 
   -- a record
   abbrev pub machine : Expr → Does

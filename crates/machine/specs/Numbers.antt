@@ -1,7 +1,6 @@
 -- Module 1 on rooms: arithmetic, and `+` on texts and lists, which copies both operands to the end of what is used.
-use Rattle.std.specs.Prelude.{ℕ, ◌+◌, max, List}
-use Rattle.numbers.specs.declared.int.IntAnswer.{IntAnswer}
-use Rattle.numbers.specs.declared.uint.UintAnswer.{UintAnswer}
+use Rattle.std.specs.Prelude.{ℕ, ◌+◌, max, List, ℤ, Result, Ok, Err}
+use Rattle.numbers.specs.declared.error.ArithmeticError.{ArithmeticError}
 use Rattle.numbers.specs.declared.double.Double.{Double}
 use Rattle.numbers.specs.declared.order.Number.{Number}
 use Rattle.numbers.specs.Int as Int
@@ -23,16 +22,21 @@ use Rattle.machine.specs.declared.outcome.Error.TheVariants as Error
 use Rattle.machine.specs.declared.outcome.Limit.TheVariants as Limit
 use Rattle.machine.specs.declared.outcome.Outcome.{Outcome}
 use Rattle.machine.specs.Outcomes.{Res, with_bytes, with_words, with_text, no_overload, on_taken, taking}
+use Rattle.rooms.specs.Spans.{span, row}
 
 -- ---- numbers
 
-abbrev pub int_out : ℕ → Used → IntAnswer → Outcome
-int_out p u (IntAnswer.Value z) = Outcome.Value (Value.Int z) u
-int_out p u (IntAnswer.Error e) = Outcome.Error (Error.Arithmetic e) p u
+abbrev pub answer_out : ℕ → Used → Result Value ArithmeticError → Outcome
+answer_out p u (Ok v) = Outcome.Value v u
+answer_out p u (Err e) = Outcome.Error (Error.Arithmetic e) p u
 
-abbrev pub uint_out : ℕ → Used → UintAnswer → Outcome
-uint_out p u (UintAnswer.Value n) = Outcome.Value (Value.Uint n) u
-uint_out p u (UintAnswer.Error e) = Outcome.Error (Error.Arithmetic e) p u
+abbrev pub int_out : ℕ → Used → Result ℤ ArithmeticError → Outcome
+int_out p u (Ok z) = Outcome.Value (Value.Int z) u
+int_out p u (Err e) = Outcome.Error (Error.Arithmetic e) p u
+
+abbrev pub uint_out : ℕ → Used → Result ℕ ArithmeticError → Outcome
+uint_out p u (Ok n) = Outcome.Value (Value.Uint n) u
+uint_out p u (Err e) = Outcome.Error (Error.Arithmetic e) p u
 
 abbrev pub double_out : Used → Double → Outcome
 double_out u d = Outcome.Value (double_value d) u
@@ -59,8 +63,8 @@ abbrev pub number_arith : ℕ → Used → Arith → Number → Plain → Outcom
 number_arith p u o a Plain.Null = no_overload p u
 number_arith p u o a (Plain.Bool b) = no_overload p u
 number_arith p u o a (Plain.Number b) = numbers_out p u o a b
-number_arith p u o a (Plain.String s b n) = no_overload p u
-number_arith p u o a (Plain.Bytes s b n) = no_overload p u
+number_arith p u o a (Plain.String sp) = no_overload p u
+number_arith p u o a (Plain.Bytes sp) = no_overload p u
 number_arith p u o a Plain.OptionalNone = no_overload p u
 number_arith p u o a Plain.Other = no_overload p u
 
@@ -73,8 +77,8 @@ abbrev pub negate_plain : ℕ → Used → Plain → Outcome
 negate_plain p u Plain.Null = no_overload p u
 negate_plain p u (Plain.Bool b) = no_overload p u
 negate_plain p u (Plain.Number n) = negate_number p u n
-negate_plain p u (Plain.String s a n) = no_overload p u
-negate_plain p u (Plain.Bytes s a n) = no_overload p u
+negate_plain p u (Plain.String sp) = no_overload p u
+negate_plain p u (Plain.Bytes sp) = no_overload p u
 negate_plain p u Plain.OptionalNone = no_overload p u
 negate_plain p u Plain.Other = no_overload p u
 
@@ -94,8 +98,8 @@ abbrev pub string_sum : ℕ → TextSpace → (a n : ℕ) → Plain → Used →
 string_sum p s a n Plain.Null u r = (no_overload p u, r)
 string_sum p s a n (Plain.Bool b) u r = (no_overload p u, r)
 string_sum p s a n (Plain.Number b) u r = (no_overload p u, r)
-string_sum p s a n (Plain.String t b m) u r = text_sum (λ f k. Value.String Text.Evaluation f k) s a n t b m u r
-string_sum p s a n (Plain.Bytes t b m) u r = (no_overload p u, r)
+string_sum p s a n (Plain.String sp) u r = text_sum (λ f k. Value.String (span Text.Evaluation f k)) s a n sp.space sp.first sp.length u r
+string_sum p s a n (Plain.Bytes sp) u r = (no_overload p u, r)
 string_sum p s a n Plain.OptionalNone u r = (no_overload p u, r)
 string_sum p s a n Plain.Other u r = (no_overload p u, r)
 
@@ -103,8 +107,8 @@ abbrev pub bytes_sum : ℕ → TextSpace → (a n : ℕ) → Plain → Used → 
 bytes_sum p s a n Plain.Null u r = (no_overload p u, r)
 bytes_sum p s a n (Plain.Bool b) u r = (no_overload p u, r)
 bytes_sum p s a n (Plain.Number b) u r = (no_overload p u, r)
-bytes_sum p s a n (Plain.String t b m) u r = (no_overload p u, r)
-bytes_sum p s a n (Plain.Bytes t b m) u r = text_sum (λ f k. Value.Bytes Text.Evaluation f k) s a n t b m u r
+bytes_sum p s a n (Plain.String sp) u r = (no_overload p u, r)
+bytes_sum p s a n (Plain.Bytes sp) u r = text_sum (λ f k. Value.Bytes (span Text.Evaluation f k)) s a n sp.space sp.first sp.length u r
 bytes_sum p s a n Plain.OptionalNone u r = (no_overload p u, r)
 bytes_sum p s a n Plain.Other u r = (no_overload p u, r)
 
@@ -115,13 +119,13 @@ abbrev pub both_lists : (deep : ℕ) → CellSpace → (a n : ℕ) → CellSpace
 both_lists d s a n t b m u r =
     taking (n + m) u r
     (λ w q. (
-      Outcome.Value (Value.List d Cells.Evaluation u.cells (n + m)) w,
+      Outcome.Value (Value.List d (row Cells.Evaluation u.cells (n + m))) w,
       with_words q (copied q.binding_cells t (copied q.binding_cells s q.cells a u.cells n) b (u.cells + n) m),
     ))
 
 abbrev pub list_sum : ℕ → (deep : ℕ) → CellSpace → (a n : ℕ) → Parts → Used → Rooms → Res
-list_sum p d s a n (Parts.Elements t b m) u r = both_lists d s a n t b m u r
-list_sum p d s a n (Parts.Entries t b m) u r = (no_overload p u, r)
+list_sum p d s a n (Parts.Elements ro) u r = both_lists d s a n ro.space ro.first ro.length u r
+list_sum p d s a n (Parts.Entries ro) u r = (no_overload p u, r)
 list_sum p d s a n (Parts.Present t b) u r = (no_overload p u, r)
 list_sum p d s a n Parts.Nothing u r = (no_overload p u, r)
 
@@ -136,8 +140,8 @@ only_add p mul k u r = (no_overload p u, r)
 only_add p rem k u r = (no_overload p u, r)
 
 abbrev pub parts_arith : ℕ → Arith → Value → Value → Parts → Used → Rooms → Res
-parts_arith p o v w (Parts.Elements s a n) u r = only_add p o (λ z q. list_sum p (max (nesting_of v) (nesting_of w)) s a n (parts_of w) z q) u r
-parts_arith p o v w (Parts.Entries s a n) u r = (no_overload p u, r)
+parts_arith p o v w (Parts.Elements ro) u r = only_add p o (λ z q. list_sum p (max (nesting_of v) (nesting_of w)) ro.space ro.first ro.length (parts_of w) z q) u r
+parts_arith p o v w (Parts.Entries ro) u r = (no_overload p u, r)
 parts_arith p o v w (Parts.Present s a) u r = (no_overload p u, r)
 parts_arith p o v w Parts.Nothing u r = (no_overload p u, r)
 
@@ -145,8 +149,8 @@ abbrev pub plain_arith : ℕ → Arith → Value → Value → Plain → Used �
 plain_arith p o v w Plain.Null u r = (no_overload p u, r)
 plain_arith p o v w (Plain.Bool b) u r = (no_overload p u, r)
 plain_arith p o v w (Plain.Number a) u r = (number_arith p u o a (plain_of w), r)
-plain_arith p o v w (Plain.String s a n) u r = only_add p o (λ z q. string_sum p s a n (plain_of w) z q) u r
-plain_arith p o v w (Plain.Bytes s a n) u r = only_add p o (λ z q. bytes_sum p s a n (plain_of w) z q) u r
+plain_arith p o v w (Plain.String sp) u r = only_add p o (λ z q. string_sum p sp.space sp.first sp.length (plain_of w) z q) u r
+plain_arith p o v w (Plain.Bytes sp) u r = only_add p o (λ z q. bytes_sum p sp.space sp.first sp.length (plain_of w) z q) u r
 plain_arith p o v w Plain.OptionalNone u r = (no_overload p u, r)
 plain_arith p o v w Plain.Other u r = parts_arith p o v w (parts_of v) u r
 

@@ -4,7 +4,6 @@ use Rattle.std.specs.Prelude.{ℕ, ◌+◌, Bool, true, false, cond, ltb}
 use Rattle.meaning.specs.Limits.{deepest_value}
 use Rattle.rooms.specs.declared.value.Value.{Value}
 use Rattle.rooms.specs.declared.value.CellSpace.TheVariants as Cells
-use Rattle.rooms_taking.specs.declared.Taken.{Taken}
 use Rattle.rooms.specs.declared.scope.Scope.{Scope}
 use Rattle.rooms.specs.Value.{nesting_of}
 use Rattle.rooms.specs.Cells.{written_in}
@@ -16,6 +15,7 @@ use Rattle.machine.specs.declared.outcome.Used.{Used}
 use Rattle.machine.specs.declared.outcome.Error.TheVariants as Error
 use Rattle.machine.specs.declared.outcome.Limit.TheVariants as Limit
 use Rattle.machine.specs.declared.outcome.Outcome.{Outcome}
+use Rattle.std.specs.Prelude.{Option, None, Some}
 
 abbrev pub Res : Type 0
 Res = Outcome × Rooms
@@ -71,9 +71,9 @@ after_step false u r k = (Outcome.Exhausted Limit.Steps u, r)
 abbrev pub recorded : (limit : ℕ) → Does → Does
 recorded limit body s u r = after_step (ltb u.steps limit) u r (λ w. body s w r)
 
-abbrev pub on_taken : Taken → (ℕ → Res) → Res → Res
-on_taken (Taken.To end) k full = k end
-on_taken Taken.Full k full = full
+abbrev pub on_taken : Option ℕ → (ℕ → Res) → Res → Res
+on_taken (Some end) k full = k end
+on_taken None k full = full
 
 -- n cells, which are Null from then on
 abbrev pub taking : ℕ → Used → Rooms → (Used → Rooms → Res) → Res

@@ -31,8 +31,8 @@ module _ (limit : ℕ) where
       on_found (find_in limit r i s a n u.steps) u (λ c w. Outcome.Value (cell_at r s c) w) (λ w. Outcome.Error Error.NoSuchKey p w)
 
   abbrev pub look_up_in : ℕ → Rooms → Value → Used → Parts → Outcome
-  look_up_in p r i u (Parts.Elements s a n) = element_out p r s a u (position_of i n)
-  look_up_in p r i u (Parts.Entries s a n) = cond (is_key i) (entry_out p r s a n i u) (no_overload p u)
+  look_up_in p r i u (Parts.Elements ro) = element_out p r ro.space ro.first u (position_of i ro.length)
+  look_up_in p r i u (Parts.Entries ro) = cond (is_key i) (entry_out p r ro.space ro.first ro.length i u) (no_overload p u)
   look_up_in p r i u (Parts.Present s a) = no_overload p u
   look_up_in p r i u Parts.Nothing = no_overload p u
 
@@ -41,9 +41,9 @@ module _ (limit : ℕ) where
   look_up p r c i u = look_up_in p r i u (parts_of c)
 
   abbrev pub in_parts : ℕ → Rooms → Value → Used → Parts → Outcome
-  in_parts p r v u (Parts.Elements s a n) = on_pairs (among_in limit r v s a n u.steps) u (λ b w. truth_out b w)
-  in_parts p r v u (Parts.Entries s a n) =
-      cond (is_key v) (on_found (find_in limit r v s a n u.steps) u (λ c w. truth_out true w) (λ w. truth_out false w)) (no_overload p u)
+  in_parts p r v u (Parts.Elements ro) = on_pairs (among_in limit r v ro.space ro.first ro.length u.steps) u (λ b w. truth_out b w)
+  in_parts p r v u (Parts.Entries ro) =
+      cond (is_key v) (on_found (find_in limit r v ro.space ro.first ro.length u.steps) u (λ c w. truth_out true w) (λ w. truth_out false w)) (no_overload p u)
   in_parts p r v u (Parts.Present s a) = no_overload p u
   in_parts p r v u Parts.Nothing = no_overload p u
 
@@ -83,14 +83,14 @@ select_plain p test (Views.present s a) u = no_overload p u
 
 module _ (limit : ℕ) (p : ℕ) (test : Bool) (field : Value) where
   abbrev pub select_in_present : Value → Parts → Used → Rooms → Res
-  select_in_present c (Parts.Elements s a n) u r = select_in_container test (look_up limit p r c field u) r
-  select_in_present c (Parts.Entries s a n) u r = select_in_container test (look_up limit p r c field u) r
+  select_in_present c (Parts.Elements ro) u r = select_in_container test (look_up limit p r c field u) r
+  select_in_present c (Parts.Entries ro) u r = select_in_container test (look_up limit p r c field u) r
   select_in_present c (Parts.Present s a) u r = (Outcome.Error Error.NoSuchKey p u, r)
   select_in_present c Parts.Nothing u r = (Outcome.Error Error.NoSuchKey p u, r)
 
   abbrev pub select_parts : Value → Parts → Used → Rooms → Res
-  select_parts v (Parts.Elements s a n) u r = (no_overload p u, r)
-  select_parts v (Parts.Entries s a n) u r = select_in_map test (look_up limit p r v field u) r
+  select_parts v (Parts.Elements ro) u r = (no_overload p u, r)
+  select_parts v (Parts.Entries ro) u r = select_in_map test (look_up limit p r v field u) r
   select_parts v (Parts.Present s a) u r = select_in_present (cell_at r s a) (parts_of (cell_at r s a)) u r
   select_parts v Parts.Nothing u r = (select_plain p test (optional_in v) u, r)
 

@@ -1,6 +1,5 @@
 -- What is seen of a value of the code: a Bool, a String, an Optional. One view for each question.
-use Rattle.std.specs.Prelude.{ℕ, Bool, true, false}
-use Rattle.std.proofs.Math.Option.{Option, none, some}
+use Rattle.std.specs.Prelude.{ℕ, Bool, true, false, Option, None, Some}
 use Rattle.rooms.specs.declared.value.Value.{Value}
 use Rattle.rooms.specs.declared.value.CellSpace.{CellSpace}
 use Rattle.rooms.specs.declared.value.Plain.{Plain}
@@ -11,13 +10,13 @@ use Rattle.rooms.specs.Rooms.{Rooms, cell_at}
 -- ---- a Bool
 
 abbrev pub plain_bool : Plain → Option Bool
-plain_bool Plain.Null = none
-plain_bool (Plain.Bool b) = some b
-plain_bool (Plain.Number n) = none
-plain_bool (Plain.String s a n) = none
-plain_bool (Plain.Bytes s a n) = none
-plain_bool Plain.OptionalNone = none
-plain_bool Plain.Other = none
+plain_bool Plain.Null = None
+plain_bool (Plain.Bool b) = Some b
+plain_bool (Plain.Number n) = None
+plain_bool (Plain.String sp) = None
+plain_bool (Plain.Bytes sp) = None
+plain_bool Plain.OptionalNone = None
+plain_bool Plain.Other = None
 
 abbrev pub bool_in : Value → Option Bool
 bool_in v = plain_bool (plain_of v)
@@ -28,8 +27,8 @@ abbrev pub plain_string : Plain → Bool
 plain_string Plain.Null = false
 plain_string (Plain.Bool b) = false
 plain_string (Plain.Number n) = false
-plain_string (Plain.String s a n) = true
-plain_string (Plain.Bytes s a n) = false
+plain_string (Plain.String sp) = true
+plain_string (Plain.Bytes sp) = false
 plain_string Plain.OptionalNone = false
 plain_string Plain.Other = false
 
@@ -48,14 +47,14 @@ abbrev pub plain_none : Plain → Optional
 plain_none Plain.Null = not_optional
 plain_none (Plain.Bool b) = not_optional
 plain_none (Plain.Number n) = not_optional
-plain_none (Plain.String s a n) = not_optional
-plain_none (Plain.Bytes s a n) = not_optional
+plain_none (Plain.String sp) = not_optional
+plain_none (Plain.Bytes sp) = not_optional
 plain_none Plain.OptionalNone = none_present
 plain_none Plain.Other = not_optional
 
 abbrev pub optional_parts : Value → Parts → Optional
-optional_parts v (Parts.Elements s a n) = not_optional
-optional_parts v (Parts.Entries s a n) = not_optional
+optional_parts v (Parts.Elements ro) = not_optional
+optional_parts v (Parts.Entries ro) = not_optional
 optional_parts v (Parts.Present s a) = present s a
 optional_parts v Parts.Nothing = plain_none (plain_of v)
 
@@ -65,11 +64,11 @@ optional_in v = optional_parts v (parts_of v)
 -- ---- marks
 
 abbrev pub unmarked_in : Rooms → Value → Optional → Option Value
-unmarked_in r v not_optional = some v
-unmarked_in r v none_present = none
-unmarked_in r v (present s a) = some (cell_at r s a)
+unmarked_in r v not_optional = Some v
+unmarked_in r v none_present = None
+unmarked_in r v (present s a) = Some (cell_at r s a)
 
 -- what an element or an entry's value adds; without a mark, itself
 abbrev pub part_in : Rooms → (marked : Bool) → Value → Option Value
 part_in r true v = unmarked_in r v (optional_in v)
-part_in r false v = some v
+part_in r false v = Some v

@@ -7,7 +7,7 @@
 -- the rest is all, since nothing is counted.
 use Rattle.std.specs.Prelude.{ℕ, List, []}
 use Rattle.meaning.specs.Limits.{Counts, cut}
-use Rattle.meaning.specs.Errors.{Refusal}
+use Rattle.meaning.specs.declared.refusal.Reason.{Reason}
 use Rattle.meaning.specs.Value.{Value}
 use Rattle.meaning.specs.Expr.{Expr}
 use Rattle.meaning.specs.Run.{Eval}
@@ -20,7 +20,7 @@ use Rattle.meaning.specs.Bindings.{BindingRoom, scope_of}
 
 -- refused with a place, or the outcome of the run: a value, an error or exhaustion
 pub data Answer : Type 0 where
-  refusal : Refusal → ℕ → Answer
+  refusal : Reason → ℕ → Answer
   ran : Outcome → Answer
 
 -- the answer, and the evaluation rooms afterwards

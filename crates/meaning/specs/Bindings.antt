@@ -1,7 +1,7 @@
 -- Bindings: rooms of them, bringing one in, and the scope that a room gives.
 use Rattle.std.specs.Prelude.{ℕ, suc, ◌+◌, min, List, [], ◌∷◌, not, ◌&&◌, length, leb}
 use Rattle.meaning.specs.Limits.{most_cells, most_bytes}
-use Rattle.meaning.specs.Errors.{WrongField, BindingRoomFull, NameBound}
+use Rattle.meaning.specs.declared.refusal.Reason.TheVariants.{WrongField, BindingRoomFull, NameBound}
 use Rattle.meaning.specs.Value.{Scalar, null, bool, int, uint, double, string, bytes, key_scalar, Value, scalar, list, map, optional_none, optional_of, Values, nil, cons, Entries, empty, entry}
 use Rattle.meaning.specs.Maps.{is_found}
 use Rattle.meaning.specs.Containers.{cells_an_entry}

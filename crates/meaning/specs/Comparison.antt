@@ -1,17 +1,16 @@
 -- Module 2, comparison: order, and equality with the number of pairs of values that it compares. Numbers of all three kinds are points
 -- of one exact line, as the crate numbers says; text is ordered by its bytes, as the crate text says.
-use Rattle.std.specs.Prelude.{ℕ, suc, ◌+◌, List, [], Bool, true, false, not, ◌&&◌, cond, eqb, replicate}
-use Rattle.std.proofs.Math.Option.{Option, none, some}
+use Rattle.std.specs.Prelude.{ℕ, suc, ◌+◌, List, [], Bool, true, false, not, ◌&&◌, cond, eqb, replicate, Option, None, Some}
 use Rattle.std.specs.Bool.{beq}
-use Rattle.numbers.specs.declared.order.Order.{Order}
+use Rattle.std.specs.declared.cmp.Ordering.{Ordering}
+use Rattle.std.specs.Ordering.{is_lt, is_le, is_gt, is_ge, partial_ordering_then}
 use Rattle.numbers.specs.Double.{Point, point_of}
 use Rattle.numbers.specs.Order.{int_point, uint_point, order_of, is_equal}
-use Rattle.text.specs.declared.bytes.TextOrder.{TextOrder}
 use Rattle.text.specs.Bytes as Bytes
 use Rattle.meaning.specs.Errors.{NoOverload, Unordered}
 use Rattle.meaning.specs.Value.{Scalar, null, bool, int, uint, double, string, bytes, key_scalar, Value, scalar, list, map, optional_none, optional_of, Values, nil, cons, Entries, empty, entry, count, count_entries, scalar_of, elements_of, entries_of, is_none, part_of}
 use Rattle.meaning.specs.Expr.{Comparison, less, less_equals, greater, greater_equals}
-use Rattle.meaning.specs.Run.{step, Rule, pure, charged, ◌>>=◌, fail, or_fail, truth}
+use Rattle.meaning.specs.Run.{step, Rule, pure, charged, ◌>>=◌, or_fail, truth}
 
 -- ---- scalars
 
@@ -56,19 +55,11 @@ rank (double d) = by_point number_class (point_of d)
 rank (string s) = by_text string_class s
 rank (bytes s) = by_text bytes_class s
 
-unfoldable pub text_order : TextOrder → Order
-text_order TextOrder.Less = Order.Less
-text_order TextOrder.Equal = Order.Equal
-text_order TextOrder.Greater = Order.Greater
-
-unfoldable pub then_text : Order → TextOrder → Order
-then_text Order.Less t = Order.Less
-then_text Order.Equal t = text_order t
-then_text Order.Greater t = Order.Greater
-then_text Order.Unordered t = Order.Unordered
+unfoldable pub then_text : Option Ordering → Ordering → Option Ordering
+then_text o t = partial_ordering_then o (Some t)
 
 -- within a class
-unfoldable pub rank_order : Rank → Rank → Order
+unfoldable pub rank_order : Rank → Rank → Option Ordering
 rank_order r s = then_text (order_of r.point s.point) (Bytes.order_of r.text s.text)
 
 unfoldable pub same_class : Rank → Rank → Bool
@@ -79,35 +70,20 @@ scalar_equal x y = same_class (rank x) (rank y) && is_equal (rank_order (rank x)
 
 -- ---- `<` and its like
 
--- Null has no order
-unfoldable pub scalar_order : Rank → Rank → Option Order
-scalar_order r s = cond (same_class r s && not (eqb r.class null_class)) (some (rank_order r s)) none
+-- Null has no order; a number and NaN are of one class, and in no order
+unfoldable pub scalar_order : Rank → Rank → Option (Option Ordering)
+scalar_order r s = cond (same_class r s && not (eqb r.class null_class)) (Some (rank_order r s)) None
 
-unfoldable pub is_less : Order → Bool
-is_less Order.Less = true
-is_less Order.Equal = false
-is_less Order.Greater = false
-is_less Order.Unordered = false
+unfoldable pub holds : Comparison → Ordering → Bool
+holds less o = is_lt o
+holds less_equals o = is_le o
+holds greater o = is_gt o
+holds greater_equals o = is_ge o
 
-unfoldable pub is_greater : Order → Bool
-is_greater Order.Less = false
-is_greater Order.Equal = false
-is_greater Order.Greater = true
-is_greater Order.Unordered = false
+unfoldable pub ordered : Option Ordering → Rule Ordering
+ordered o = or_fail Unordered o
 
-unfoldable pub holds : Comparison → Order → Bool
-holds less o = is_less o
-holds less_equals o = not (is_greater o)
-holds greater o = is_greater o
-holds greater_equals o = not (is_less o)
-
-unfoldable pub ordered : Order → Rule Order
-ordered Order.Less = pure Order.Less
-ordered Order.Equal = pure Order.Equal
-ordered Order.Greater = pure Order.Greater
-ordered Order.Unordered = fail Unordered
-
-unfoldable pub compare_values : Value → Value → Rule Order
+unfoldable pub compare_values : Value → Value → Rule Ordering
 compare_values v w = do
   x ← or_fail NoOverload (scalar_of v)
   y ← or_fail NoOverload (scalar_of w)
@@ -139,8 +115,8 @@ either t u = cond t.1 t (t.0 + u.0, u.1)
 
 -- the first entry whose key is equal to x, Int and Uint of one number being equal. Every look-up in a map comes here
 unfoldable pub find : Scalar → Entries → Tally (Option Value)
-find x empty = (0, none)
-find x (entry k v es) = tick (cond (scalar_equal x (key_scalar k)) (0, some v) (find x es))
+find x empty = (0, None)
+find x (entry k v es) = tick (cond (scalar_equal x (key_scalar k)) (0, Some v) (find x es))
 
 -- decided without a pair
 abbrev pub decided : Bool → Tally Bool
@@ -148,8 +124,8 @@ decided b = (0, b)
 
 -- the right value of a pair, taken as one of the left value's kind; false if it is of another kind
 unfoldable pub against : {A : Type 0} → (A → Tally Bool) → Option A → Tally Bool
-against parts none = decided false
-against parts (some a) = parts a
+against parts None = decided false
+against parts (Some a) = parts a
 
 -- element by element; the lists are equally long
 unfoldable pub elements_against : (Value → Tally Bool) → (Values → Tally Bool) → Values → Tally Bool

@@ -1,7 +1,6 @@
 -- Module 9, comprehension: scopes, the loop with its pending errors, and the append path. A part of a comprehension is given here as
 -- the function from a scope to what it means there.
-use Rattle.std.specs.Prelude.{ℕ, List, [], ◌∷◌, Bool, true, false, cond, eqb}
-use Rattle.std.proofs.Math.Option.{Option, none, some}
+use Rattle.std.specs.Prelude.{ℕ, List, [], ◌∷◌, Bool, true, false, cond, eqb, Option, None, Some}
 use Rattle.meaning.specs.Errors.{UnexpectedType, an_iterable, ErrorAt}
 use Rattle.meaning.specs.Value.{Value, scalar, list, map, optional_none, optional_of, Values, nil, cons, Entries, empty, entry, join, value_list, key_scalar, bool_of}
 use Rattle.meaning.specs.Expr.{LogicalFold}
@@ -15,10 +14,10 @@ abbrev pub Scope : Type 0
 Scope = ℕ → Option Value
 
 unfoldable pub empty_scope : Scope
-empty_scope name = none
+empty_scope name = None
 
 unfoldable pub store : Scope → ℕ → Value → Scope
-store s name v other = cond (eqb other name) (some v) (s other)
+store s name v other = cond (eqb other name) (Some v) (s other)
 
 abbrev pub Meaning : Type 0
 Meaning = Scope → Eval Value
@@ -30,11 +29,11 @@ key_list empty = []
 key_list (entry k v es) = scalar (key_scalar k) ∷ key_list es
 
 unfoldable pub items_of : Value → Option (List Value)
-items_of (scalar x) = none
-items_of (list vs) = some (value_list vs)
-items_of (map es) = some (key_list es)
-items_of optional_none = none
-items_of (optional_of v) = none
+items_of (scalar x) = None
+items_of (list vs) = Some (value_list vs)
+items_of (map es) = Some (key_list es)
+items_of optional_none = None
+items_of (optional_of v) = None
 
 -- ---- a comprehension and its parts
 
@@ -67,20 +66,20 @@ abbrev pub Onward : Type 0
 Onward = Scope → Pending → Rule Value
 
 unfoldable pub finish : Meaning → Onward
-finish result s none = operand (result s)
-finish result s (some e) = ([], error (by_operand e))
+finish result s None = operand (result s)
+finish result s (Some e) = ([], error (by_operand e))
 
 -- the value of a fold's step becomes the accumulator, unless an error is pending that it does not clear
 unfoldable pub fold_step : (accumulator : ℕ) → LogicalFold → Onward → Scope → Pending → Value → Rule Value
-fold_step accumulator fold rest s none v = rest (store s accumulator v) none
-fold_step accumulator fold rest s (some e) v = choose (rest (store s accumulator v) none) (rest s (some e)) (absorbs fold (bool_of v))
+fold_step accumulator fold rest s None v = rest (store s accumulator v) None
+fold_step accumulator fold rest s (Some e) v = choose (rest (store s accumulator v) None) (rest s (Some e)) (absorbs fold (bool_of v))
 
 -- only a fold holds an error of its step pending
 unfoldable pub after_step : (accumulator : ℕ) → Option LogicalFold → Onward → Scope → Pending → Result ErrorAt Value → Rule Value
-after_step accumulator none rest s pending (value v) = rest (store s accumulator v) none
-after_step accumulator none rest s pending (error e) = ([], error (by_operand e))
-after_step accumulator (some fold) rest s pending (value v) = fold_step accumulator fold rest s pending v
-after_step accumulator (some fold) rest s pending (error e) = rest s (some e)
+after_step accumulator None rest s pending (value v) = rest (store s accumulator v) None
+after_step accumulator None rest s pending (error e) = ([], error (by_operand e))
+after_step accumulator (Some fold) rest s pending (value v) = fold_step accumulator fold rest s pending v
+after_step accumulator (Some fold) rest s pending (error e) = rest s (Some e)
 
 -- one item, whose condition held
 unfoldable pub turn : {Item : Type 0} → Comprehension Item → Item → Onward → Onward
@@ -106,8 +105,8 @@ append_items items rest s out = do
   charged (cells vs ∷ []) (rest s (join out vs))
 
 unfoldable pub append_turn : Option Meaning → (Scope → Eval Values) → Gathering → Gathering
-append_turn none items rest s out = append_items items rest s out
-append_turn (some guard) items rest s out = do
+append_turn None items rest s out = append_items items rest s out
+append_turn (Some guard) items rest s out = do
   b ← try_bool (guard s)
   choose (append_items items rest s out) (rest s out) b
 
@@ -130,8 +129,8 @@ is_empty_list (optional_of v) = false
 
 -- the append path is taken only from an empty list
 unfoldable pub loop_from : {Item : Type 0} → Comprehension Item → Option AppendStep → Value → List Item → Scope → Rule Value
-loop_from c none v xs s = loop c xs (store s c.accumulator v) none
-loop_from c (some path) v xs s = choose (append_loop c path xs s nil) (loop c xs (store s c.accumulator v) none) (is_empty_list v)
+loop_from c None v xs s = loop c xs (store s c.accumulator v) None
+loop_from c (Some path) v xs s = choose (append_loop c path xs s nil) (loop c xs (store s c.accumulator v) None) (is_empty_list v)
 
 unfoldable pub comprehension_rule : {Item : Type 0} → Comprehension Item → Scope → Rule Value
 comprehension_rule c s = do

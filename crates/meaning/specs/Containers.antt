@@ -1,11 +1,10 @@
 -- Module 8, containers: what a List record and a Map record build. Both take their cells as they begin and fill them as parts become
 -- ready. So what was ready is known also where an error ends the making.
-use Rattle.std.specs.Prelude.{ℕ, zero, suc, ◌*◌, [], ◌∷◌, Bool, true, false}
-use Rattle.std.proofs.Math.Option.{Option, none, some}
+use Rattle.std.specs.Prelude.{ℕ, zero, suc, ◌*◌, [], ◌∷◌, Bool, true, false, Option, None, Some}
 use Rattle.meaning.specs.Errors.{DuplicateKey, UnsupportedKeyType}
 use Rattle.meaning.specs.Value.{null, Key, Value, scalar, list, map, Values, nil, cons, Entries, empty, entry, join, add_entry, key_scalar, key_of, nesting}
 use Rattle.meaning.specs.Comparison.{find, compared}
-use Rattle.meaning.specs.Optionals.{Unwrapped, NotOptional, Some, None, unwrap_optional}
+use Rattle.meaning.specs.Optionals.{Unwrapped, NotOptional, PresentOptional, NoneOptional, unwrap_optional}
 use Rattle.meaning.specs.Run.{cells, nest, Result, value, error, Raised, Run, Eval, Rule, pure, charged, after, ◌>>=◌, fail, or_fail, operand}
 
 -- ---- in the making
@@ -29,20 +28,20 @@ ready_in (error e) = e.0
 -- ---- marks
 
 unfoldable pub unmarked : Unwrapped → Option Value
-unmarked (NotOptional v) = some v
-unmarked (Some v) = some v
-unmarked None = none
+unmarked (NotOptional v) = Some v
+unmarked (PresentOptional v) = Some v
+unmarked NoneOptional = None
 
 -- what an element or an entry's value adds; without a mark, itself
 unfoldable pub kept : (marked : Bool) → Value → Option Value
 kept true v = unmarked (unwrap_optional v)
-kept false v = some v
+kept false v = Some v
 
 -- ---- elements
 
 unfoldable pub append : Values → Option Value → Values
-append vs none = vs
-append vs (some v) = join vs (cons v nil)
+append vs None = vs
+append vs (Some v) = join vs (cons v nil)
 
 -- one element, then the rest
 unfoldable pub element_rule : (marked : Bool) → Eval Value → (Values → Making Values) → Values → Making Values
@@ -53,13 +52,13 @@ element_rule marked element rest vs = do
 -- ---- entries
 
 unfoldable pub add_new : Entries → Key → Value → Option Value → Rule Entries
-add_new es k v none = pure (add_entry es k v)
-add_new es k v (some w) = fail DuplicateKey
+add_new es k v None = pure (add_entry es k v)
+add_new es k v (Some w) = fail DuplicateKey
 
 -- a marked none adds nothing, and is not tested
 unfoldable pub insert : Entries → Key → Option Value → Rule Entries
-insert es k none = pure es
-insert es k (some v) = do
+insert es k None = pure es
+insert es k (Some v) = do
   found ← compared (find (key_scalar k) es)
   add_new es k v found
 

@@ -2,6 +2,9 @@
 use Rattle.std.specs.Prelude.{ℕ}
 use Rattle.numbers.specs.declared.error.ArithmeticError.{ArithmeticError}
 use Rattle.numbers.specs.Error.{number_of}
+use Rattle.meaning.specs.declared.refusal.Refusal.{Refusal}
+use Rattle.meaning.specs.declared.refusal.Reason.{Reason}
+use Rattle.meaning.specs.declared.refusal.Reason.TheVariants.{TableLength, UnknownKind, WrongExtent, RecordNesting, WrongField, MisplacedMark, BytesAfterRoot, UnsoundBinding, NotALiteral, BindingRoomFull, NameBound}
 
 -- ---- errors
 
@@ -45,25 +48,9 @@ pub record ErrorAt : Type 0 where
 pub data Exhausted : Type 0 where
   Steps Cells Text Nesting : Exhausted
 
--- ---- refusals
+-- ---- refusals: the code's reasons (src/refusal)
 
-pub data Refusal : Type 0 where
-  TableLength : Refusal
-  UnknownKind : Refusal
-  -- a record or its extent is cut, leaves its parent, or is not the sum of its parts
-  WrongExtent : Refusal
-  RecordNesting : Refusal
-  -- a field's number, a flag, a name or a span of text
-  WrongField : Refusal
-  MisplacedMark : Refusal
-  BytesAfterRoot : Refusal
-  -- a binding room that no bindings make, or a new binding that would make such a room
-  UnsoundBinding : Refusal
-  NotALiteral : Refusal
-  BindingRoomFull : Refusal
-  NameBound : Refusal
-
-abbrev pub refusal_number : Refusal → ℕ
+abbrev pub refusal_number : Reason → ℕ
 refusal_number TableLength = 1
 refusal_number UnknownKind = 2
 refusal_number WrongExtent = 3
@@ -75,3 +62,7 @@ refusal_number UnsoundBinding = 8
 refusal_number NotALiteral = 9
 refusal_number BindingRoomFull = 10
 refusal_number NameBound = 11
+
+-- a reason, with the place at fault
+abbrev pub refusal_at : Reason → ℕ → Refusal
+refusal_at r p = record { reason = r; place = p }

@@ -1,17 +1,17 @@
 -- Heads of records: the kind, the extent and the fields, with the two refusals that they can meet. Every place in a table is worked out
 -- here, from the width of the layout's words.
-use Rattle.std.specs.Prelude.{ℕ, zero, suc, ◌+◌, ◌*◌, List, [], ◌∷◌, Bool, true, false, ◌&&◌, cond, get_or, leb, eqb}
-use Rattle.std.proofs.Math.Option.{Option, none, some}
-use Rattle.std.proofs.Math.ListN.{get_elem?}
+use Rattle.std.specs.Prelude.{ℕ, zero, suc, ◌+◌, ◌*◌, List, [], ◌∷◌, Bool, true, false, ◌&&◌, cond, get_or, leb, eqb, Option, None, Some}
+use Rattle.std.specs.Prelude.{slice_get}
 use Rattle.meaning.specs.Limits.{byte_numbers}
-use Rattle.meaning.specs.Errors.{Refusal, UnknownKind, WrongExtent}
+use Rattle.meaning.specs.declared.refusal.Reason.{Reason}
+use Rattle.meaning.specs.declared.refusal.Reason.TheVariants.{UnknownKind, WrongExtent}
 use Rattle.meaning.specs.Kinds.{Kind, Field, byte, word, long, Row, kinds, is_leaf}
 
 -- ---- something read, or a refusal with its place
 
 pub data Got (A : Type 0) : Type 0 where
   got : A → Got A
-  refused : Refusal → ℕ → Got A
+  refused : Reason → ℕ → Got A
 
 -- go on from what was read: `x ← g` in a `do`
 unfoldable pub ◌>>=◌ : {A B : Type 0} → Got A → (A → Got B) → Got B
@@ -21,13 +21,13 @@ unfoldable pub ◌>>=◌ : {A B : Type 0} → Got A → (A → Got B) → Got B
 unfoldable pub ◌>>◌ : {A B : Type 0} → Got A → Got B → Got B
 ◌>>◌ g h = ◌>>=◌ g (λ a. h)
 
-unfoldable pub demand : Bool → Refusal → ℕ → Got (Unit {0})
+unfoldable pub demand : Bool → Reason → ℕ → Got (Unit {0})
 demand true r p = got tt
 demand false r p = refused r p
 
-unfoldable pub or_refuse : {A : Type 0} → Refusal → ℕ → Option A → Got A
-or_refuse r p none = refused r p
-or_refuse r p (some a) = got a
+unfoldable pub or_refuse : {A : Type 0} → Reason → ℕ → Option A → Got A
+or_refuse r p None = refused r p
+or_refuse r p (Some a) = got a
 
 -- where a table starts, and the place of what is no record's fault
 abbrev pub start : ℕ
@@ -75,8 +75,8 @@ module _ (width : ℕ) (table : List ℕ) where
   -- the kind is read where there is a byte, even outside the parent
   unfoldable pub row_at : ℕ → Got Row
   row_at p = do
-    b ← or_refuse WrongExtent p (get_elem? table p)
-    or_refuse UnknownKind p (get_elem? kinds b)
+    b ← or_refuse WrongExtent p (slice_get table p)
+    or_refuse UnknownKind p (slice_get kinds b)
 
   -- without operands the extent is exactly the head; with operands it is at least the head
   unfoldable pub extent_fits : Row → List ℕ → (head extent : ℕ) → Bool

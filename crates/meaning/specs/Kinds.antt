@@ -1,7 +1,6 @@
 -- The records of a node table: each kind with its fields, and the numbers that stand for operators, functions, flags and names.
-use Rattle.std.specs.Prelude.{ℕ, zero, suc, List, [], ◌∷◌, Bool, true, false, cond, ltb, eqb}
-use Rattle.std.proofs.Math.Option.{Option, none, some}
-use Rattle.std.proofs.Math.ListN.{get_elem?}
+use Rattle.std.specs.Prelude.{ℕ, zero, suc, List, [], ◌∷◌, Bool, true, false, cond, ltb, eqb, Option, None, Some}
+use Rattle.std.specs.Prelude.{slice_get}
 use Rattle.meaning.specs.Limits.{names}
 use Rattle.meaning.specs.Expr.{Unary, not_op, negate_op, not_strictly_false, And, Or, add, sub, div, mul, rem, less, less_equals, greater, greater_equals, Binary, logic, equals, not_equals, index, opt_index, opt_select, arith, compare, is_in, Function, size_call, of_call, has_value_call, value_call}
 
@@ -63,8 +62,8 @@ kinds =
 
 -- the n-th of a list whose numbers begin at 1
 unfoldable pub numbered : {A : Type 0} → List A → ℕ → Option A
-numbered xs zero = none
-numbered xs (suc n) = get_elem? xs n
+numbered xs zero = None
+numbered xs (suc n) = slice_get xs n
 
 unfoldable pub unaries : List Unary
 unaries = not_op ∷ negate_op ∷ not_strictly_false ∷ []
@@ -103,15 +102,15 @@ unfoldable pub flags : List Bool
 flags = false ∷ true ∷ []
 
 unfoldable pub name_of : ℕ → Option ℕ
-name_of n = cond (ltb n names) (some n) none
+name_of n = cond (ltb n names) (Some n) None
 
 -- ---- whether operands follow
 
 unfoldable pub called_without : Option Called → Bool
-called_without none = false
-called_without (some (to_one f)) = false
-called_without (some to_none) = true
-called_without (some to_two) = false
+called_without None = false
+called_without (Some (to_one f)) = false
+called_without (Some to_none) = true
+called_without (Some to_two) = false
 
 -- n is the number in the record's first field
 unfoldable pub is_leaf : Operands → ℕ → Bool

@@ -7,6 +7,7 @@
 -- `unfoldable`, `abbrev` and `pub` say what proofs may see, and nothing of the meaning.
 
 -- what there is: limits and counts, errors and refusals, values, expressions, runs
+pub mod Options
 pub mod Limits
 pub mod Errors
 pub mod Value

@@ -1,6 +1,5 @@
 -- Module 6, logic: `||`, `&&`, not-strictly-false and the conditional.
-use Rattle.std.specs.Prelude.{[], Bool, true, false, eqb}
-use Rattle.std.proofs.Math.Option.{Option, none, some}
+use Rattle.std.specs.Prelude.{[], Bool, true, false, eqb, Option, None, Some}
 use Rattle.std.specs.Bool.{beq}
 use Rattle.meaning.specs.Errors.{Error, UnexpectedType, a_bool, NoOverload, error_number}
 use Rattle.meaning.specs.Value.{Value, bool_of}
@@ -13,8 +12,8 @@ absorbing And = false
 absorbing Or = true
 
 unfoldable pub absorbs : LogicalFold → Option Bool → Bool
-absorbs fold none = false
-absorbs fold (some b) = beq b (absorbing fold)
+absorbs fold None = false
+absorbs fold (Some b) = beq b (absorbing fold)
 
 unfoldable pub raised_error : Raised → Error
 raised_error (by_rule e) = e
@@ -36,7 +35,7 @@ right_bool right = do
 
 -- from the left operand's Bool, before the right one is begun
 unfoldable pub after_left : LogicalFold → Eval Value → Result Raised Bool → Rule Value
-after_left fold right (value a) = choose (truth a) (right_bool right) (absorbs fold (some a))
+after_left fold right (value a) = choose (truth a) (right_bool right) (absorbs fold (Some a))
 after_left fold right (error e) = do
   w ← operand right
   choose (truth (absorbing fold)) (left_error e) (absorbs fold (bool_of w))

@@ -1,6 +1,6 @@
 -- Module 3, maps: look-up in a Map or a List, and `in`.
-use Rattle.std.proofs.Math.Option.{Option, none, some, bind}
-use Rattle.std.specs.Prelude.{Bool, true, false, ℤ, pos, negsuc}
+use Rattle.std.specs.Prelude.{Option, None, Some, Bool, true, false, ℤ, pos, negsuc}
+use Rattle.meaning.specs.Options.{bind}
 use Rattle.meaning.specs.Errors.{NoOverload, NoSuchKey, IndexOutOfBounds}
 use Rattle.meaning.specs.Value.{Scalar, null, bool, int, uint, double, string, bytes, Value, scalar, list, map, optional_none, optional_of, Values, nth, scalar_of}
 use Rattle.meaning.specs.Comparison.{find, among, compared}
@@ -8,33 +8,33 @@ use Rattle.meaning.specs.Run.{Rule, ◌>>=◌, fail, or_fail, truth}
 
 -- what a map can be asked for
 unfoldable pub probe_in : Scalar → Option Scalar
-probe_in null = none
-probe_in (bool b) = some (bool b)
-probe_in (int z) = some (int z)
-probe_in (uint n) = some (uint n)
-probe_in (double d) = none
-probe_in (string s) = some (string s)
-probe_in (bytes s) = none
+probe_in null = None
+probe_in (bool b) = Some (bool b)
+probe_in (int z) = Some (int z)
+probe_in (uint n) = Some (uint n)
+probe_in (double d) = None
+probe_in (string s) = Some (string s)
+probe_in (bytes s) = None
 
 unfoldable pub probe_of : Value → Option Scalar
 probe_of v = bind (scalar_of v) probe_in
 
 -- what a list can be asked for
 unfoldable pub position_in : Scalar → Option ℤ
-position_in null = none
-position_in (bool b) = none
-position_in (int z) = some z
-position_in (uint n) = some (pos n)
-position_in (double d) = none
-position_in (string s) = none
-position_in (bytes s) = none
+position_in null = None
+position_in (bool b) = None
+position_in (int z) = Some z
+position_in (uint n) = Some (pos n)
+position_in (double d) = None
+position_in (string s) = None
+position_in (bytes s) = None
 
 unfoldable pub position_of : Value → Option ℤ
 position_of v = bind (scalar_of v) position_in
 
 unfoldable pub element_at : Values → ℤ → Option Value
 element_at vs (pos n) = nth vs n
-element_at vs (negsuc n) = none
+element_at vs (negsuc n) = None
 
 -- the value in a container at an index or a key
 unfoldable pub look_up : Value → Value → Rule Value
@@ -50,8 +50,8 @@ look_up optional_none i = fail NoOverload
 look_up (optional_of v) i = fail NoOverload
 
 unfoldable pub is_found : Option Value → Bool
-is_found none = false
-is_found (some v) = true
+is_found None = false
+is_found (Some v) = true
 
 unfoldable pub in_rule : Value → Value → Rule Value
 in_rule v (scalar x) = fail NoOverload

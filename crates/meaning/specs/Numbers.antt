@@ -1,9 +1,7 @@
 -- Module 1, numbers: arithmetic, and unary `-` and `!`. The crate numbers says what each operation answers; here stands which kinds
 -- have it. Both operands have to be of one kind.
-use Rattle.std.specs.Prelude.{ℕ, List, [], ◌∷◌, ◌++◌, not, ℤ}
-use Rattle.std.proofs.Math.Option.{Option, none, some}
-use Rattle.numbers.specs.declared.int.IntAnswer.{IntAnswer}
-use Rattle.numbers.specs.declared.uint.UintAnswer.{UintAnswer}
+use Rattle.std.specs.Prelude.{ℕ, List, [], ◌∷◌, ◌++◌, not, ℤ, Option, None, Some, Result, Ok, Err}
+use Rattle.numbers.specs.declared.error.ArithmeticError.{ArithmeticError}
 use Rattle.numbers.specs.Int as Int
 use Rattle.numbers.specs.Uint as Uint
 use Rattle.numbers.specs.Double.{add_bits, sub_bits, mul_bits, div_bits, neg_bits}
@@ -15,72 +13,72 @@ use Rattle.meaning.specs.Run.{text, Rule, pure, charged, ◌>>=◌, fail, or_fai
 -- ---- the kind that the right operand has to be of
 
 unfoldable pub int_in : Scalar → Option ℤ
-int_in null = none
-int_in (bool b) = none
-int_in (int z) = some z
-int_in (uint n) = none
-int_in (double d) = none
-int_in (string s) = none
-int_in (bytes s) = none
+int_in null = None
+int_in (bool b) = None
+int_in (int z) = Some z
+int_in (uint n) = None
+int_in (double d) = None
+int_in (string s) = None
+int_in (bytes s) = None
 
 unfoldable pub uint_in : Scalar → Option ℕ
-uint_in null = none
-uint_in (bool b) = none
-uint_in (int z) = none
-uint_in (uint n) = some n
-uint_in (double d) = none
-uint_in (string s) = none
-uint_in (bytes s) = none
+uint_in null = None
+uint_in (bool b) = None
+uint_in (int z) = None
+uint_in (uint n) = Some n
+uint_in (double d) = None
+uint_in (string s) = None
+uint_in (bytes s) = None
 
 unfoldable pub double_in : Scalar → Option ℕ
-double_in null = none
-double_in (bool b) = none
-double_in (int z) = none
-double_in (uint n) = none
-double_in (double d) = some d
-double_in (string s) = none
-double_in (bytes s) = none
+double_in null = None
+double_in (bool b) = None
+double_in (int z) = None
+double_in (uint n) = None
+double_in (double d) = Some d
+double_in (string s) = None
+double_in (bytes s) = None
 
 unfoldable pub bytes_in : Scalar → Option (List ℕ)
-bytes_in null = none
-bytes_in (bool b) = none
-bytes_in (int z) = none
-bytes_in (uint n) = none
-bytes_in (double d) = none
-bytes_in (string s) = none
-bytes_in (bytes s) = some s
+bytes_in null = None
+bytes_in (bool b) = None
+bytes_in (int z) = None
+bytes_in (uint n) = None
+bytes_in (double d) = None
+bytes_in (string s) = None
+bytes_in (bytes s) = Some s
 
 -- ---- two operands of one kind
 
-unfoldable pub int_arith : Arith → ℤ → ℤ → IntAnswer
+unfoldable pub int_arith : Arith → ℤ → ℤ → Result ℤ ArithmeticError
 int_arith add a b = Int.add_of a b
 int_arith sub a b = Int.sub_of a b
 int_arith div a b = Int.div_of a b
 int_arith mul a b = Int.mul_of a b
 int_arith rem a b = Int.rem_of a b
 
-unfoldable pub int_rule : IntAnswer → Rule Value
-int_rule (IntAnswer.Value z) = pure (scalar (int z))
-int_rule (IntAnswer.Error e) = fail (Arithmetic e)
+unfoldable pub int_rule : Result ℤ ArithmeticError → Rule Value
+int_rule (Ok z) = pure (scalar (int z))
+int_rule (Err e) = fail (Arithmetic e)
 
-unfoldable pub uint_arith : Arith → ℕ → ℕ → UintAnswer
+unfoldable pub uint_arith : Arith → ℕ → ℕ → Result ℕ ArithmeticError
 uint_arith add a b = Uint.add_of a b
 uint_arith sub a b = Uint.sub_of a b
 uint_arith div a b = Uint.div_of a b
 uint_arith mul a b = Uint.mul_of a b
 uint_arith rem a b = Uint.rem_of a b
 
-unfoldable pub uint_rule : UintAnswer → Rule Value
-uint_rule (UintAnswer.Value n) = pure (scalar (uint n))
-uint_rule (UintAnswer.Error e) = fail (Arithmetic e)
+unfoldable pub uint_rule : Result ℕ ArithmeticError → Rule Value
+uint_rule (Ok n) = pure (scalar (uint n))
+uint_rule (Err e) = fail (Arithmetic e)
 
 -- Doubles have no `%`
 unfoldable pub double_arith : Arith → ℕ → ℕ → Option ℕ
-double_arith add a b = some (add_bits a b)
-double_arith sub a b = some (sub_bits a b)
-double_arith div a b = some (div_bits a b)
-double_arith mul a b = some (mul_bits a b)
-double_arith rem a b = none
+double_arith add a b = Some (add_bits a b)
+double_arith sub a b = Some (sub_bits a b)
+double_arith div a b = Some (div_bits a b)
+double_arith mul a b = Some (mul_bits a b)
+double_arith rem a b = None
 
 -- text and lists have `+` alone
 unfoldable pub only_add : Arith → Rule Value → Rule Value

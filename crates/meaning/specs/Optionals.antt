@@ -6,15 +6,15 @@ use Rattle.meaning.specs.Run.{Rule, pure, fail, truth, built}
 
 pub data Unwrapped : Type 0 where
   NotOptional : Value → Unwrapped
-  Some : Value → Unwrapped
-  None : Unwrapped
+  PresentOptional : Value → Unwrapped
+  NoneOptional : Unwrapped
 
 unfoldable pub unwrap_optional : Value → Unwrapped
 unwrap_optional (scalar x) = NotOptional (scalar x)
 unwrap_optional (list vs) = NotOptional (list vs)
 unwrap_optional (map es) = NotOptional (map es)
-unwrap_optional optional_none = None
-unwrap_optional (optional_of v) = Some v
+unwrap_optional optional_none = NoneOptional
+unwrap_optional (optional_of v) = PresentOptional v
 
 -- a present Optional lies in a cell of its own
 unfoldable pub optional_of_rule : Value → Rule Value
@@ -22,15 +22,15 @@ optional_of_rule v = built (cons v nil) (optional_of v)
 
 unfoldable pub has_value_rule : Unwrapped → Rule Value
 has_value_rule (NotOptional v) = fail NoOverload
-has_value_rule (Some v) = truth true
-has_value_rule None = truth false
+has_value_rule (PresentOptional v) = truth true
+has_value_rule NoneOptional = truth false
 
 unfoldable pub value_rule : Unwrapped → Rule Value
 value_rule (NotOptional v) = fail NoOverload
-value_rule (Some v) = pure v
-value_rule None = fail FunctionError
+value_rule (PresentOptional v) = pure v
+value_rule NoneOptional = fail FunctionError
 
 unfoldable pub or_value_rule : Value → Unwrapped → Rule Value
 or_value_rule default (NotOptional v) = fail NoOverload
-or_value_rule default (Some v) = pure v
-or_value_rule default None = pure default
+or_value_rule default (PresentOptional v) = pure v
+or_value_rule default NoneOptional = pure default

@@ -1,7 +1,6 @@
 -- Runs: what evaluation charges, in order, and its result. There is no limit here, so no rule can see one, and exhaustion is no result that a
 -- rule could catch. A record's error has a place; a rule knows no place, and the record adds it.
-use Rattle.std.specs.Prelude.{ℕ, List, [], ◌∷◌, ◌++◌, Bool, true, false}
-use Rattle.std.proofs.Math.Option.{Option, none, some}
+use Rattle.std.specs.Prelude.{ℕ, List, [], ◌∷◌, ◌++◌, Bool, true, false, Option, None, Some}
 use Rattle.meaning.specs.Errors.{Error, UnexpectedType, a_bool, ErrorAt}
 use Rattle.meaning.specs.Value.{bool, Value, scalar, Values, nesting, bool_of}
 
@@ -62,8 +61,8 @@ unfoldable pub fail : {A : Type 0} → Error → Rule A
 fail e = ([], error (by_rule e))
 
 unfoldable pub or_fail : {A : Type 0} → Error → Option A → Rule A
-or_fail e none = fail e
-or_fail e (some a) = pure a
+or_fail e None = fail e
+or_fail e (Some a) = pure a
 
 unfoldable pub from_operand : {A : Type 0} → Result ErrorAt A → Result Raised A
 from_operand (value a) = value a

@@ -3,7 +3,7 @@ use Rattle.std.specs.Prelude.{ℕ, List, Bool, true, false}
 use Rattle.meaning.specs.Errors.{NoOverload, FunctionError, NoSuchKey}
 use Rattle.meaning.specs.Value.{string, Value, scalar, list, map, optional_none, optional_of, string_of}
 use Rattle.meaning.specs.Maps.{look_up}
-use Rattle.meaning.specs.Optionals.{Unwrapped, NotOptional, Some, None, optional_of_rule}
+use Rattle.meaning.specs.Optionals.{Unwrapped, NotOptional, PresentOptional, NoneOptional, optional_of_rule}
 use Rattle.meaning.specs.Run.{Result, value, error, Raised, Eval, Rule, pure, after, ◌>>=◌, fail, or_fail, operand, truth}
 
 -- ---- what becomes of a look-up
@@ -67,17 +67,17 @@ unfoldable pub index_rule : (optional : Bool) → Eval Value → Unwrapped → R
 index_rule optional index (NotOptional v) = do
   i ← operand index
   perhaps optional (look_up v i)
-index_rule optional index (Some v) = do
+index_rule optional index (PresentOptional v) = do
   i ← operand index
   optionally (look_up v i)
-index_rule optional index None = pure optional_none
+index_rule optional index NoneOptional = pure optional_none
 
 -- ---- optional select
 
 unfoldable pub opt_select_in : List ℕ → Unwrapped → Rule Value
 opt_select_in field (NotOptional v) = optionally (field_in v field)
-opt_select_in field (Some v) = optionally (field_in v field)
-opt_select_in field None = pure optional_none
+opt_select_in field (PresentOptional v) = optionally (field_in v field)
+opt_select_in field NoneOptional = pure optional_none
 
 unfoldable pub opt_select_rule : Unwrapped → Value → Rule Value
 opt_select_rule target w = do

@@ -1,8 +1,7 @@
 -- What a binding's table spells: literals, lists and maps, and the value that they make.
-use Rattle.std.specs.Prelude.{ℕ, suc, max, not, leb}
-use Rattle.std.proofs.Math.Option.{Option, none, some}
+use Rattle.std.specs.Prelude.{ℕ, suc, max, not, leb, Option, None, Some}
 use Rattle.meaning.specs.Limits.{deepest_value}
-use Rattle.meaning.specs.Errors.{UnsoundBinding, NotALiteral}
+use Rattle.meaning.specs.declared.refusal.Reason.TheVariants.{UnsoundBinding, NotALiteral}
 use Rattle.meaning.specs.Value.{Scalar, Key, key_scalar, key_in, Value, scalar, list, map, Values, nil, cons, Entries, empty, add_entry}
 use Rattle.meaning.specs.Expr.{Expr, literal, name, unary, binary, conditional, select, list_of, map_of, comprehension, call, none_call, or_value, Elements, no_elements, element, marked_element, Pairs, no_pairs, pair, marked_pair}
 use Rattle.meaning.specs.Comparison.{find}
@@ -88,8 +87,8 @@ unfoldable mutual
 
 -- a key that is of a key's kind and matches none before it
 unfoldable pub new_key : Entries → ℕ → Option Key → Got Key
-new_key es p none = refused UnsoundBinding p
-new_key es p (some k) = do
+new_key es p None = refused UnsoundBinding p
+new_key es p (Some k) = do
   demand (not (is_found (find (key_scalar k) es).1)) UnsoundBinding p
   got k
 

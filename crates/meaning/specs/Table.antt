@@ -1,13 +1,12 @@
 -- The node table: the bytes that spell an expression, and why and where all others are refused. Records are read in the order of the table,
 -- and each is tested in the order of the refusals' numbers.
-use Rattle.std.specs.Prelude.{ℕ, zero, suc, ◌+◌, List, ◌&&◌, cond, length, take, drop, leb, eqb}
-use Rattle.std.proofs.Math.Option.{Option, none, some}
-use Rattle.std.proofs.Math.ListN.{get_elem?}
+use Rattle.std.specs.Prelude.{ℕ, zero, suc, ◌+◌, List, ◌&&◌, cond, length, take, drop, leb, eqb, Option, None, Some}
+use Rattle.std.specs.Prelude.{slice_get}
 use Rattle.std.specs.Int.{w64}
 use Rattle.std.proofs.Common.{to_z}
 use Rattle.text.specs.Utf8.{well_formed}
 use Rattle.meaning.specs.Limits.{shortest_table, longest_table, deepest_record}
-use Rattle.meaning.specs.Errors.{TableLength, WrongExtent, RecordNesting, WrongField, MisplacedMark, BytesAfterRoot}
+use Rattle.meaning.specs.declared.refusal.Reason.TheVariants.{TableLength, WrongExtent, RecordNesting, WrongField, MisplacedMark, BytesAfterRoot}
 use Rattle.meaning.specs.Value.{null, bool, int, uint, double, string, bytes}
 use Rattle.meaning.specs.Expr.{Expr, literal, name, unary, binary, conditional, select, list_of, map_of, comprehension, call, none_call, or_value, Elements, no_elements, element, marked_element, Pairs, no_pairs, pair, marked_pair}
 use Rattle.meaning.specs.Heads.{Got, got, refused, ◌>>=◌, ◌>>◌, demand, or_refuse, start, Head, first, second, third, head_at}
@@ -52,11 +51,11 @@ pairs_from expr_at part_at (suc n) p end = do
 
 -- a part of the literal text, from an offset and a length
 unfoldable pub span : List ℕ → (offset length : ℕ) → Option (List ℕ)
-span text offset n = cond (leb (offset + n) (length text)) (some (take n (drop offset text))) none
+span text offset n = cond (leb (offset + n) (length text)) (Some (take n (drop offset text))) None
 
 unfoldable pub utf8 : Option (List ℕ) → Option (List ℕ)
-utf8 none = none
-utf8 (some s) = cond (well_formed s) (some s) none
+utf8 None = None
+utf8 (Some s) = cond (well_formed s) (Some s) None
 
 -- ---- records
 
@@ -82,7 +81,7 @@ module _ (text : List ℕ) (expr_at : Reader Expr) (part_at : Reader Part) (p : 
   unfoldable pub body_at : ExprKind → List ℕ → Got (Expr × ℕ)
   body_at null_kind ns = got (literal p null, h.end)
   body_at bool_kind ns = do
-    b ← or_refuse WrongField p (get_elem? flags (first ns))
+    b ← or_refuse WrongField p (slice_get flags (first ns))
     got (literal p (bool b), h.end)
   body_at int_kind ns = got (literal p (int (to_z w64 (first ns))), h.end)
   body_at uint_kind ns = got (literal p (uint (first ns)), h.end)
@@ -111,7 +110,7 @@ module _ (text : List ℕ) (expr_at : Reader Expr) (part_at : Reader Part) (p : 
     (z, s) ← expr_at r h.end
     filled p h (conditional p x y z) s
   body_at select_kind ns = do
-    test ← or_refuse WrongField p (get_elem? flags (first ns))
+    test ← or_refuse WrongField p (slice_get flags (first ns))
     field ← or_refuse WrongField p (utf8 (span text (second ns) (third ns)))
     (x, q) ← expr_at h.operands_at h.end
     filled p h (select p test field x) q

@@ -1,7 +1,7 @@
 -- The values of CEL. A value holds its parts; where they lie in memory is not said here.
 -- A Double is its 64 bits, a String or Bytes its bytes. antt nests no type in another, so elements and entries have types of their own.
-use Rattle.std.specs.Prelude.{ℕ, zero, suc, max, List, [], ◌∷◌, Bool, true, false, ℤ}
-use Rattle.std.proofs.Math.Option.{Option, none, some, bind}
+use Rattle.std.specs.Prelude.{ℕ, zero, suc, max, List, [], ◌∷◌, Bool, true, false, ℤ, Option, None, Some}
+use Rattle.meaning.specs.Options.{bind}
 
 pub data Scalar : Type 0 where
   null : Scalar
@@ -70,8 +70,8 @@ join nil ws = ws
 join (cons v vs) ws = cons v (join vs ws)
 
 unfoldable pub nth : Values → ℕ → Option Value
-nth nil n = none
-nth (cons v vs) zero = some v
+nth nil n = None
+nth (cons v vs) zero = Some v
 nth (cons v vs) (suc n) = nth vs n
 
 unfoldable pub value_list : Values → List Value
@@ -92,25 +92,25 @@ key_scalar (string_key s) = string s
 -- ---- views: what a value is, if it is that
 
 unfoldable pub scalar_of : Value → Option Scalar
-scalar_of (scalar x) = some x
-scalar_of (list vs) = none
-scalar_of (map es) = none
-scalar_of optional_none = none
-scalar_of (optional_of v) = none
+scalar_of (scalar x) = Some x
+scalar_of (list vs) = None
+scalar_of (map es) = None
+scalar_of optional_none = None
+scalar_of (optional_of v) = None
 
 unfoldable pub elements_of : Value → Option Values
-elements_of (scalar x) = none
-elements_of (list vs) = some vs
-elements_of (map es) = none
-elements_of optional_none = none
-elements_of (optional_of v) = none
+elements_of (scalar x) = None
+elements_of (list vs) = Some vs
+elements_of (map es) = None
+elements_of optional_none = None
+elements_of (optional_of v) = None
 
 unfoldable pub entries_of : Value → Option Entries
-entries_of (scalar x) = none
-entries_of (list vs) = none
-entries_of (map es) = some es
-entries_of optional_none = none
-entries_of (optional_of v) = none
+entries_of (scalar x) = None
+entries_of (list vs) = None
+entries_of (map es) = Some es
+entries_of optional_none = None
+entries_of (optional_of v) = None
 
 unfoldable pub is_none : Value → Bool
 is_none (scalar x) = false
@@ -121,44 +121,44 @@ is_none (optional_of v) = false
 
 -- of a present Optional
 unfoldable pub part_of : Value → Option Value
-part_of (scalar x) = none
-part_of (list vs) = none
-part_of (map es) = none
-part_of optional_none = none
-part_of (optional_of v) = some v
+part_of (scalar x) = None
+part_of (list vs) = None
+part_of (map es) = None
+part_of optional_none = None
+part_of (optional_of v) = Some v
 
 unfoldable pub bool_in : Scalar → Option Bool
-bool_in null = none
-bool_in (bool b) = some b
-bool_in (int z) = none
-bool_in (uint n) = none
-bool_in (double d) = none
-bool_in (string s) = none
-bool_in (bytes s) = none
+bool_in null = None
+bool_in (bool b) = Some b
+bool_in (int z) = None
+bool_in (uint n) = None
+bool_in (double d) = None
+bool_in (string s) = None
+bool_in (bytes s) = None
 
 unfoldable pub bool_of : Value → Option Bool
 bool_of v = bind (scalar_of v) bool_in
 
 unfoldable pub key_in : Scalar → Option Key
-key_in null = none
-key_in (bool b) = some (bool_key b)
-key_in (int z) = some (int_key z)
-key_in (uint n) = some (uint_key n)
-key_in (double d) = none
-key_in (string s) = some (string_key s)
-key_in (bytes s) = none
+key_in null = None
+key_in (bool b) = Some (bool_key b)
+key_in (int z) = Some (int_key z)
+key_in (uint n) = Some (uint_key n)
+key_in (double d) = None
+key_in (string s) = Some (string_key s)
+key_in (bytes s) = None
 
 unfoldable pub key_of : Value → Option Key
 key_of v = bind (scalar_of v) key_in
 
 unfoldable pub string_in : Scalar → Option (List ℕ)
-string_in null = none
-string_in (bool b) = none
-string_in (int z) = none
-string_in (uint n) = none
-string_in (double d) = none
-string_in (string s) = some s
-string_in (bytes s) = none
+string_in null = None
+string_in (bool b) = None
+string_in (int z) = None
+string_in (uint n) = None
+string_in (double d) = None
+string_in (string s) = Some s
+string_in (bytes s) = None
 
 unfoldable pub string_of : Value → Option (List ℕ)
 string_of v = bind (scalar_of v) string_in

@@ -1,7 +1,6 @@
 -- The values that can occur: numbers in range, bytes that are bytes, Strings in UTF-8, no two keys of a map that match, and no nesting
 -- above the limit.
-use Rattle.std.specs.Prelude.{ℕ, ◌^◌, ◌≤◌, ◌<◌, ◌≡◌, List, [], ◌∷◌, true}
-use Rattle.std.proofs.Math.Option.{none}
+use Rattle.std.specs.Prelude.{ℕ, ◌^◌, ◌≤◌, ◌<◌, ◌≡◌, List, [], ◌∷◌, true, None}
 use Rattle.numbers.specs.Int.{in_range}
 use Rattle.text.specs.Utf8.{well_formed}
 use Rattle.meaning.specs.Limits.{deepest_value, byte_numbers}
@@ -36,7 +35,7 @@ abbrev mutual
   -- no later entry is found under an earlier one's key
   pub SoundEntries : Entries → Type 0
   SoundEntries empty = Unit {0}
-  SoundEntries (entry k v es) = SoundScalar (key_scalar k) × Sound v × ((find (key_scalar k) es).1 ≡ none) × SoundEntries es
+  SoundEntries (entry k v es) = SoundScalar (key_scalar k) × Sound v × ((find (key_scalar k) es).1 ≡ None) × SoundEntries es
 
 pub record WellFormed (v : Value) : Type 0 where
   pub sound : Sound v

@@ -1,3 +1,4 @@
+// What a rule means is said in specs/ alone. The code is the type of refusals, which the check of a table and the definition share.
 #![tactic(auto)]
 
-// What a rule means is said in specs/ alone: this crate holds no code.
+pub mod refusal;

@@ -2,7 +2,7 @@
 -- First the proof, a line for each kind of record; then the theorems. Rests on the congruence of the rules. Assumes nothing.
 use Prim.Native.Nat.{ℕ}
 use mathlib.Core.Path.{◌≡◌, refl, ap, ap₂}
-use mathlib.Core.Option.{Option, none, some}
+use Rattle.std.specs.Prelude.{Option, None, Some}
 use mathlib.Core.Bool.{true, false}
 use Rattle.meaning.specs.Limits.{Counts}
 use Rattle.meaning.specs.Errors.{UndeclaredReference}
@@ -98,7 +98,7 @@ unfolding run begin here charged or_fail fail pure placed
 name-seen p n s t same = seen (s n) (t n) (ap (λ (r : Eval Value). r.1) same)
   where
     seen : (x y : Option Value) → (begin p (or_fail UndeclaredReference x)).1 ≡ (begin p (or_fail UndeclaredReference y)).1 → x ≡ y
-    seen none none h = refl
-    seen none (some w) h = cc
-    seen (some v) none h = cc
-    seen (some v) (some w) h = cc
+    seen None None h = refl
+    seen None (Some w) h = cc
+    seen (Some v) None h = cc
+    seen (Some v) (Some w) h = cc

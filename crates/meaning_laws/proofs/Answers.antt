@@ -6,7 +6,8 @@ use mathlib.Core.Logic.{inl, inr}
 use mathlib.Core.List.{List, []}
 use native.Mathlib.Omega.{arith}
 use Rattle.meaning.specs.Limits.{Counts, most_steps, most_cells, most_bytes, cut}
-use Rattle.meaning.specs.Errors.{Refusal, ErrorAt}
+use Rattle.meaning.specs.Errors.{ErrorAt}
+use Rattle.meaning.specs.declared.refusal.Reason.{Reason}
 use Rattle.meaning.specs.Value.{Value}
 use Rattle.meaning.specs.Expr.{Expr}
 use Rattle.meaning.specs.Run.{Result, Eval}
@@ -37,7 +38,7 @@ module _ (table text : List ℕ) (room : BindingRoom) (lent : Counts) where
   ending_of_lem is_exhausted a = sym (ap (λ (x : Answered). ending_of x.answer) a.5)
 
   -- A table that is not accepted is refused, with the reader's number and place, and the rooms are unchanged.
-  pub refused-answer : (r : Refusal) (p : ℕ) → read_table table text ≡ refused r p →
+  pub refused-answer : (r : Reason) (p : ℕ) → read_table table text ≡ refused r p →
       answer_of table text room lent ≡ record { answer = refusal r p; rooms = record { cells = []; bytes = [] } }
   unfolding answer_of answer_read
   refused-answer r p e = ap (answer_read (cut lent) (scope_of room)) e

@@ -3,7 +3,7 @@
 use Prim.Native.Nat.{ℕ, zero, suc, ◌≤◌}
 use mathlib.Core.Path.{◌≡◌, refl, subst}
 use mathlib.Core.List.{List, [], ◌∷◌, map}
-use mathlib.Core.Option.{Option, none, some}
+use Rattle.std.specs.Prelude.{Option, None, Some}
 use native.Mathlib.Omega.{arith}
 use lib.ListN.{replicate}
 use Rattle.meaning.specs.Limits.{most_cells, most_bytes, Counts, cut, nothing_yet}
@@ -34,9 +34,9 @@ use Rattle.meaning_laws.proofs.BindingsFormed.{accepted-scope}
 
 -- ---- scopes
 
-fine-slot : (o : Option Value) → ((v : Value) → o ≡ some v → BoundValue v) → Perhaps Fine o
-fine-slot none h = tt
-fine-slot (some v) h = let b = h v refl in small-fine v b.formed.sound b.formed.nests b.cells_fit b.bytes_fit
+fine-slot : (o : Option Value) → ((v : Value) → o ≡ Some v → BoundValue v) → Perhaps Fine o
+fine-slot None h = tt
+fine-slot (Some v) h = let b = h v refl in small-fine v b.formed.sound b.formed.nests b.cells_fit b.bytes_fit
 
 fine-scope : (s : Scope) → BoundScope s → FineScope s
 fine-scope s h n = fine-slot (s n) (h n)

@@ -4,7 +4,7 @@
 use Prim.Native.Nat.{ℕ}
 use mathlib.Core.Path.{◌≡◌, refl, sym, subst}
 use mathlib.Core.Logic.{◌⊎◌, inl, inr}
-use mathlib.Core.Option.{Option, none, some}
+use Rattle.std.specs.Prelude.{Option, None, Some}
 use mathlib.Core.Bool.{Bool, true, false}
 use Rattle.meaning.specs.Errors.{ErrorAt}
 use Rattle.meaning.specs.Value.{Value, scalar, list, map, optional_none, optional_of, nil, cons, bool_of}
@@ -21,18 +21,18 @@ use Rattle.meaning_laws.proofs.LookWritten.{WrittenAppend, clash-bool, written}
 
 -- After a step the loop goes on, or the step is no fold's and its error ends the loop.
 pub goes-on-or-ends : (a : ℕ) (fold : Option LogicalFold) (s : Scope) (pending : Pending) (r : Result ErrorAt Value) →
-    ((t : Scope) × (still : Pending) × GoesOn a fold s pending r t still) ⊎ ((e : ErrorAt) × (fold ≡ none) × (r ≡ error e))
-goes-on-or-ends a none s pending (value v) = inl (store s a v, none, plain)
-goes-on-or-ends a none s pending (error e) = inr (e, refl, refl)
-goes-on-or-ends a (some fold) s none (value v) = inl (store s a v, none, folded)
-goes-on-or-ends a (some fold) s (some e) (value v) = go (absorbs fold (bool_of v)) refl
+    ((t : Scope) × (still : Pending) × GoesOn a fold s pending r t still) ⊎ ((e : ErrorAt) × (fold ≡ None) × (r ≡ error e))
+goes-on-or-ends a None s pending (value v) = inl (store s a v, None, plain)
+goes-on-or-ends a None s pending (error e) = inr (e, refl, refl)
+goes-on-or-ends a (Some fold) s None (value v) = inl (store s a v, None, folded)
+goes-on-or-ends a (Some fold) s (Some e) (value v) = go (absorbs fold (bool_of v)) refl
   where
     go : (b : Bool) → absorbs fold (bool_of v) ≡ b →
-        ((t : Scope) × (still : Pending) × GoesOn a (some fold) s (some e) (value v) t still) ⊎
-        ((f : ErrorAt) × (some fold ≡ none) × (value v ≡ error f))
-    go true q = inl (store s a v, none, cleared q)
-    go false q = inl (s, some e, still_held q)
-goes-on-or-ends a (some fold) s pending (error e) = inl (s, some e, held)
+        ((t : Scope) × (still : Pending) × GoesOn a (Some fold) s (Some e) (value v) t still) ⊎
+        ((f : ErrorAt) × (Some fold ≡ None) × (value v ≡ error f))
+    go true q = inl (store s a v, None, cleared q)
+    go false q = inl (s, Some e, still_held q)
+goes-on-or-ends a (Some fold) s pending (error e) = inl (s, Some e, held)
 
 -- ---- the choice of the path
 
@@ -52,6 +52,6 @@ takes-either a condition next result v = go (append_step a (look condition) (loo
   where
     go : (o : Option AppendStep) → append_step a (look condition) (look next) (look result) ≡ o → (b : Bool) → is_empty_list v ≡ b →
         TakesLoop (append_step a (look condition) (look next) (look result)) v ⊎ (WrittenAppend a condition next result × (v ≡ list nil))
-    go none e b h = inl (subst (λ o. TakesLoop o v) (sym e) no_append)
-    go (some x) e true h = inr (written a condition next result x e, empty-list v h)
-    go (some x) e false h = inl (subst (λ o. TakesLoop o v) (sym e) (not_empty h))
+    go None e b h = inl (subst (λ o. TakesLoop o v) (sym e) no_append)
+    go (Some x) e true h = inr (written a condition next result x e, empty-list v h)
+    go (Some x) e false h = inl (subst (λ o. TakesLoop o v) (sym e) (not_empty h))

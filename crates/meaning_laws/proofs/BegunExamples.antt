@@ -3,7 +3,8 @@
 use Prim.Native.Nat.{ℕ}
 use mathlib.Core.Path.{◌≡◌, refl, sym, ◌∙◌, ap}
 use mathlib.Core.List.{[], ◌∷◌, ◌++◌}
-use mathlib.Core.Option.{none, some, bind}
+use Rattle.std.specs.Prelude.{None, Some}
+use Rattle.meaning.specs.Options.{bind}
 use mathlib.Core.Bool.{Bool, true, false}
 use native.Mathlib.Omega.{arith}
 use lib.IntN.{pos}
@@ -27,10 +28,10 @@ abbrev pub either_true : Expr
 either_true = binary 0 (logic Or) (name 4 0) (literal 8 (bool true))
 
 -- a name that is unbound gives no Bool
-unbound : (p n : ℕ) (s : Scope) → s n ≡ none → (b : Bool) → ¬ GaveBool (run (name p n) s) b
+unbound : (p n : ℕ) (s : Scope) → s n ≡ None → (b : Bool) → ¬ GaveBool (run (name p n) s) b
 unfolding run begin charged here or_fail fail placed
 unbound p n s e b g =
-    let q : placed p (or_fail UndeclaredReference none).1 ≡ value g.0 = ap (λ o. placed p (or_fail UndeclaredReference o).1) (sym e) ∙ g.1 in
+    let q : placed p (or_fail UndeclaredReference None).1 ≡ value g.0 = ap (λ o. placed p (or_fail UndeclaredReference o).1) (sym e) ∙ g.1 in
     let z : ◌≡◌ {A = ℕ} 0 1 = cc in
     omega arith
 
@@ -86,7 +87,7 @@ accumulator-open : ¬ GaveBool (run (name 6 1) item_scope) (absorbing And)
 unfolding run begin charged here or_fail pure store empty_scope placed absorbing bool_of bind scalar_of bool_in
 accumulator-open g =
     let r : scalar (bool true) ≡ g.0 = let q = g.1 in cc in
-    let t : some true ≡ some false = ap bool_of r ∙ g.2 in
+    let t : Some true ≡ Some false = ap bool_of r ∙ g.2 in
     let z : ◌≡◌ {A = ℕ} 0 1 = cc in
     omega arith
 

@@ -3,7 +3,7 @@
 use Prim.Native.Nat.{ℕ}
 use mathlib.Core.Path.{◌≡◌, refl, sym, ◌∙◌, ap, subst}
 use mathlib.Core.List.{List, [], ◌∷◌, ◌++◌}
-use mathlib.Core.Option.{Option, none, some, map}
+use Rattle.std.specs.Prelude.{Option, None, Some, option_map}
 use mathlib.Core.Bool.{Bool, true, false, cond}
 use native.Mathlib.Omega.{arith}
 use lib.Dec.{T, eqb, eqb_refl}
@@ -42,8 +42,8 @@ goes_on : {a : ℕ} {fold : Option LogicalFold} {s t : Scope} {pending still : P
 unfolding after_step fold_step choose
 goes_on plain rest = refl
 goes_on folded rest = refl
-goes_on {a} {s} (cleared {e = e} {v = v} h) rest = ap (choose (rest (store s a v) none) (rest s (some e))) h
-goes_on {a} {s} (still_held {e = e} {v = v} h) rest = ap (choose (rest (store s a v) none) (rest s (some e))) h
+goes_on {a} {s} (cleared {e = e} {v = v} h) rest = ap (choose (rest (store s a v) None) (rest s (Some e))) h
+goes_on {a} {s} (still_held {e = e} {v = v} h) rest = ap (choose (rest (store s a v) None) (rest s (Some e))) h
 goes_on held rest = refl
 
 module _ (a i : ℕ) (fold : Option LogicalFold) (path : Option AppendStep) (range init condition next result : Expr) where
@@ -74,8 +74,8 @@ pub record ItemsList (items : Expr) (m : Scope → Eval Values) : Type 0 where
   pub whole : (s : Scope) (vs : Values) → (m s).1 ≡ value vs → (run items s).1 ≡ value (list vs)
 
 abbrev pub guard_of : Option Expr → Option Meaning
-guard_of none = none
-guard_of (some g) = some (λ t. run g t)
+guard_of None = None
+guard_of (Some g) = Some (λ t. run g t)
 
 module _ {items : Expr} {m : Scope → Eval Values} (l : ItemsList items m) (rest : Gathering) (s : Scope) (out : Values) where
   items-first : Opens (run items s).0 (append_items m rest s out).0
@@ -107,12 +107,12 @@ module _ (a i : ℕ) (fold : Option LogicalFold) (path : Option AppendStep) (ran
   abbrev onwards : List Value → Gathering
   onwards xs = λ t more. append_loop parts' way xs t more
 
-  guard-first : (g : Expr) → guard ≡ some g → (rest : Gathering) (s : Scope) (out : Values) →
+  guard-first : (g : Expr) → guard ≡ Some g → (rest : Gathering) (s : Scope) (out : Values) →
       Opens (run g s).0 (append_turn (guard_of guard) m rest s out).0
   unfolding append_turn
   guard-first g e rest s out = subst (λ o. Opens (run g s).0 (append_turn (guard_of o) m rest s out).0) (sym e) (first-bool (run g s) _)
 
-  guard_out : (g : Expr) → guard ≡ some g → (rest : Gathering) (s : Scope) (out : Values) {u : Trace} → GaveBool (run g s) false →
+  guard_out : (g : Expr) → guard ≡ Some g → (rest : Gathering) (s : Scope) (out : Values) {u : Trace} → GaveBool (run g s) false →
       Opens u (rest s out).0 → Opens ((run g s).0 ++ u) (append_turn (guard_of guard) m rest s out).0
   unfolding append_turn choose
   guard_out g e rest s out {u} h o =
@@ -179,32 +179,32 @@ list-items p es =
 -- what the comprehension sees of such a step
 pub record Seen (a : ℕ) (next : Expr) (guard : Option Expr) (items : Expr) : Type 0 where
   pub m : Scope → Eval Values
-  pub sees : of_name a (look next).appends ≡ some (record { guard = guard_of guard; items = m })
+  pub sees : of_name a (look next).appends ≡ Some (record { guard = guard_of guard; items = m })
   pub lists : ItemsList items m
 
-of-its-name : {A : Type 0} (a : ℕ) (x : A) → of_name a (some (a, x)) ≡ some x
+of-its-name : {A : Type 0} (a : ℕ) (x : A) → of_name a (Some (a, x)) ≡ Some x
 unfolding of_name
-of-its-name a x = ap (λ b. cond b (some x) none) (same_name a)
+of-its-name a x = ap (λ b. cond b (Some x) None) (same_name a)
 
 pub seen : {a : ℕ} {next : Expr} {guard : Option Expr} {items : Expr} → Appends a next guard items → Seen a next guard items
 unfolding look binary_look arith_look a_sum a_conditional guarded_by
 seen {a} (always {r = r} {es = es}) =
     let m : Scope → Eval Values = λ t. begin r (list_rule (count_elements es) (run_elements es t nil)) in
-    record { m = m; sees = of-its-name {A = AppendStep} a (record { guard = none; items = m }); lists = list-items r es }
+    record { m = m; sees = of-its-name {A = AppendStep} a (record { guard = None; items = m }); lists = list-items r es }
 seen {a} (guarded {r = r} {guard = g} {es = es}) =
     let m : Scope → Eval Values = λ t. begin r (list_rule (count_elements es) (run_elements es t nil)) in
     record {
       m = m;
-      sees = ap (λ o. of_name a (map (guarded_by (λ t. run g t) a) o)) (of-its-name a m) ∙
-          of-its-name {A = AppendStep} a (record { guard = some (λ t. run g t); items = m });
+      sees = ap (λ o. of_name a (option_map (guarded_by (λ t. run g t) a) o)) (of-its-name a m) ∙
+          of-its-name {A = AppendStep} a (record { guard = Some (λ t. run g t); items = m });
       lists = list-items r es;
     }
 
 -- so its append path is open where the condition is a literal and the result the accumulator
 pub path-open : {a : ℕ} {next : Expr} {guard : Option Expr} {items : Expr} (q n : ℕ) (x : Scalar) (k : Seen a next guard items) →
-    append_step a (look (literal q x)) (look next) (look (name n a)) ≡ some (record { guard = guard_of guard; items = k.m })
+    append_step a (look (literal q x)) (look next) (look (name n a)) ≡ Some (record { guard = guard_of guard; items = k.m })
 unfolding look append_step named
-path-open {a} {next} q n x k = ap (λ b. cond b (of_name a (look next).appends) none) (same_name a) ∙ k.sees
+path-open {a} {next} q n x k = ap (λ b. cond b (of_name a (look next).appends) None) (same_name a) ∙ k.sees
 
 -- ---- the rule of a comprehension record
 
@@ -217,7 +217,7 @@ module _ (c : Comprehension Value) (s : Scope) where
   unfolding comprehension_rule
   range-begun g = then-operand (c.init s) _ g.0 g.1 (first-operand (c.range s) _)
 
-  pub items-begun : (v w : Value) (xs : List Value) (b u : Trace) → (c.init s).1 ≡ value v → (c.range s).1 ≡ value w → c.items_in w ≡ some xs →
+  pub items-begun : (v w : Value) (xs : List Value) (b u : Trace) → (c.init s).1 ≡ value v → (c.range s).1 ≡ value w → c.items_in w ≡ Some xs →
       Opens (b ++ u) (loop_from c c.append v xs s).0 → Opens (((c.init s).0 ++ ((c.range s).0 ++ b)) ++ u) (comprehension_rule c s).0
   unfolding comprehension_rule or_fail pure
   items-begun v w xs b u e f g o =
@@ -228,10 +228,10 @@ module _ (c : Comprehension Value) (s : Scope) where
 
 -- with no append step, or an init that is no empty list, the ordinary loop follows
 pub takes-loop : (c : Comprehension Value) {path : Option AppendStep} {v : Value} → TakesLoop path v → (xs : List Value) (s : Scope) →
-    loop_from c path v xs s ≡ loop c xs (store s c.accumulator v) none
+    loop_from c path v xs s ≡ loop c xs (store s c.accumulator v) None
 unfolding loop_from choose
 takes-loop c no_append xs s = refl
-takes-loop c {v} (not_empty {path = p} e) xs s = ap (choose (append_loop c p xs s nil) (loop c xs (store s c.accumulator v) none)) e
+takes-loop c {v} (not_empty {path = p} e) xs s = ap (choose (append_loop c p xs s nil) (loop c xs (store s c.accumulator v) None)) e
 
 -- .. and with an append step and an empty list, the append path
 pub takes-append : {a i q : ℕ} {x : Scalar} {next items : Expr} {guard : Option Expr} (n : ℕ) (range init : Expr) (fold : Option LogicalFold)

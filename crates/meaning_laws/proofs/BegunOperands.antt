@@ -3,7 +3,7 @@
 use Prim.Native.Nat.{ℕ}
 use mathlib.Core.Path.{◌≡◌, refl, sym, ◌∙◌, ap, subst}
 use mathlib.Core.List.{◌++◌}
-use mathlib.Core.Option.{Option, none, some}
+use Rattle.std.specs.Prelude.{Option, None, Some}
 use mathlib.Core.Bool.{Bool, true, false, beq}
 use native.Mathlib.Omega.{arith}
 use Rattle.meaning.specs.Errors.{UnexpectedType, a_bool, ErrorAt}
@@ -25,8 +25,8 @@ unfolding try_bool operand ◌>>=◌ after charged on_value from_operand or_fail
 gave-try_bool r b e = go r.1 refl e
   where
     of-bool : (v : Value) → r.1 ≡ value v → (o : Option Bool) → bool_of v ≡ o → (or_fail (UnexpectedType a_bool) o).1 ≡ value b → GaveBool r b
-    of-bool v p none q h = absurd (let z : ◌≡◌ {A = ℕ} 0 1 = cc in omega arith)
-    of-bool v p (some c) q h = (v, p, q ∙ (let k : c ≡ b = cc in ap some k))
+    of-bool v p None q h = absurd (let z : ◌≡◌ {A = ℕ} 0 1 = cc in omega arith)
+    of-bool v p (Some c) q h = (v, p, q ∙ (let k : c ≡ b = cc in ap Some k))
 
     go : (x : Result ErrorAt Value) → r.1 ≡ x → (on_value (λ v. or_fail (UnexpectedType a_bool) (bool_of v)) (from_operand x)).1 ≡ value b → GaveBool r b
     go (value v) p h = of-bool v p (bool_of v) refl h

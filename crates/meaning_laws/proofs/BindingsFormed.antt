@@ -3,7 +3,7 @@
 use Prim.Native.Nat.{ℕ, ◌+◌, ◌≤◌, ◌<◌, min}
 use mathlib.Core.Path.{◌≡◌, refl, subst}
 use mathlib.Core.List.{List, [], ◌∷◌}
-use mathlib.Core.Option.{Option, some}
+use Rattle.std.specs.Prelude.{Option, Some}
 use mathlib.Core.Bool.{Bool, true, false, ◌&&◌, cond}
 use native.Mathlib.Omega.{arith}
 use lib.Dec.{leb, eqb}
@@ -65,11 +65,11 @@ unfolding bound_in empty_scope store
 slots-bound [] h c d n = tt
 slots-bound (b ∷ bs) h c d n = go (eqb n b.0) (slots-bound bs h.1 (omega arith) (omega arith) n)
   where
-    go : (t : Bool) → Perhaps BoundValue (bound_in bs n) → Perhaps BoundValue (cond t (some b.1) (bound_in bs n))
+    go : (t : Bool) → Perhaps BoundValue (bound_in bs n) → Perhaps BoundValue (cond t (Some b.1) (bound_in bs n))
     go true below = record { formed = h.0.1; cells_fit = omega arith; bytes_fit = omega arith }
     go false below = below
 
-is-there : (o : Option Value) → Perhaps BoundValue o → (v : Value) → o ≡ some v → BoundValue v
+is-there : (o : Option Value) → Perhaps BoundValue o → (v : Value) → o ≡ Some v → BoundValue v
 is-there o h v e = subst (λ (x : Option Value). Perhaps BoundValue x) e h
 
 -- Every slot of the scope that an accepted room gives holds a well-formed value, no larger than a binding room.

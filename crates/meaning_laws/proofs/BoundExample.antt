@@ -3,7 +3,7 @@ use mathlib.Core.Path.{◌≡◌, refl}
 use mathlib.Core.List.{[], ◌∷◌}
 use mathlib.Core.Bool.{true}
 use lib.IntN.{pos}
-use Rattle.meaning.specs.Errors.{UnsoundBinding}
+use Rattle.meaning.specs.declared.refusal.Reason.TheVariants.{UnsoundBinding}
 use Rattle.meaning.specs.Value.{double, int, bool_key, uint_key, scalar, map, entry, empty}
 use Rattle.meaning.specs.Heads.{got, refused}
 use Rattle.meaning.specs.Bindings.{empty_room, bring}

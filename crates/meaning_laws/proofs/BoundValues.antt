@@ -3,13 +3,15 @@
 use Prim.Native.Nat.{ℕ, ◌+◌, ◌≤◌, ◌<◌, min}
 use mathlib.Core.Path.{◌≡◌, refl, sym, ◌∙◌, ap, subst}
 use mathlib.Core.List.{List}
-use mathlib.Core.Option.{none, some}
+use Rattle.std.specs.Prelude.{None, Some}
 use mathlib.Core.Bool.{Bool, true, false, ◌&&◌, cond}
 use native.Mathlib.Omega.{arith}
 use lib.Dec.{leb, ltb}
 use borrow.Author.Tests.{ltb-true, leb-true, lt-ltb, le-ltb, le-leb, lt-leb, eq-eqb}
 use Rattle.meaning.specs.Limits.{names, deepest_value, most_cells, most_bytes}
-use Rattle.meaning.specs.Errors.{Refusal, ErrorAt, WrongField, UnsoundBinding, NotALiteral, BindingRoomFull, NameBound}
+use Rattle.meaning.specs.Errors.{ErrorAt}
+use Rattle.meaning.specs.declared.refusal.Reason.{Reason}
+use Rattle.meaning.specs.declared.refusal.Reason.TheVariants.{WrongField, UnsoundBinding, NotALiteral, BindingRoomFull, NameBound}
 use Rattle.meaning.specs.Value.{Value, nesting}
 use Rattle.meaning.specs.Expr.{Expr, name}
 use Rattle.meaning.specs.Run.{value, error, pure, charged, or_fail, placed, here, begin}
@@ -29,11 +31,11 @@ use Rattle.meaning_laws.proofs.BindingsFormed.{both_true}
 use Rattle.meaning_laws.proofs.SpelledReasons.{literal-reason, root-reason, root-refused, root-spells, root-spelled, root-fails}
 use Rattle.meaning_laws.proofs.SpelledRuns.{spelling-runs}
 
-store_same : (s : Scope) (n : ℕ) (v : Value) → store s n v n ≡ some v
+store_same : (s : Scope) (n : ℕ) (v : Value) → store s n v n ≡ Some v
 unfolding store
 store_same s n v = rw (eq-eqb n n refl)
 
-holds-bound : (room : BindingRoom) (number : ℕ) (v : Value) → scope_of (with_binding room number v) number ≡ some v
+holds-bound : (room : BindingRoom) (number : ℕ) (v : Value) → scope_of (with_binding room number v) number ≡ Some v
 unfolding scope_of bound_in
 holds-bound room number v = store_same (bound_in room.bound) number v
 
@@ -41,7 +43,7 @@ name-number : (number : ℕ) → Reads (λ n. (n ≡ number) × (number < names)
 unfolding name_of or_refuse
 name-number number = go (ltb number names) (ltb-true number names)
   where
-    go : (b : Bool) → (b ≡ true → number < names) → Reads (λ n. (n ≡ number) × (number < names)) (or_refuse WrongField start (cond b (some number) none))
+    go : (b : Bool) → (b ≡ true → number < names) → Reads (λ n. (n ≡ number) × (number < names)) (or_refuse WrongField start (cond b (Some number) None))
     go true h = reads-got _ (refl, h refl)
     go false h = reads-refused
 
@@ -94,7 +96,7 @@ module _ (lent_cells lent_bytes : ℕ) (room : BindingRoom) (number : ℕ) (tabl
         made = l;
         held = v;
         named = f.1;
-        free = subst (λ k. scope_of room k ≡ none) f.0 (was-not-found (scope_of room n) free);
+        free = subst (λ k. scope_of room k ≡ None) f.0 (was-not-found (scope_of room n) free);
         reads = r;
         literals = m;
         spells = s;
@@ -120,19 +122,19 @@ module _ (lent_cells lent_bytes : ℕ) (room : BindingRoom) (number : ℕ) (tabl
 
   module _ (named : number < names) where
     -- Then a name that is bound already ..
-    pub name-bound : (v : Value) → scope_of room number ≡ some v → bring lent_cells lent_bytes room number table text ≡ refused NameBound start
+    pub name-bound : (v : Value) → scope_of room number ≡ Some v → bring lent_cells lent_bytes room number table text ≡ refused NameBound start
     unfolding bring name_of or_refuse ◌>>=◌ ◌>>◌ demand is_found
     name-bound v bound = rw (lt-ltb number names named, bound)
 
-    module _ (free : scope_of room number ≡ none) where
+    module _ (free : scope_of room number ≡ None) where
       -- .. then a table that reads as no expression, with the reader's refusal ..
-      pub unread : (why : Refusal) (p : ℕ) → read_table table text ≡ refused why p → bring lent_cells lent_bytes room number table text ≡ refused why p
+      pub unread : (why : Reason) (p : ℕ) → read_table table text ≡ refused why p → bring lent_cells lent_bytes room number table text ≡ refused why p
       unfolding bring name_of or_refuse ◌>>=◌ ◌>>◌ demand is_found
       unread why p reads = rw (lt-ltb number names named, free, reads)
 
       module _ (e : Expr) (reads : read_table table text ≡ got e) where
         -- .. then one that is not made of literals, lists and maps alone ..
-        pub not-literals : (why : Refusal) (p : ℕ) → literal_of e ≡ refused why p → bring lent_cells lent_bytes room number table text ≡ refused NotALiteral p
+        pub not-literals : (why : Reason) (p : ℕ) → literal_of e ≡ refused why p → bring lent_cells lent_bytes room number table text ≡ refused NotALiteral p
         unfolding bring name_of or_refuse ◌>>=◌ ◌>>◌ demand is_found
         not-literals why p h = rw (lt-ltb number names named, free, reads, h, literal-reason e why p h)
 
@@ -147,7 +149,7 @@ module _ (lent_cells lent_bytes : ℕ) (room : BindingRoom) (number : ℕ) (tabl
           too-deep h = at-root (refused UnsoundBinding (place_of l)) (rw (lt-leb (literal_nesting l) deepest_value h))
 
           -- .. then a key that is no key or matches an earlier one, at that key ..
-          pub unsound-key : literal_nesting l ≤ deepest_value → (why : Refusal) (p : ℕ) → spelled l ≡ refused why p
+          pub unsound-key : literal_nesting l ≤ deepest_value → (why : Reason) (p : ℕ) → spelled l ≡ refused why p
               → bring lent_cells lent_bytes room number table text ≡ refused UnsoundBinding p
           unfolding ◌>>=◌
           unsound-key h why p k =
@@ -188,7 +190,7 @@ module _ (lent_cells lent_bytes : ℕ) (room : BindingRoom) (number : ℕ) (tabl
 -- ---- an emptied room
 
 -- Emptying the room makes every name absent.
-pub emptied : (n : ℕ) → scope_of empty_room n ≡ none
+pub emptied : (n : ℕ) → scope_of empty_room n ≡ None
 unfolding scope_of bound_in empty_scope
 emptied n = refl
 

@@ -4,11 +4,11 @@
 use Prim.Native.Nat.{ℕ}
 use mathlib.Core.Path.{◌≡◌, refl, sym, ◌∙◌, ap, subst}
 use mathlib.Core.List.{List, [], ◌∷◌, ◌++◌}
-use mathlib.Core.Option.{some}
+use Rattle.std.specs.Prelude.{Some}
 use mathlib.Core.Bool.{Bool, true, false, cond}
 use lib.Dec.{T, eqb, eqb→eq}
 use Rattle.meaning.specs.Limits.{Counts, cut}
-use Rattle.meaning.specs.Errors.{Refusal}
+use Rattle.meaning.specs.declared.refusal.Reason.{Reason}
 use Rattle.meaning.specs.Value.{Value}
 use Rattle.meaning.specs.Expr.{Expr}
 use Rattle.meaning.specs.Comprehension.{Scope, empty_scope, store}
@@ -27,7 +27,7 @@ store_other : (s : Scope) (number : ℕ) (v : Value) (n : ℕ) → (n ≡ number
 unfolding store
 store_other s number v n other = go (eqb n number) (λ same. other (eqb→eq n number same))
   where
-    go : (b : Bool) → (T b → ⊥) → cond b (some v) (s n) ≡ s n
+    go : (b : Bool) → (T b → ⊥) → cond b (Some v) (s n) ≡ s n
     go true never = absurd (never tt)
     go false never = refl
 
@@ -54,7 +54,7 @@ unfolding answer_of
 same-over-rooms table text room other h lent = read_same (cut lent) (scope_of room) (scope_of other) (read_table table text) h
 
 -- A table that is refused is refused alike, whatever is bound and whatever is lent.
-pub refused-alike : (table text : List ℕ) (why : Refusal) (place : ℕ) → read_table table text ≡ refused why place
+pub refused-alike : (table text : List ℕ) (why : Reason) (place : ℕ) → read_table table text ≡ refused why place
     → (room other : BindingRoom) (lent otherwise : Counts) → answer_of table text room lent ≡ answer_of table text other otherwise
 unfolding answer_of answer_read
 refused-alike table text why place h room other lent otherwise = rw h

@@ -4,7 +4,7 @@
 use Prim.Native.Nat.{ℕ}
 use mathlib.Core.Path.{◌≡◌, refl, ap, ap₂, fun_ext}
 use mathlib.Core.List.{List, [], ◌∷◌}
-use mathlib.Core.Option.{Option, none, some}
+use Rattle.std.specs.Prelude.{Option, None, Some}
 use mathlib.Core.Bool.{Bool, cond}
 use lib.Dec.{eqb}
 use Rattle.meaning.specs.Errors.{ErrorAt}
@@ -51,7 +51,7 @@ module _ (these : ℕ → Type 0) where
   -- storing one value under one name in both keeps them so
   pub store-agree : (n : ℕ) (v : Value) (g : Both) → Agree these (store g.one n v) (store g.other n v)
   unfolding store
-  store-agree n v g m h = ap (cond (eqb m n) (some v)) (g.agree m h)
+  store-agree n v g m h = ap (cond (eqb m n) (Some v)) (g.agree m h)
 
   abbrev stored : ℕ → Value → Both → Both
   stored n v g = record { one = store g.one n v; other = store g.other n v; agree = store-agree n v g }
@@ -62,15 +62,15 @@ module _ (these : ℕ → Type 0) where
   Alike m = (g : Both) → m g.one ≡ m g.other
 
   abbrev GuardAlike : Option Meaning → Type 0
-  GuardAlike none = Unit {0}
-  GuardAlike (some guard) = Alike guard
+  GuardAlike None = Unit {0}
+  GuardAlike (Some guard) = Alike guard
 
   abbrev pub StepAlike : AppendStep → Type 0
   StepAlike path = GuardAlike path.guard × Alike path.items
 
   abbrev pub PathAlike : Option AppendStep → Type 0
-  PathAlike none = Unit {0}
-  PathAlike (some path) = StepAlike path
+  PathAlike None = Unit {0}
+  PathAlike (Some path) = StepAlike path
 
   -- the rest of a loop, and of the append path
   abbrev OnwardAlike : Onward → Type 0
@@ -93,22 +93,22 @@ module _ (these : ℕ → Type 0) where
 
   finish-alike : (result : Meaning) → Alike result → OnwardAlike (finish result)
   unfolding finish
-  finish-alike result r g none = ap operand (r g)
-  finish-alike result r g (some e) = refl
+  finish-alike result r g None = ap operand (r g)
+  finish-alike result r g (Some e) = refl
 
   fold_step-alike : (a : ℕ) (fold : LogicalFold) (rest : Onward) → OnwardAlike rest
       → (v : Value) → OnwardAlike (λ s pending. fold_step a fold rest s pending v)
   unfolding fold_step
-  fold_step-alike a fold rest r v g none = r (stored a v g) none
-  fold_step-alike a fold rest r v g (some e) = choose-same (r (stored a v g) none) (r g (some e)) (absorbs fold (bool_of v))
+  fold_step-alike a fold rest r v g None = r (stored a v g) None
+  fold_step-alike a fold rest r v g (Some e) = choose-same (r (stored a v g) None) (r g (Some e)) (absorbs fold (bool_of v))
 
   after_step-alike : (a : ℕ) (fold : Option LogicalFold) (rest : Onward) → OnwardAlike rest
       → (x : Result ErrorAt Value) → OnwardAlike (λ s pending. after_step a fold rest s pending x)
   unfolding after_step
-  after_step-alike a none rest r (value v) g pending = r (stored a v g) none
-  after_step-alike a none rest r (error e) g pending = refl
-  after_step-alike a (some fold) rest r (value v) g pending = fold_step-alike a fold rest r v g pending
-  after_step-alike a (some fold) rest r (error e) g pending = r g (some e)
+  after_step-alike a None rest r (value v) g pending = r (stored a v g) None
+  after_step-alike a None rest r (error e) g pending = refl
+  after_step-alike a (Some fold) rest r (value v) g pending = fold_step-alike a fold rest r v g pending
+  after_step-alike a (Some fold) rest r (error e) g pending = r g (Some e)
 
   append_items-alike : (items : Scope → Eval Values) → Alike items → (rest : Gathering) → GatheringAlike rest
       → GatheringAlike (append_items items rest)
@@ -121,8 +121,8 @@ module _ (these : ℕ → Type 0) where
   append_turn-alike path h rest r = turned path.guard h.0
     where
       turned : (guard : Option Meaning) → GuardAlike guard → GatheringAlike (append_turn guard path.items rest)
-      turned none k g out = append_items-alike path.items h.1 rest r g out
-      turned (some guard) k g out = bind-same (ap try_bool (k g)) (choose-same (append_items-alike path.items h.1 rest r g out) (r g out))
+      turned None k g out = append_items-alike path.items h.1 rest r g out
+      turned (Some guard) k g out = bind-same (ap try_bool (k g)) (choose-same (append_items-alike path.items h.1 rest r g out) (r g out))
 
   -- ---- a comprehension whose parts run alike
 
@@ -152,9 +152,9 @@ module _ (these : ℕ → Type 0) where
     loop_from-alike : (path : Option AppendStep) → PathAlike path → (v : Value) (xs : List Item) (g : Both)
         → loop_from c path v xs g.one ≡ loop_from c path v xs g.other
     unfolding loop_from
-    loop_from-alike none h v xs g = loop-alike xs (stored c.accumulator v g) none
-    loop_from-alike (some path) h v xs g =
-        choose-same (append_loop-alike path h xs g nil) (loop-alike xs (stored c.accumulator v g) none) (is_empty_list v)
+    loop_from-alike None h v xs g = loop-alike xs (stored c.accumulator v g) None
+    loop_from-alike (Some path) h v xs g =
+        choose-same (append_loop-alike path h xs g nil) (loop-alike xs (stored c.accumulator v g) None) (is_empty_list v)
 
     pub comprehension-alike : (g : Both) → comprehension_rule c g.one ≡ comprehension_rule c g.other
     unfolding comprehension_rule

@@ -3,7 +3,7 @@
 use Prim.Native.Nat.{ℕ, zero, suc}
 use mathlib.Core.Path.{◌≡◌, refl, sym, ap, subst}
 use mathlib.Core.List.{[], ◌∷◌, ◌++◌, append-nil}
-use mathlib.Core.Option.{Option, none, some}
+use Rattle.std.specs.Prelude.{Option, None, Some}
 use mathlib.Core.Bool.{Bool, true, false}
 use native.Mathlib.Omega.{arith}
 use lib.ListN.{replicate}
@@ -138,11 +138,11 @@ module _ {P : Trace → Type 0} where
       go true g = y g
       go false g = n g
 
-  pub covered-or_fail : {A B : Type 0} (x : Error) (o : Option A) (k : A → Rule B) → ((a : A) → o ≡ some a → Covered P (k a).0) →
+  pub covered-or_fail : {A B : Type 0} (x : Error) (o : Option A) (k : A → Rule B) → ((a : A) → o ≡ Some a → Covered P (k a).0) →
       Covered P (◌>>=◌ (or_fail x o) k).0
   unfolding or_fail fail pure ◌>>=◌ after charged on_value
-  covered-or_fail x none k d = nothing
-  covered-or_fail x (some a) k d = d a refl
+  covered-or_fail x None k d = nothing
+  covered-or_fail x (Some a) k d = d a refl
 
 -- ---- pairs that are compared
 

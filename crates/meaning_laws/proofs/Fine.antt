@@ -2,7 +2,7 @@
 -- is one. What evaluation keeps is said of these. Rests on MatchingKeys. Assumes nothing.
 use Prim.Native.Nat.{ℕ, zero, suc, ◌+◌, ◌^◌, ◌≤◌, ◌<◌}
 use mathlib.Core.Path.{◌≡◌, refl}
-use mathlib.Core.Option.{Option, none, some}
+use Rattle.std.specs.Prelude.{Option, None, Some}
 use mathlib.Core.Bool.{Bool, true, false, cond}
 use native.Mathlib.Omega.{arith}
 use lib.IntN.{ℤ, pos, negsuc}
@@ -39,12 +39,12 @@ abbrev mutual
 
   pub FineEntries : Entries → Type 0
   FineEntries empty = Unit {0}
-  FineEntries (entry k v es) = FineScalar (key_scalar k) × Fine v × ((find (key_scalar k) es).1 ≡ none) × FineEntries es
+  FineEntries (entry k v es) = FineScalar (key_scalar k) × Fine v × ((find (key_scalar k) es).1 ≡ None) × FineEntries es
 
 -- of what is there, if something is
 abbrev pub Perhaps : {A : Type 0} → (A → Type 0) → Option A → Type 0
-Perhaps P none = Unit {0}
-Perhaps P (some a) = P a
+Perhaps P None = Unit {0}
+Perhaps P (Some a) = P a
 
 -- ---- fine values are well formed
 
@@ -142,7 +142,7 @@ unfolding find tick
 find-fine x empty f = tt
 find-fine x (entry k v es) f = go (scalar_equal x (key_scalar k)) (find-fine x es f.3)
   where
-    go : (t : Bool) → Perhaps Fine (find x es).1 → Perhaps Fine (cond t (0, some v) (find x es)).1
+    go : (t : Bool) → Perhaps Fine (find x es).1 → Perhaps Fine (cond t (0, Some v) (find x es)).1
     go true below = f.1
     go false below = below
 
@@ -152,7 +152,7 @@ cells-fine empty f = tt
 cells-fine (entry k v es) f = (f.0, (f.1, cells-fine es f.3))
 
 -- A map in which a key was not found may have an entry with that key added: still no two keys match.
-pub add-fine : (es : Entries) (k : Key) (v : Value) → FineEntries es → FineScalar (key_scalar k) → Fine v → (find (key_scalar k) es).1 ≡ none
+pub add-fine : (es : Entries) (k : Key) (v : Value) → FineEntries es → FineScalar (key_scalar k) → Fine v → (find (key_scalar k) es).1 ≡ None
     → FineEntries (add_entry es k v)
 unfolding add_entry find
 add-fine empty k v f g h e = (g, h, refl, tt)

@@ -2,7 +2,7 @@
 -- and what comes of it is fine. A law for each way in which runs are put together. Rests on Fine. Assumes nothing.
 use Prim.Native.Nat.{ℕ, zero, suc, ◌≤◌}
 use mathlib.Core.List.{[], ◌∷◌, ◌++◌}
-use mathlib.Core.Option.{Option, none, some}
+use Rattle.std.specs.Prelude.{Option, None, Some}
 use mathlib.Core.Bool.{Bool, true, false}
 use lib.ListN.{length, replicate}
 use Rattle.meaning.specs.Limits.{deepest_value, most_cells, most_bytes}
@@ -122,13 +122,13 @@ keeps-fail e = keeps-error tt
 
 pub keeps-or_fail : {A : Type 0} {P : A → Type 0} (e : Error) (o : Option A) → Perhaps P o → KeepsRule P (or_fail e o)
 unfolding or_fail
-keeps-or_fail e none h = keeps-fail e
-keeps-or_fail e (some a) h = keeps-pure a h
+keeps-or_fail e None h = keeps-fail e
+keeps-or_fail e (Some a) h = keeps-pure a h
 
 -- where nothing is asked of the value
 pub keeps-anything : {A : Type 0} (e : Error) (o : Option A) → KeepsRule {A = A} Any (or_fail e o)
-keeps-anything e none = keeps-or_fail e none tt
-keeps-anything e (some a) = keeps-or_fail e (some a) tt
+keeps-anything e None = keeps-or_fail e None tt
+keeps-anything e (Some a) = keeps-or_fail e (Some a) tt
 
 pub keeps-operand : {A : Type 0} {P : A → Type 0} {r : Eval A} → KeepsEval P r → KeepsRule P (operand r)
 unfolding operand from_operand

@@ -3,14 +3,15 @@
 use Prim.Native.Nat.{ℕ, suc, ◌*◌, ◌≤◌}
 use mathlib.Core.Path.{◌≡◌, refl}
 use mathlib.Core.List.{[], ◌∷◌}
-use mathlib.Core.Option.{Option, none, some, bind}
+use Rattle.std.specs.Prelude.{Option, None, Some}
+use Rattle.meaning.specs.Options.{bind}
 use mathlib.Core.Bool.{Bool, true, false}
 use native.Mathlib.Omega.{arith}
 use Rattle.meaning.specs.Limits.{deepest_value, most_cells}
 use Rattle.meaning.specs.Value.{Key, key_scalar, key_of, scalar_of, Value, scalar, list, map, optional_none, optional_of, Values, nil, cons, Entries, nesting, count, count_entries}
 use Rattle.meaning.specs.Run.{cells, nest, Result, value, error, Raised, Eval, Rule, charged, after}
 use Rattle.meaning.specs.Comparison.{find}
-use Rattle.meaning.specs.Optionals.{Unwrapped, NotOptional, Some, None, unwrap_optional}
+use Rattle.meaning.specs.Optionals.{Unwrapped, NotOptional, PresentOptional, NoneOptional, unwrap_optional}
 use Rattle.meaning.specs.Containers.{Making, keeping, having, ready_in, unmarked, kept, append, element_rule, add_new, insert, entry_rule, pair_rule, pad, cells_an_entry, entry_cells, finished, list_rule, map_rule, into}
 use Rattle.meaning_laws.specs.Each.{Each}
 use Rattle.meaning_laws.proofs.Fine.{FineScalar, Fine, FineElements, FineEntries, Perhaps, key-fine, join-fine, join-count, pad-fine, pad-count, cells-fine, add-fine, add-count}
@@ -34,8 +35,8 @@ having-kept {A} {B} S {P} ready {r} s h = record { held = h.held; gives = λ m. 
 unmarked-fine : (u : Unwrapped) → FineUnwrapped u → Perhaps Fine (unmarked u)
 unfolding unmarked
 unmarked-fine (NotOptional v) f = f
-unmarked-fine (Some v) f = f
-unmarked-fine None f = tt
+unmarked-fine (PresentOptional v) f = f
+unmarked-fine NoneOptional f = tt
 
 kept_fine : (marked : Bool) (v : Value) → Fine v → Perhaps Fine (kept marked v)
 unfolding kept
@@ -51,8 +52,8 @@ pub record FewElements (n : ℕ) (vs : Values) : Type 0 where
 
 append-few : (n : ℕ) (vs : Values) (o : Option Value) → FewElements n vs → Perhaps Fine o → FewElements (suc n) (append vs o)
 unfolding append count
-append-few n vs none f g = record { fine = f.fine; few = omega arith }
-append-few n vs (some v) f g =
+append-few n vs None f g = record { fine = f.fine; few = omega arith }
+append-few n vs (Some v) f g =
     let e = join-count vs (cons v nil) in
     record { fine = join-fine vs (cons v nil) f.fine (g, tt); few = omega arith }
 
@@ -75,17 +76,17 @@ add_new-kept : (n : ℕ) (es : Entries) (k : Key) (v : Value) (o : Option Value)
     → FineScalar (key_scalar k) → Fine v
     → KeepsRule (FewEntries (suc n)) (add_new es k v o)
 unfolding add_new
-add_new-kept n es k v none e f g h =
+add_new-kept n es k v None e f g h =
     let c = add-count es k v in
     keeps-pure _ (record { fine = add-fine es k v f.fine g h e; few = omega arith })
-add_new-kept n es k v (some w) e f g h = keeps-fail _
+add_new-kept n es k v (Some w) e f g h = keeps-fail _
 
 -- found under the key, or not
 insert-kept : (n : ℕ) (es : Entries) (k : Key) (o : Option Value) → FewEntries n es → FineScalar (key_scalar k) → Perhaps Fine o
     → KeepsRule (FewEntries (suc n)) (insert es k o)
 unfolding insert
-insert-kept n es k none f g h = keeps-pure es (record { fine = f.fine; few = omega arith })
-insert-kept n es k (some v) f g h =
+insert-kept n es k None f g h = keeps-pure es (record { fine = f.fine; few = omega arith })
+insert-kept n es k (Some v) f g h =
     keeps-bind (keeps-compared {P = λ o. (find (key_scalar k) es).1 ≡ o} (find (key_scalar k) es) refl) (λ o e. add_new-kept n es k v o e f g h)
 
 key_of-fine : (v : Value) → Fine v → Perhaps (λ k. FineScalar (key_scalar k)) (key_of v)

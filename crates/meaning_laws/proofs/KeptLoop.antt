@@ -2,7 +2,7 @@
 -- Rests on Kept. Assumes nothing.
 use Prim.Native.Nat.{ℕ}
 use mathlib.Core.List.{List, [], ◌∷◌}
-use mathlib.Core.Option.{Option, none, some, map}
+use Rattle.std.specs.Prelude.{Option, None, Some, option_map}
 use mathlib.Core.Bool.{Bool, true, false, ◌&&◌, cond}
 use native.Mathlib.Omega.{arith}
 use lib.Dec.{eqb}
@@ -33,7 +33,7 @@ pub store-fine : (s : Scope) (n : ℕ) (v : Value) → FineScope s → Fine v �
 unfolding store
 store-fine s n v f g m = go (eqb m n)
   where
-    go : (t : Bool) → Perhaps Fine (cond t (some v) (s m))
+    go : (t : Bool) → Perhaps Fine (cond t (Some v) (s m))
     go true = g
     go false = f m
 
@@ -59,23 +59,23 @@ GoesOn k = (s : Scope) (p : Pending) → FineScope s → KeepsRule Fine (k s p)
 
 finish-kept : {result : Meaning} → KeepsMeaning result → GoesOn (finish result)
 unfolding finish
-finish-kept h s none f = keeps-operand (h s f)
-finish-kept h s (some e) f = keeps-error tt
+finish-kept h s None f = keeps-operand (h s f)
+finish-kept h s (Some e) f = keeps-error tt
 
 fold_step-kept : (a : ℕ) (fold : LogicalFold) {rest : Onward} (s : Scope) (p : Pending) (v : Value) → GoesOn rest → FineScope s → Fine v
     → KeepsRule Fine (fold_step a fold rest s p v)
 unfolding fold_step
-fold_step-kept a fold s none v k f g = k (store s a v) none (store-fine s a v f g)
-fold_step-kept a fold s (some e) v k f g = keeps-choose (absorbs fold (bool_of v)) (k (store s a v) none (store-fine s a v f g)) (k s (some e) f)
+fold_step-kept a fold s None v k f g = k (store s a v) None (store-fine s a v f g)
+fold_step-kept a fold s (Some e) v k f g = keeps-choose (absorbs fold (bool_of v)) (k (store s a v) None (store-fine s a v f g)) (k s (Some e) f)
 
 after_step-kept : (a : ℕ) (fold : Option LogicalFold) {rest : Onward} (s : Scope) (p : Pending) (x : Result ErrorAt Value) → GoesOn rest → FineScope s
     → Gives Any Fine x
     → KeepsRule Fine (after_step a fold rest s p x)
 unfolding after_step
-after_step-kept a none s p (value v) k f g = k (store s a v) none (store-fine s a v f g)
-after_step-kept a none s p (error e) k f g = keeps-error tt
-after_step-kept a (some fold) s p (value v) k f g = fold_step-kept a fold s p v k f g
-after_step-kept a (some fold) s p (error e) k f g = k s (some e) f
+after_step-kept a None s p (value v) k f g = k (store s a v) None (store-fine s a v f g)
+after_step-kept a None s p (error e) k f g = keeps-error tt
+after_step-kept a (Some fold) s p (value v) k f g = fold_step-kept a fold s p v k f g
+after_step-kept a (Some fold) s p (error e) k f g = k s (Some e) f
 
 -- ---- the append path
 
@@ -90,8 +90,8 @@ append_items-kept h k s out f g =
 append_turn-kept : (guard : Option Meaning) {items : Scope → Eval Values} {rest : Gathering} → Perhaps KeepsMeaning guard → KeepsItems items
     → Gathers rest → Gathers (append_turn guard items rest)
 unfolding append_turn
-append_turn-kept none h i k s out f g = append_items-kept i k s out f g
-append_turn-kept (some guard) h i k s out f g = keeps-bind (keeps-try_bool (h s f)) (λ b j. keeps-choose b (append_items-kept i k s out f g) (k s out f g))
+append_turn-kept None h i k s out f g = append_items-kept i k s out f g
+append_turn-kept (Some guard) h i k s out f g = keeps-bind (keeps-try_bool (h s f)) (λ b j. keeps-choose b (append_items-kept i k s out f g) (k s out f g))
 
 gathered-kept : (out : Values) → FineElements out → KeepsRule Fine (built out (list out))
 gathered-kept out g = keeps-built out (list out) g (λ c d. (d, omega arith, g))
@@ -121,10 +121,10 @@ module _ {Item : Type 0} {I : Item → Type 0} (c : Comprehension Item) (h : Kee
   loop_from-kept : (path : Option AppendStep) → Perhaps KeepsAppend path → (v : Value) (xs : List Item) (s : Scope) → Fine v → Each I xs → FineScope s
       → KeepsRule Fine (loop_from c path v xs s)
   unfolding loop_from
-  loop_from-kept none k v xs s g is f = loop-kept xs is (store s c.accumulator v) none (store-fine s c.accumulator v f g)
-  loop_from-kept (some path) k v xs s g is f =
+  loop_from-kept None k v xs s g is f = loop-kept xs is (store s c.accumulator v) None (store-fine s c.accumulator v f g)
+  loop_from-kept (Some path) k v xs s g is f =
       keeps-choose (is_empty_list v) (append_loop-kept path k xs is s nil f tt)
-      (loop-kept xs is (store s c.accumulator v) none (store-fine s c.accumulator v f g))
+      (loop-kept xs is (store s c.accumulator v) None (store-fine s c.accumulator v f g))
 
   -- A comprehension whose parts keep it keeps it.
   pub comprehension-kept : (s : Scope) → FineScope s → KeepsRule Fine (comprehension_rule c s)
@@ -147,40 +147,40 @@ pub record KeepsLook (l : Look) : Type 0 where
 
 -- nothing that bears on the append path
 pub unseen : {is_literal : Bool} {is_name : Option ℕ} {folds : Option (ℕ × LogicalFold)}
-    → KeepsLook (record { is_literal = is_literal; is_name = is_name; lists = none; folds = folds; adds = none; appends = none })
+    → KeepsLook (record { is_literal = is_literal; is_name = is_name; lists = None; folds = folds; adds = None; appends = None })
 unseen = record { lists_kept = tt; adds_kept = tt; appends_kept = tt }
 
 fold-look : (fold : LogicalFold) (o : Option ℕ) → KeepsLook (a_fold fold o)
 unfolding a_fold
-fold-look fold none = unseen
-fold-look fold (some n) = unseen
+fold-look fold None = unseen
+fold-look fold (Some n) = unseen
 
 sum-look : (o : Option ℕ) (p : Option (Scope → Eval Values)) → Perhaps KeepsItems p → KeepsLook (a_sum o p)
 unfolding a_sum
-sum-look none p h = unseen
-sum-look (some n) none h = unseen
-sum-look (some n) (some items) h = record { lists_kept = tt; adds_kept = h; appends_kept = record { guard_kept = tt; items_kept = h } }
+sum-look None p h = unseen
+sum-look (Some n) None h = unseen
+sum-look (Some n) (Some items) h = record { lists_kept = tt; adds_kept = h; appends_kept = record { guard_kept = tt; items_kept = h } }
 
 of_name-kept : {A : Type 0} (P : A → Type 0) (a : ℕ) (o : Option (ℕ × A)) → Perhaps (KeepsNamed P) o → Perhaps P (of_name a o)
 unfolding of_name
-of_name-kept P a none h = tt
-of_name-kept P a (some x) h = go (eqb x.0 a)
+of_name-kept P a None h = tt
+of_name-kept P a (Some x) h = go (eqb x.0 a)
   where
-    go : (t : Bool) → Perhaps P (cond t (some x.1) none)
+    go : (t : Bool) → Perhaps P (cond t (Some x.1) None)
     go true = h
     go false = tt
 
 guarded-kept : {guard : Meaning} → KeepsMeaning guard → (n : ℕ) (o : Option (Scope → Eval Values)) → Perhaps KeepsItems o
-    → Perhaps (KeepsNamed KeepsAppend) (map (guarded_by guard n) o)
+    → Perhaps (KeepsNamed KeepsAppend) (option_map (guarded_by guard n) o)
 unfolding guarded_by
-guarded-kept h n none k = tt
-guarded-kept h n (some items) k = record { guard_kept = h; items_kept = k }
+guarded-kept h n None k = tt
+guarded-kept h n (Some items) k = record { guard_kept = h; items_kept = k }
 
 pub conditional-look : {guard : Meaning} → KeepsMeaning guard → (sum : Option (ℕ × (Scope → Eval Values))) → Perhaps (KeepsNamed KeepsItems) sum
     → (o : Option ℕ) → KeepsLook (a_conditional guard sum o)
 unfolding a_conditional
-conditional-look h sum k none = unseen
-conditional-look h sum k (some n) = record { lists_kept = tt; adds_kept = tt; appends_kept = guarded-kept h n (of_name n sum) (of_name-kept KeepsItems n sum k) }
+conditional-look h sum k None = unseen
+conditional-look h sum k (Some n) = record { lists_kept = tt; adds_kept = tt; appends_kept = guarded-kept h n (of_name n sum) (of_name-kept KeepsItems n sum k) }
 
 arith-look : (o : Arith) (l r : Look) → KeepsLook r → KeepsLook (arith_look o l r)
 unfolding arith_look
@@ -207,6 +207,6 @@ pub path-kept : (a : ℕ) (condition step result : Look) → KeepsLook step → 
 unfolding append_step
 path-kept a condition step result h = go (condition.is_literal && named a result.is_name)
   where
-    go : (t : Bool) → Perhaps KeepsAppend (cond t (of_name a step.appends) none)
+    go : (t : Bool) → Perhaps KeepsAppend (cond t (of_name a step.appends) None)
     go true = of_name-kept KeepsAppend a step.appends h.appends_kept
     go false = tt

@@ -2,13 +2,12 @@
 -- are charged. Rests on SoundNumbers and Kept, and on the laws of the crate text. Assumes nothing.
 use Prim.Native.Nat.{ℕ, ◌^◌, ◌≤◌, ◌<◌}
 use mathlib.Core.List.{List, [], ◌∷◌, ◌++◌}
-use mathlib.Core.Option.{Option, none, some}
+use Rattle.std.specs.Prelude.{ℤ, Option, None, Some, Result, Ok, Err}
 use mathlib.Core.Bool.{Bool, not, beq}
 use native.Mathlib.Omega.{arith}
 use lib.ListN.{length}
-use Rattle.numbers.specs.declared.order.Order.{Order}
-use Rattle.numbers.specs.declared.int.IntAnswer.{IntAnswer}
-use Rattle.numbers.specs.declared.uint.UintAnswer.{UintAnswer}
+use Rattle.std.specs.declared.cmp.Ordering.{Ordering}
+use Rattle.numbers.specs.declared.error.ArithmeticError.{ArithmeticError}
 use Rattle.numbers.specs.Int as Int
 use Rattle.text.proofs.Utf8Laws.{joined-well-formed}
 use Rattle.meaning.specs.Limits.{most_bytes}
@@ -70,19 +69,19 @@ bytes-fine (bytes s) f = f
 
 -- ---- numbers
 
-int_rule-kept : (a : IntAnswer) → IntInRange a → KeepsRule Fine (int_rule a)
+int_rule-kept : (a : Result ℤ ArithmeticError) → IntInRange a → KeepsRule Fine (int_rule a)
 unfolding int_rule text_bytes
-int_rule-kept (IntAnswer.Value z) h = keeps-pure _ (h, omega arith)
-int_rule-kept (IntAnswer.Error e) h = keeps-fail _
+int_rule-kept (Ok z) h = keeps-pure _ (h, omega arith)
+int_rule-kept (Err e) h = keeps-fail _
 
-uint_rule-kept : (a : UintAnswer) → UintInRange a → KeepsRule Fine (uint_rule a)
+uint_rule-kept : (a : Result ℕ ArithmeticError) → UintInRange a → KeepsRule Fine (uint_rule a)
 unfolding uint_rule text_bytes
-uint_rule-kept (UintAnswer.Value n) h = keeps-pure _ (h, omega arith)
-uint_rule-kept (UintAnswer.Error e) h = keeps-fail _
+uint_rule-kept (Ok n) h = keeps-pure _ (h, omega arith)
+uint_rule-kept (Err e) h = keeps-fail _
 
 double-kept : (o : Option ℕ) → DoubleInRange o → Perhaps (λ d. d < 2 ^ 64) o
-double-kept none h = tt
-double-kept (some d) h = h
+double-kept None h = tt
+double-kept (Some d) h = h
 
 -- ---- text
 
@@ -160,12 +159,9 @@ not-kept v = keeps-bind (keeps-anything _ (bool_of v)) (λ b h. keeps-truth (not
 
 -- ---- comparison
 
-ordered-kept : (o : Order) → KeepsRule Any (ordered o)
+ordered-kept : (o : Option Ordering) → KeepsRule Any (ordered o)
 unfolding ordered
-ordered-kept Order.Less = keeps-pure _ tt
-ordered-kept Order.Equal = keeps-pure _ tt
-ordered-kept Order.Greater = keeps-pure _ tt
-ordered-kept Order.Unordered = keeps-fail _
+ordered-kept o = keeps-anything _ o
 
 compare_values-kept : (v w : Value) → KeepsRule Any (compare_values v w)
 unfolding compare_values

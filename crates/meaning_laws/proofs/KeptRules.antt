@@ -2,7 +2,7 @@
 -- Optional of such a part, a Bool, or a size. Rests on Kept. Assumes nothing.
 use Prim.Native.Nat.{ℕ, ◌^◌}
 use mathlib.Core.List.{List}
-use mathlib.Core.Option.{some}
+use Rattle.std.specs.Prelude.{Some}
 use mathlib.Core.Bool.{Bool, true, false}
 use native.Mathlib.Omega.{arith}
 use lib.ListN.{length}
@@ -14,7 +14,7 @@ use Rattle.meaning.specs.Expr.{LogicalFold, Function, size_call, of_call, has_va
 use Rattle.meaning.specs.Run.{Result, value, error, Raised, Eval, Rule}
 use Rattle.meaning.specs.Comparison.{find, among}
 use Rattle.meaning.specs.Maps.{probe_of, position_of, element_at, look_up, is_found, in_rule}
-use Rattle.meaning.specs.Optionals.{Unwrapped, NotOptional, Some, None, unwrap_optional, optional_of_rule, has_value_rule, value_rule, or_value_rule}
+use Rattle.meaning.specs.Optionals.{Unwrapped, NotOptional, PresentOptional, NoneOptional, unwrap_optional, optional_of_rule, has_value_rule, value_rule, or_value_rule}
 use Rattle.meaning.specs.Selection.{present_or_none, optionally, succeeded, tells, select_in_container, select_in_present, select_in_map, select_in_none, select_field, perhaps, index_rule, opt_select_in, opt_select_rule}
 use Rattle.meaning.specs.Logic.{absorbing, absorbs, raised_error, bool_wanted, left_error, right_bool, after_left, logic_rule, bool_or_true, not_strictly_false_rule, conditional_rule}
 use Rattle.meaning.specs.Calls.{counted, scalar_size, size_rule, call_rule, or_value_call}
@@ -48,8 +48,8 @@ in_kept v (optional_of w) = keeps-fail _
 
 abbrev pub FineUnwrapped : Unwrapped → Type 0
 FineUnwrapped (NotOptional v) = Fine v
-FineUnwrapped (Some v) = Fine v
-FineUnwrapped None = Unit {0}
+FineUnwrapped (PresentOptional v) = Fine v
+FineUnwrapped NoneOptional = Unit {0}
 
 pub unwrapped-fine : (v : Value) → Fine v → FineUnwrapped (unwrap_optional v)
 unfolding unwrap_optional
@@ -66,20 +66,20 @@ optional_of-kept v f = keeps-built (cons v nil) (optional_of v) (f, tt) (λ c n.
 has_value-kept : (u : Unwrapped) → KeepsRule Fine (has_value_rule u)
 unfolding has_value_rule
 has_value-kept (NotOptional v) = keeps-fail _
-has_value-kept (Some v) = keeps-truth true
-has_value-kept None = keeps-truth false
+has_value-kept (PresentOptional v) = keeps-truth true
+has_value-kept NoneOptional = keeps-truth false
 
 value-kept : (u : Unwrapped) → FineUnwrapped u → KeepsRule Fine (value_rule u)
 unfolding value_rule
 value-kept (NotOptional v) f = keeps-fail _
-value-kept (Some v) f = keeps-pure _ f
-value-kept None f = keeps-fail _
+value-kept (PresentOptional v) f = keeps-pure _ f
+value-kept NoneOptional f = keeps-fail _
 
 or_value-kept : (default : Value) (u : Unwrapped) → Fine default → FineUnwrapped u → KeepsRule Fine (or_value_rule default u)
 unfolding or_value_rule
 or_value-kept default (NotOptional v) f g = keeps-fail _
-or_value-kept default (Some v) f g = keeps-pure _ g
-or_value-kept default None f g = keeps-pure _ f
+or_value-kept default (PresentOptional v) f g = keeps-pure _ g
+or_value-kept default NoneOptional f g = keeps-pure _ f
 
 -- ---- selection
 
@@ -140,14 +140,14 @@ perhaps-kept false h = h
 pub index_kept : (optional : Bool) {r : Eval Value} (u : Unwrapped) → KeepsEval Fine r → FineUnwrapped u → KeepsRule Fine (index_rule optional r u)
 unfolding index_rule
 index_kept optional (NotOptional v) h f = keeps-bind (keeps-operand h) (λ i g. perhaps-kept optional (look_up-kept v i f))
-index_kept optional (Some v) h f = keeps-bind (keeps-operand h) (λ i g. optionally-kept (look_up-kept v i f))
-index_kept optional None h f = keeps-pure optional_none tt
+index_kept optional (PresentOptional v) h f = keeps-bind (keeps-operand h) (λ i g. optionally-kept (look_up-kept v i f))
+index_kept optional NoneOptional h f = keeps-pure optional_none tt
 
 opt_select_in-kept : (field : List ℕ) (u : Unwrapped) → FineUnwrapped u → KeepsRule Fine (opt_select_in field u)
 unfolding opt_select_in
 opt_select_in-kept field (NotOptional v) f = optionally-kept (look_up-kept v _ f)
-opt_select_in-kept field (Some v) f = optionally-kept (look_up-kept v _ f)
-opt_select_in-kept field None f = keeps-pure optional_none tt
+opt_select_in-kept field (PresentOptional v) f = optionally-kept (look_up-kept v _ f)
+opt_select_in-kept field NoneOptional f = keeps-pure optional_none tt
 
 -- `e.?field`.
 pub opt_select-kept : (u : Unwrapped) (w : Value) → FineUnwrapped u → KeepsRule Fine (opt_select_rule u w)
@@ -166,7 +166,7 @@ right_bool-kept h = keeps-bind (keeps-operand h) (λ w f. keeps-bind (keeps-anyt
 
 after_left-kept : (fold : LogicalFold) {r : Eval Value} (x : Result Raised Bool) → KeepsEval Fine r → KeepsRule Fine (after_left fold r x)
 unfolding after_left
-after_left-kept fold (value a) h = keeps-choose (absorbs fold (some a)) (keeps-truth a) (right_bool-kept h)
+after_left-kept fold (value a) h = keeps-choose (absorbs fold (Some a)) (keeps-truth a) (right_bool-kept h)
 after_left-kept fold (error e) h =
     keeps-bind (keeps-operand h) (λ w f. keeps-choose (absorbs fold (bool_of w)) (keeps-truth (absorbing fold)) (left_error-kept e))
 

@@ -1,7 +1,7 @@
 -- The names of a rule are those that its list of records has, and no others. Assumes nothing.
 use mathlib.Core.Logic.{◌⊎◌, inl, inr, ◌↔◌}
 use mathlib.Core.List.{List, [], ◌∷◌, ◌++◌}
-use mathlib.Core.Option.{none, some}
+use Rattle.std.specs.Prelude.{None, Some}
 use Prim.Native.Nat.{ℕ}
 use Rattle.meaning.specs.Expr.{Expr, name, unary, binary, conditional, select, list_of, map_of, comprehension, call, or_value, Elements, element, marked_element, Pairs, pair, marked_pair}
 use Rattle.meaning.specs.Listing.{Listed, records_of, records_of_elements, records_of_pairs, names_in, names_of}
@@ -13,19 +13,19 @@ Has rs n = In (names_in rs) n
 module _ (n : ℕ) where
   either : (rs ss : List Listed) → Has rs n ⊎ Has ss n → Has (rs ++ ss) n
   either [] ss (inr h) = h
-  either ((p, none) ∷ rs) ss h = either rs ss h
-  either ((p, some m) ∷ rs) ss (inl (inl e)) = inl e
-  either ((p, some m) ∷ rs) ss (inl (inr h)) = inr (either rs ss (inl h))
-  either ((p, some m) ∷ rs) ss (inr h) = inr (either rs ss (inr h))
+  either ((p, None) ∷ rs) ss h = either rs ss h
+  either ((p, Some m) ∷ rs) ss (inl (inl e)) = inl e
+  either ((p, Some m) ∷ rs) ss (inl (inr h)) = inr (either rs ss (inl h))
+  either ((p, Some m) ∷ rs) ss (inr h) = inr (either rs ss (inr h))
   either [] ss (inl x'') = elim x'' [ ]
 
   one_of : (rs ss : List Listed) → Has (rs ++ ss) n → Has rs n ⊎ Has ss n
   one_of [] ss h = inr h
-  one_of ((p, none) ∷ rs) ss h = one_of rs ss h
-  one_of ((p, some m) ∷ rs) ss (inl e) = inl (inl e)
-  one_of ((p, some m) ∷ rs) ss (inr h) = go (one_of rs ss h)
+  one_of ((p, None) ∷ rs) ss h = one_of rs ss h
+  one_of ((p, Some m) ∷ rs) ss (inl e) = inl (inl e)
+  one_of ((p, Some m) ∷ rs) ss (inr h) = go (one_of rs ss h)
     where
-      go : Has rs n ⊎ Has ss n → Has ((p, some m) ∷ rs) n ⊎ Has ss n
+      go : Has rs n ⊎ Has ss n → Has ((p, Some m) ∷ rs) n ⊎ Has ss n
       go (inl i) = inl (inr i)
       go (inr i) = inr i
 
@@ -67,7 +67,7 @@ module _ (n : ℕ) where
     listed-pairs : (es : Pairs) → NamesInPairs es n → Has (records_of_pairs es) n
     listed-pairs (pair k e es) h = joined (records_of k) _ (λ i. listed k i) (joined (records_of e) _ (λ i. listed e i) (λ i. listed-pairs es i)) h
     listed-pairs (marked_pair k p e es) h =
-        joined (records_of k) ((p, none) ∷ records_of e ++ records_of_pairs es) (λ i. listed k i) (joined (records_of e) _ (λ i. listed e i) (λ i. listed-pairs es i)) h
+        joined (records_of k) ((p, None) ∷ records_of e ++ records_of_pairs es) (λ i. listed k i) (joined (records_of e) _ (λ i. listed e i) (λ i. listed-pairs es i)) h
     listed-pairs Rattle.meaning.specs.Expr.no_pairs h = elim h [ ]
 
   mutual
@@ -99,7 +99,7 @@ module _ (n : ℕ) where
     named-pairs : (es : Pairs) → Has (records_of_pairs es) n → NamesInPairs es n
     named-pairs (pair k e es) h = parted (records_of k) _ (λ i. named k i) (parted (records_of e) _ (λ i. named e i) (λ i. named-pairs es i)) h
     named-pairs (marked_pair k p e es) h =
-        parted (records_of k) ((p, none) ∷ records_of e ++ records_of_pairs es) (λ i. named k i) (parted (records_of e) _ (λ i. named e i) (λ i. named-pairs es i)) h
+        parted (records_of k) ((p, None) ∷ records_of e ++ records_of_pairs es) (λ i. named k i) (parted (records_of e) _ (λ i. named e i) (λ i. named-pairs es i)) h
     named-pairs Rattle.meaning.specs.Expr.no_pairs h = elim h [ ]
 
 -- A rule contains exactly the names that are read off its records.

@@ -5,14 +5,14 @@ use native.Mathlib.Omega.{arith}
 use mathlib.Core.Path.{◌≡◌, refl, sym, ap, subst}
 use mathlib.Core.Logic.{◌↔◌}
 use mathlib.Core.List.{List, [], ◌∷◌}
-use mathlib.Core.Option.{some}
+use Rattle.std.specs.Prelude.{Some}
 use mathlib.Core.Bool.{Bool, true, false, ◌&&◌}
 use lib.ListN.{length}
 use lib.Seq.{slice, take-length}
 use lib.Dec.{leb}
 use borrow.Author.Tests.{leb-true, eqb-true}
 use Rattle.meaning.specs.Limits.{shortest_table, longest_table, deepest_record}
-use Rattle.meaning.specs.Errors.{Refusal}
+use Rattle.meaning.specs.declared.refusal.Reason.{Reason}
 use Rattle.meaning.specs.Expr.{Expr}
 use Rattle.meaning.specs.Kinds.{ExprKind, null_kind, bool_kind, int_kind, uint_kind, double_kind, string_kind, bytes_kind, name_kind, unary_kind, binary_kind}
 use Rattle.meaning.specs.Kinds.{conditional_kind, select_kind, list_kind, map_kind, comprehension_kind, function_kind, Kind, mark, expr}
@@ -90,7 +90,7 @@ module _ (width : ℕ) (table text : List ℕ) where
       operand-told k at last o q h a e = tells_expr q last a.1 a.0 h (omega (arith, o.end_inside)) e
 
       called-told : (f : Called) (at last : ℕ) (e : Expr) (q : ℕ) → Opened width table p end (head_here (expr function_kind) at last)
-          → numbered functions (first (head_here (expr function_kind) at last).numbers) ≡ some f
+          → numbered functions (first (head_here (expr function_kind) at last).numbers) ≡ Some f
           → called_at text R P p (head_here (expr function_kind) at last) f ≡ got (e, q) → Result e q
       unfolding called_at numbers_at is_leaf called_without
       called-told (to_one f) at last e q o known b =
@@ -272,14 +272,14 @@ pub accepted : (table text : List ℕ) (e : Expr) → AllBytes table → (read_t
 accepted table text e all = (invents-nothing table text e all, loses-nothing table text e)
 
 -- What is refused, the rules write as no expression within the limits.
-pub refused-unwritten : (table text : List ℕ) (r : Refusal) (p : ℕ) → read_table table text ≡ refused r p → (e : Expr) → Spells table text e → ⊥
+pub refused-unwritten : (table text : List ℕ) (r : Reason) (p : ℕ) → read_table table text ≡ refused r p → (e : Expr) → Spells table text e → ⊥
 refused-unwritten table text r p b e s = let a = loses-nothing table text e s in nonsense (cc)
 
 -- A table of bytes that the rules write as no expression within the limits is refused.
 pub unwritten-refused : (table text : List ℕ) → AllBytes table → ((e : Expr) → Spells table text e → ⊥)
-    → (r : Refusal) × (p : ℕ) × (read_table table text ≡ refused r p)
+    → (r : Reason) × (p : ℕ) × (read_table table text ≡ refused r p)
 unwritten-refused table text all no_one = go (read_table table text) refl
   where
-    go : (g : Got Expr) → read_table table text ≡ g → (r : Refusal) × (p : ℕ) × (read_table table text ≡ refused r p)
+    go : (g : Got Expr) → read_table table text ≡ g → (r : Reason) × (p : ℕ) × (read_table table text ≡ refused r p)
     go (got e) b = absurd (no_one e (invents-nothing table text e all b))
     go (refused r p) b = (r, p, b)

@@ -2,7 +2,7 @@
 -- Rests on how runs follow one another. Assumes nothing.
 use mathlib.Core.Path.{◌≡◌, refl, sym, ◌∙◌, ap, subst}
 use mathlib.Core.List.{[], ◌++◌, append_assoc, append-nil}
-use mathlib.Core.Option.{Option, none, some}
+use Rattle.std.specs.Prelude.{Option, None, Some}
 use mathlib.Core.Bool.{Bool}
 use Rattle.meaning.specs.Errors.{Error, UnexpectedType, a_bool, ErrorAt}
 use Rattle.meaning.specs.Value.{Value, bool_of}
@@ -64,8 +64,8 @@ module _ {A B : Type 0} (r : Eval A) (k : A → Rule B) where
 
 or_fail-charges-nothing : {A : Type 0} (e : Error) (o : Option A) → (or_fail e o).0 ≡ []
 unfolding or_fail fail pure
-or_fail-charges-nothing e none = refl
-or_fail-charges-nothing e (some a) = refl
+or_fail-charges-nothing e None = refl
+or_fail-charges-nothing e (Some a) = refl
 
 pub try_bool-charges : (r : Eval Value) → (try_bool r).0 ≡ r.0
 unfolding try_bool operand ◌>>=◌ after charged on_value from_operand

@@ -2,11 +2,10 @@
 -- Rests on CoveredSteps. Assumes nothing.
 use Prim.Native.Nat.{ℕ}
 use mathlib.Core.List.{List, ◌++◌}
-use mathlib.Core.Option.{Option, none, some}
+use Rattle.std.specs.Prelude.{ℤ, Option, None, Some, Result as Answered, Ok, Err}
 use mathlib.Core.Bool.{Bool, true, false}
-use Rattle.numbers.specs.declared.int.IntAnswer.{IntAnswer}
-use Rattle.numbers.specs.declared.uint.UintAnswer.{UintAnswer}
-use Rattle.numbers.specs.declared.order.Order.{Order}
+use Rattle.numbers.specs.declared.error.ArithmeticError.{ArithmeticError}
+use Rattle.std.specs.declared.cmp.Ordering.{Ordering}
 use Rattle.numbers.specs.Int as Int
 use Rattle.meaning.specs.Errors.{Error, NoOverload, IndexOutOfBounds, NoSuchKey, FunctionError}
 use Rattle.meaning.specs.Value.{Scalar, null, bool, int, uint, double, string, bytes, Key, Value, scalar, list, map, optional_none, optional_of, Values, Entries, join, scalar_of, elements_of, bool_of, string_in, string_of, key_scalar}
@@ -15,7 +14,7 @@ use Rattle.meaning.specs.Run.{Result, value, error, Raised, Rule, pure, charged,
 use Rattle.meaning.specs.Numbers.{int_in, uint_in, double_in, bytes_in, int_arith, int_rule, uint_arith, uint_rule, double_arith, only_add, built_text, scalar_arith, arith_rule, scalar_negate, negate_rule, not_rule}
 use Rattle.meaning.specs.Comparison.{rank, scalar_order, ordered, compare_values, compare_rule, find, equal, among, equal_rule}
 use Rattle.meaning.specs.Maps.{probe_of, position_of, element_at, look_up, in_rule}
-use Rattle.meaning.specs.Optionals.{Unwrapped, NotOptional, Some, None, unwrap_optional, optional_of_rule, has_value_rule, value_rule, or_value_rule}
+use Rattle.meaning.specs.Optionals.{Unwrapped, NotOptional, PresentOptional, NoneOptional, unwrap_optional, optional_of_rule, has_value_rule, value_rule, or_value_rule}
 use Rattle.meaning.specs.Selection.{present_or_none, optionally, succeeded, tells, field_in, select_in_container, select_in_present, select_in_map, select_in_none, select_field, perhaps, opt_select_in, opt_select_rule}
 use Rattle.meaning.specs.Logic.{raised_error, bool_wanted, left_error}
 use Rattle.meaning.specs.Calls.{counted, scalar_size, size_rule, call_rule}
@@ -30,8 +29,8 @@ truth-silent b = nothing
 
 pub or_fail-silent : {A : Type 0} (x : Error) (o : Option A) → Silent (or_fail x o).0
 unfolding or_fail fail pure
-or_fail-silent x none = nothing
-or_fail-silent x (some a) = nothing
+or_fail-silent x None = nothing
+or_fail-silent x (Some a) = nothing
 
 pub built-silent : (ws : Values) (v : Value) → Silent (built ws v).0
 unfolding built charged pure
@@ -45,15 +44,15 @@ only_add-silent div r c = nothing
 only_add-silent mul r c = nothing
 only_add-silent rem r c = nothing
 
-int-silent : (a : IntAnswer) → Silent (int_rule a).0
+int-silent : (a : Answered ℤ ArithmeticError) → Silent (int_rule a).0
 unfolding int_rule pure fail
-int-silent (IntAnswer.Value z) = nothing
-int-silent (IntAnswer.Error e) = nothing
+int-silent (Ok z) = nothing
+int-silent (Err e) = nothing
 
-uint-silent : (a : UintAnswer) → Silent (uint_rule a).0
+uint-silent : (a : Answered ℕ ArithmeticError) → Silent (uint_rule a).0
 unfolding uint_rule pure fail
-uint-silent (UintAnswer.Value n) = nothing
-uint-silent (UintAnswer.Error e) = nothing
+uint-silent (Ok n) = nothing
+uint-silent (Err e) = nothing
 
 text-silent : (kind : List ℕ → Scalar) (s : List ℕ) → Silent (built_text kind s).0
 unfolding built_text charged pure
@@ -100,12 +99,10 @@ pub not-silent : (v : Value) → Silent (not_rule v).0
 unfolding not_rule
 not-silent v = covered-or_fail NoOverload (bool_of v) _ (λ b e. truth-silent _)
 
-ordered-silent : (o : Order) → Silent (ordered o).0
-unfolding ordered pure fail
-ordered-silent Order.Less = nothing
-ordered-silent Order.Equal = nothing
-ordered-silent Order.Greater = nothing
-ordered-silent Order.Unordered = nothing
+ordered-silent : (o : Option Ordering) → Silent (ordered o).0
+unfolding ordered pure fail or_fail
+ordered-silent None = nothing
+ordered-silent (Some o) = nothing
 
 pub compare-silent : (c : Comparison) (v w : Value) → Silent (compare_rule c v w).0
 unfolding compare_rule compare_values
@@ -139,14 +136,14 @@ optional-silent v = built-silent _ (optional_of v)
 has-silent : (u : Unwrapped) → Silent (has_value_rule u).0
 unfolding has_value_rule fail
 has-silent (NotOptional v) = nothing
-has-silent (Some v) = truth-silent true
-has-silent None = truth-silent false
+has-silent (PresentOptional v) = truth-silent true
+has-silent NoneOptional = truth-silent false
 
 value-silent : (u : Unwrapped) → Silent (value_rule u).0
 unfolding value_rule fail pure
 value-silent (NotOptional v) = nothing
-value-silent (Some v) = nothing
-value-silent None = nothing
+value-silent (PresentOptional v) = nothing
+value-silent NoneOptional = nothing
 
 pub call-silent : (f : Function) (v : Value) → Silent (call_rule f v).0
 unfolding call_rule
@@ -158,8 +155,8 @@ call-silent value_call v = value-silent (unwrap_optional v)
 pub default-silent : (v : Value) (u : Unwrapped) → Silent (or_value_rule v u).0
 unfolding or_value_rule fail pure
 default-silent d (NotOptional v) = nothing
-default-silent d (Some v) = nothing
-default-silent d None = nothing
+default-silent d (PresentOptional v) = nothing
+default-silent d NoneOptional = nothing
 
 choose-silent : {A : Type 0} (r s : Rule A) (b : Bool) → Silent r.0 → Silent s.0 → Silent (choose r s b).0
 unfolding choose
@@ -256,8 +253,8 @@ present-index-pairs v i = optionally-pairs (look_up v i) (lookup-pairs v i)
 optional-field-pairs : (field : List ℕ) (u : Unwrapped) → Covered OnlyPairs (opt_select_in field u).0
 unfolding opt_select_in pure
 optional-field-pairs field (NotOptional v) = present-index-pairs v (scalar (string field))
-optional-field-pairs field (Some v) = present-index-pairs v (scalar (string field))
-optional-field-pairs field None = nothing
+optional-field-pairs field (PresentOptional v) = present-index-pairs v (scalar (string field))
+optional-field-pairs field NoneOptional = nothing
 
 pub optional-select-pairs : (u : Unwrapped) (w : Value) → Covered OnlyPairs (opt_select_rule u w).0
 unfolding opt_select_rule
@@ -265,10 +262,10 @@ optional-select-pairs u w = covered-or_fail FunctionError (string_of w) _ (λ fi
 
 add-silent : (es : Entries) (k : Key) (v : Value) (o : Option Value) → Silent (add_new es k v o).0
 unfolding add_new pure fail
-add-silent es k v none = nothing
-add-silent es k v (some w) = nothing
+add-silent es k v None = nothing
+add-silent es k v (Some w) = nothing
 
 pub insert-pairs : (es : Entries) (k : Key) (o : Option Value) → Covered OnlyPairs (insert es k o).0
 unfolding insert pure
-insert-pairs es k none = nothing
-insert-pairs es k (some v) = pairs-compared (find (key_scalar k) es) _ (add-silent es k v _)
+insert-pairs es k None = nothing
+insert-pairs es k (Some v) = pairs-compared (find (key_scalar k) es) _ (add-silent es k v _)

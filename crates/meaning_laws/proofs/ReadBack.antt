@@ -5,7 +5,7 @@ use native.Mathlib.Omega.{arith}
 use native.Mathlib.Nat.{zero-add}
 use mathlib.Core.Path.{◌≡◌, refl, ap}
 use mathlib.Core.List.{List, [], ◌∷◌}
-use mathlib.Core.Option.{some}
+use Rattle.std.specs.Prelude.{Some}
 use mathlib.Core.Bool.{true, false}
 use lib.ListN.{length}
 use lib.Dec.{eqb}
@@ -35,11 +35,11 @@ use Rattle.meaning_laws.proofs.TableForms.{nests-some, part-nests}
 whole : (q : ℕ) → eqb q q ≡ true
 whole q = eq-eqb q q refl
 
-span-read : (text s : List ℕ) (offset : ℕ) → Excerpt text s offset → span text offset (length s) ≡ some s
+span-read : (text s : List ℕ) (offset : ℕ) → Excerpt text s offset → span text offset (length s) ≡ Some s
 unfolding span
 span-read text s offset x = rw (le-leb (offset + length s) (length text) x.within, x.same)
 
-utf8-read : (s : List ℕ) → well_formed s ≡ true → utf8 (some s) ≡ some s
+utf8-read : (s : List ℕ) → well_formed s ≡ true → utf8 (Some s) ≡ Some s
 unfolding utf8
 utf8-read s w = rw w
 

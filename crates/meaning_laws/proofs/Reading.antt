@@ -2,9 +2,9 @@
 -- Rests on nothing but the definition of a reading. Assumes nothing.
 use Prim.Native.Nat.{ℕ}
 use mathlib.Core.Path.{◌≡◌, refl, subst}
-use mathlib.Core.Option.{Option, none, some}
+use Rattle.std.specs.Prelude.{Option, None, Some}
 use mathlib.Core.Bool.{Bool, true, false}
-use Rattle.meaning.specs.Errors.{Refusal}
+use Rattle.meaning.specs.declared.refusal.Reason.{Reason}
 use Rattle.meaning.specs.Heads.{Got, got, refused, ◌>>=◌, ◌>>◌, demand, or_refuse}
 use Rattle.meaning_laws.specs.Each.{Only, Reads}
 use Rattle.meaning_laws.proofs.Fine.{Perhaps}
@@ -12,7 +12,7 @@ use Rattle.meaning_laws.proofs.Fine.{Perhaps}
 pub reads-got : {A : Type 0} {P : A → Type 0} (a : A) → P a → Reads P (got a)
 reads-got a h = record { only = h }
 
-pub reads-refused : {A : Type 0} {P : A → Type 0} {r : Refusal} {p : ℕ} → Reads {A = A} P (refused r p)
+pub reads-refused : {A : Type 0} {P : A → Type 0} {r : Reason} {p : ℕ} → Reads {A = A} P (refused r p)
 reads-refused = record { only = tt }
 
 pub reads-bind : {A B : Type 0} {P : A → Type 0} {R : B → Type 0} {g : Got A} {k : A → Got B} → Reads P g → ((a : A) → P a → Reads R (k a))
@@ -35,15 +35,15 @@ unfolding ◌>>◌ ◌>>=◌
 reads_then (got a) h = h
 reads_then (refused r p) h = reads-refused
 
-pub reads-demand : {B : Type 0} {R : B → Type 0} (b : Bool) (r : Refusal) (p : ℕ) {h : Got B} → (b ≡ true → Reads R h) → Reads R (◌>>◌ (demand b r p) h)
+pub reads-demand : {B : Type 0} {R : B → Type 0} (b : Bool) (r : Reason) (p : ℕ) {h : Got B} → (b ≡ true → Reads R h) → Reads R (◌>>◌ (demand b r p) h)
 unfolding ◌>>◌ ◌>>=◌ demand
 reads-demand true r p h = h refl
 reads-demand false r p h = reads-refused
 
-pub reads-or_refuse : {A : Type 0} {P : A → Type 0} (r : Refusal) (p : ℕ) (o : Option A) → Perhaps P o → Reads P (or_refuse r p o)
+pub reads-or_refuse : {A : Type 0} {P : A → Type 0} (r : Reason) (p : ℕ) (o : Option A) → Perhaps P o → Reads P (or_refuse r p o)
 unfolding or_refuse
-reads-or_refuse r p none h = reads-refused
-reads-or_refuse r p (some a) h = reads-got a h
+reads-or_refuse r p None h = reads-refused
+reads-or_refuse r p (Some a) h = reads-got a h
 
 pub reads-weaker : {A : Type 0} {P R : A → Type 0} {g : Got A} → ((a : A) → P a → R a) → Reads P g → Reads R g
 reads-weaker {A} {P} {R} {g} weaker h = go g h.only

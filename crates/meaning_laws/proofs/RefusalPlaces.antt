@@ -4,12 +4,14 @@ use Prim.Native.Nat.{ℕ, zero, suc, ◌≤◌}
 use native.Mathlib.Omega.{arith}
 use mathlib.Core.Path.{◌≡◌, refl}
 use mathlib.Core.List.{List}
-use mathlib.Core.Option.{Option, none, some}
+use Rattle.std.specs.Prelude.{Option, None, Some}
 use mathlib.Core.Bool.{Bool, true, false, ◌&&◌}
-use lib.ListN.{length, get_elem?}
+use lib.ListN.{length}
+use Rattle.std.specs.Prelude.{slice_get}
 use lib.Dec.{leb, eqb}
 use Rattle.meaning.specs.Limits.{shortest_table, longest_table, deepest_record}
-use Rattle.meaning.specs.Errors.{Refusal, TableLength, WrongExtent, BytesAfterRoot}
+use Rattle.meaning.specs.declared.refusal.Reason.{Reason}
+use Rattle.meaning.specs.declared.refusal.Reason.TheVariants.{TableLength, WrongExtent, BytesAfterRoot}
 use Rattle.meaning.specs.Expr.{Expr}
 use Rattle.meaning.specs.Kinds.{ExprKind, null_kind, bool_kind, int_kind, uint_kind, double_kind, string_kind, bytes_kind, name_kind, unary_kind, binary_kind}
 use Rattle.meaning.specs.Kinds.{conditional_kind, select_kind, list_kind, map_kind, comprehension_kind, function_kind, Kind, mark, expr}
@@ -42,11 +44,11 @@ module _ {A B : Type 0} (p end : ℕ) where
   inside-next low (got a) k h i f = f a.0 a.1 i.within.0 i.within.1
   inside-next low (refused r q) k h i f = record { within = (omega (arith, i.within.0), i.within.1) }
 
-  inside-chosen : (r : Refusal) (o : Option A) (k : A → Got (B × ℕ)) → p ≤ end → ((a : A) → Inside p end (k a))
+  inside-chosen : (r : Reason) (o : Option A) (k : A → Got (B × ℕ)) → p ≤ end → ((a : A) → Inside p end (k a))
       → Inside p end (◌>>=◌ (or_refuse r p o) k)
   unfolding ◌>>=◌ or_refuse
-  inside-chosen r none k h f = record { within = (omega arith, h) }
-  inside-chosen r (some a) k h f = f a
+  inside-chosen r None k h f = record { within = (omega arith, h) }
+  inside-chosen r (Some a) k h f = f a
 
 inside-end : {A : Type 0} (p q end : ℕ) (x : A) → p ≤ q → q ≤ end → Inside p end (got (x, q))
 inside-end p q end x h k = record { within = (h, k) }
@@ -71,12 +73,12 @@ unfolding ◌>>=◌
 only_next p (got a) k o f = f a
 only_next p (refused r q) k o f = o
 
-only-chosen : {A : Type 0} (p : ℕ) (r : Refusal) (o : Option A) → Only p (or_refuse r p o)
+only-chosen : {A : Type 0} (p : ℕ) (r : Reason) (o : Option A) → Only p (or_refuse r p o)
 unfolding or_refuse
-only-chosen p r none = refl
-only-chosen p r (some a) = tt
+only-chosen p r None = refl
+only-chosen p r (Some a) = tt
 
-only-demand : (p : ℕ) (r : Refusal) (t : Bool) → Only p (demand t r p)
+only-demand : (p : ℕ) (r : Reason) (t : Bool) → Only p (demand t r p)
 unfolding demand
 only-demand p r true = tt
 only-demand p r false = refl
@@ -85,7 +87,7 @@ module _ (width : ℕ) (table : List ℕ) where
   only-head : (p end : ℕ) → Only p (head_at width table p end)
   unfolding head_at row_at ◌>>◌
   only-head p end =
-      only_next p (row_at width table p) _ (only_next p (or_refuse _ p (get_elem? table p)) _ (only-chosen p _ _) (λ b. only-chosen p _ _))
+      only_next p (row_at width table p) _ (only_next p (or_refuse _ p (slice_get table p)) _ (only-chosen p _ _) (λ b. only-chosen p _ _))
       (λ r. only_next p (demand _ _ p) _ (only-demand p _ _) (λ u. tt))
 
   inside-head : {A : Type 0} (p end : ℕ) (k : Head → Got (A × ℕ)) → p ≤ end → ((h : Head) → Opened width table p end h → Inside p end (k h))
@@ -124,7 +126,7 @@ module _ (text : List ℕ) (R : Reader Expr) (P : Reader Part) (bound_r : Bounde
   operand q k l u f = inside-next p h.end q (R q h.end) k l (bound_r q h.end u) f
 
   -- a field that is looked up
-  pick : {A B : Type 0} (r : Refusal) (o : Option A) (k : A → Got (B × ℕ)) → ((a : A) → Inside p h.end (k a))
+  pick : {A B : Type 0} (r : Reason) (o : Option A) (k : A → Got (B × ℕ)) → ((a : A) → Inside p h.end (k a))
       → Inside p h.end (◌>>=◌ (or_refuse r p o) k)
   pick r o k f = inside-chosen p h.end r o k (omega arith) f
 
@@ -204,7 +206,7 @@ levels-inside width table text (suc left) =
     )
 
 -- A table is refused at one of its bytes or at its end.
-pub refused-inside : (table text : List ℕ) (r : Refusal) (p : ℕ) → read_table table text ≡ refused r p → p ≤ length table
+pub refused-inside : (table text : List ℕ) (r : Reason) (p : ℕ) → read_table table text ≡ refused r p → p ≤ length table
 unfolding read_table root_at ◌>>=◌ ◌>>◌ demand
 refused-inside table text r p e = short (leb shortest_table (length table) && leb (length table) longest_table) e
   where

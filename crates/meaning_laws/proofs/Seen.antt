@@ -1,7 +1,7 @@
 -- What a comprehension sees of its parts runs alike where they do: the lists, the sums and the append steps that it finds in them.
 -- Rests on the congruence of the rules. Assumes nothing.
 use Prim.Native.Nat.{ℕ}
-use mathlib.Core.Option.{Option, none, some, map}
+use Rattle.std.specs.Prelude.{Option, None, Some, option_map}
 use mathlib.Core.Bool.{Bool, true, false, ◌&&◌, cond}
 use lib.Dec.{eqb}
 use Rattle.meaning.specs.Value.{Values}
@@ -13,16 +13,16 @@ use Rattle.meaning_laws.proofs.Congruence.{Alike, StepAlike, PathAlike}
 
 module _ (these : ℕ → Type 0) where
   abbrev ItemsAlike : Option (Scope → Eval Values) → Type 0
-  ItemsAlike none = Unit {0}
-  ItemsAlike (some items) = Alike these items
+  ItemsAlike None = Unit {0}
+  ItemsAlike (Some items) = Alike these items
 
   abbrev SumAlike : Option (ℕ × (Scope → Eval Values)) → Type 0
-  SumAlike none = Unit {0}
-  SumAlike (some x) = Alike these x.1
+  SumAlike None = Unit {0}
+  SumAlike (Some x) = Alike these x.1
 
   abbrev AppendsAlike : Option (ℕ × AppendStep) → Type 0
-  AppendsAlike none = Unit {0}
-  AppendsAlike (some x) = StepAlike these x.1
+  AppendsAlike None = Unit {0}
+  AppendsAlike (Some x) = StepAlike these x.1
 
   -- whatever runs in it does so alike
   pub record LookAlike (l : Look) : Type 0 where
@@ -35,14 +35,14 @@ module _ (these : ℕ → Type 0) where
 
   a_fold-alike : (fold : LogicalFold) (n : Option ℕ) → LookAlike (a_fold fold n)
   unfolding a_fold
-  a_fold-alike fold none = nothing-alike
-  a_fold-alike fold (some n) = record { lists = tt; adds = tt; appends = tt }
+  a_fold-alike fold None = nothing-alike
+  a_fold-alike fold (Some n) = record { lists = tt; adds = tt; appends = tt }
 
   a_sum-alike : (n : Option ℕ) (items : Option (Scope → Eval Values)) → ItemsAlike items → LookAlike (a_sum n items)
   unfolding a_sum
-  a_sum-alike none items h = nothing-alike
-  a_sum-alike (some n) none h = nothing-alike
-  a_sum-alike (some n) (some items) h = record { lists = tt; adds = h; appends = (tt, h) }
+  a_sum-alike None items h = nothing-alike
+  a_sum-alike (Some n) None h = nothing-alike
+  a_sum-alike (Some n) (Some items) h = record { lists = tt; adds = h; appends = (tt, h) }
 
   arith_look-alike : (o : Arith) (l r : Look) → LookAlike r → LookAlike (arith_look o l r)
   unfolding arith_look
@@ -65,27 +65,27 @@ module _ (these : ℕ → Type 0) where
   binary_look-alike is_in l r h = nothing-alike
 
   guarded-alike : (guard : Meaning) → Alike these guard → (n : ℕ) (sum : Option (ℕ × (Scope → Eval Values))) → SumAlike sum
-      → AppendsAlike (map (guarded_by guard n) (of_name n sum))
+      → AppendsAlike (option_map (guarded_by guard n) (of_name n sum))
   unfolding of_name guarded_by
-  guarded-alike guard g n none h = tt
-  guarded-alike guard g n (some x) h = go (eqb x.0 n)
+  guarded-alike guard g n None h = tt
+  guarded-alike guard g n (Some x) h = go (eqb x.0 n)
     where
-      go : (b : Bool) → AppendsAlike (map (guarded_by guard n) (cond b (some x.1) none))
+      go : (b : Bool) → AppendsAlike (option_map (guarded_by guard n) (cond b (Some x.1) None))
       go true = (g, h)
       go false = tt
 
   pub a_conditional-alike : (guard : Meaning) → Alike these guard → (sum : Option (ℕ × (Scope → Eval Values))) → SumAlike sum
       → (n : Option ℕ) → LookAlike (a_conditional guard sum n)
   unfolding a_conditional
-  a_conditional-alike guard g sum h none = nothing-alike
-  a_conditional-alike guard g sum h (some n) = record { lists = tt; adds = tt; appends = guarded-alike guard g n sum h }
+  a_conditional-alike guard g sum h None = nothing-alike
+  a_conditional-alike guard g sum h (Some n) = record { lists = tt; adds = tt; appends = guarded-alike guard g n sum h }
 
   of_name-alike : (a : ℕ) (x : Option (ℕ × AppendStep)) → AppendsAlike x → PathAlike these (of_name a x)
   unfolding of_name
-  of_name-alike a none h = tt
-  of_name-alike a (some x) h = go (eqb x.0 a)
+  of_name-alike a None h = tt
+  of_name-alike a (Some x) h = go (eqb x.0 a)
     where
-      go : (b : Bool) → PathAlike these (cond b (some x.1) none)
+      go : (b : Bool) → PathAlike these (cond b (Some x.1) None)
       go true = h
       go false = tt
 
@@ -94,6 +94,6 @@ module _ (these : ℕ → Type 0) where
   append_step-alike a condition step result h =
       go (condition.is_literal && named a result.is_name) (of_name a step.appends) (of_name-alike a step.appends h.appends)
     where
-      go : (b : Bool) (path : Option AppendStep) → PathAlike these path → PathAlike these (cond b path none)
+      go : (b : Bool) (path : Option AppendStep) → PathAlike these path → PathAlike these (cond b path None)
       go true path h = h
       go false path h = tt

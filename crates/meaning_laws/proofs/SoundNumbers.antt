@@ -3,7 +3,7 @@
 use Prim.Native.Nat.{ℕ, ◌^◌, ◌<◌}
 use mathlib.Core.Path.{◌≡◌}
 use mathlib.Core.Bool.{true}
-use mathlib.Core.Option.{Option, none, some}
+use Rattle.std.specs.Prelude.{Option, None, Some}
 use lib.IntN.{ℤ}
 use Rattle.numbers.specs.Int.{in_range}
 use Rattle.numbers.specs.Double.{neg_bits}
@@ -31,8 +31,8 @@ uint-in-range mul a b h = uint-mul a b
 uint-in-range rem a b h = uint-rem a b h
 
 abbrev pub DoubleInRange : Option ℕ → Type 0
-DoubleInRange none = Unit {0}
-DoubleInRange (some d) = d < 2 ^ 64
+DoubleInRange None = Unit {0}
+DoubleInRange (Some d) = d < 2 ^ 64
 
 -- Arithmetic on Double gives 64 bits.
 pub double-in-range : (o : Arith) (a b : ℕ) → DoubleInRange (double_arith o a b)

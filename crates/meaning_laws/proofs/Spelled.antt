@@ -2,7 +2,7 @@
 -- its lists and maps do. Rests on MatchingKeys and Reading. Assumes nothing.
 use Prim.Native.Nat.{ℕ, max, ◌≤◌}
 use mathlib.Core.Path.{◌≡◌, refl}
-use mathlib.Core.Option.{Option, none, some}
+use Rattle.std.specs.Prelude.{Option, None, Some}
 use mathlib.Core.Bool.{true, not}
 use native.Mathlib.Omega.{arith}
 use borrow.Author.Tests.{leb-true}
@@ -68,7 +68,7 @@ mutual
 -- ---- keys
 
 abbrev NewKey : Entries → Key → Type 0
-NewKey es k = SoundScalar (key_scalar k) × ((find (key_scalar k) es).1 ≡ none)
+NewKey es k = SoundScalar (key_scalar k) × ((find (key_scalar k) es).1 ≡ None)
 
 key-sound : (x : Scalar) → SoundScalar x → Perhaps (λ k. SoundScalar (key_scalar k)) (key_in x)
 unfolding key_in key_scalar
@@ -81,15 +81,15 @@ key-sound (string s) f = f
 key-sound (bytes s) f = tt
 
 -- what was demanded not to be found is absent
-pub was-not-found : (o : Option Value) → not (is_found o) ≡ true → o ≡ none
+pub was-not-found : (o : Option Value) → not (is_found o) ≡ true → o ≡ None
 unfolding is_found
-was-not-found none e = refl
-was-not-found (some v) e = cc
+was-not-found None e = refl
+was-not-found (Some v) e = cc
 
 new_key-sound : (es : Entries) (p : ℕ) (o : Option Key) → Perhaps (λ k. SoundScalar (key_scalar k)) o → Reads (NewKey es) (new_key es p o)
 unfolding new_key
-new_key-sound es p none h = reads-refused
-new_key-sound es p (some k) h = reads-demand _ _ p (λ e. reads-got k (h, was-not-found (find (key_scalar k) es).1 e))
+new_key-sound es p None h = reads-refused
+new_key-sound es p (Some k) h = reads-demand _ _ p (λ e. reads-got k (h, was-not-found (find (key_scalar k) es).1 e))
 
 key_literal-sound : (es : Entries) (l : Literal) → SoundLiteral l → Reads (NewKey es) (key_literal es l)
 unfolding key_literal

@@ -3,12 +3,14 @@
 -- Assumes nothing.
 use Prim.Native.Nat.{ℕ, ◌≤◌}
 use mathlib.Core.Path.{◌≡◌, refl, ap, subst}
-use mathlib.Core.Option.{Option, none, some}
+use Rattle.std.specs.Prelude.{Option, None, Some}
 use mathlib.Core.Bool.{Bool, true, false}
 use native.Mathlib.Omega.{arith}
 use borrow.Author.Tests.{leb-true, le-leb}
 use Rattle.meaning.specs.Limits.{deepest_value}
-use Rattle.meaning.specs.Errors.{Refusal, ErrorAt, UnsoundBinding, NotALiteral}
+use Rattle.meaning.specs.Errors.{ErrorAt}
+use Rattle.meaning.specs.declared.refusal.Reason.{Reason}
+use Rattle.meaning.specs.declared.refusal.Reason.TheVariants.{UnsoundBinding, NotALiteral}
 use Rattle.meaning.specs.Value.{Key, key_in, Value, Entries, empty, add_entry, nesting}
 use Rattle.meaning.specs.Expr.{Expr, literal, name, unary, binary, conditional, select, list_of, map_of, comprehension, call, none_call, or_value, Elements, no_elements, element, marked_element, Pairs, no_pairs, pair, marked_pair}
 use Rattle.meaning.specs.Run.{value, error}
@@ -22,24 +24,24 @@ use Rattle.meaning_laws.proofs.SpelledRuns.{spelling-runs, running-spells, spell
 
 -- ---- reasons
 
-abbrev Blame : {A : Type 0} → Refusal → Got A → Type 0
+abbrev Blame : {A : Type 0} → Reason → Got A → Type 0
 Blame why (got a) = Unit {0}
 Blame why (refused r p) = r ≡ why
 
 -- if it is refused, then for this reason
-record Blames {A : Type 0} (why : Refusal) (g : Got A) : Type 0 where
+record Blames {A : Type 0} (why : Reason) (g : Got A) : Type 0 where
   blame : Blame why g
 
-blamed : {A : Type 0} {why r : Refusal} {p : ℕ} {g : Got A} → Blames why g → g ≡ refused r p → r ≡ why
+blamed : {A : Type 0} {why r : Reason} {p : ℕ} {g : Got A} → Blames why g → g ≡ refused r p → r ≡ why
 blamed {A} {why} b e = subst (λ (x : Got A). Blame why x) e b.blame
 
-it-blames : {A : Type 0} {why : Refusal} {p : ℕ} → Blames {A = A} why (refused why p)
+it-blames : {A : Type 0} {why : Reason} {p : ℕ} → Blames {A = A} why (refused why p)
 it-blames = record { blame = refl }
 
-got-blames : {A : Type 0} {why : Refusal} {a : A} → Blames why (got a)
+got-blames : {A : Type 0} {why : Reason} {a : A} → Blames why (got a)
 got-blames = record { blame = tt }
 
-blames-bind : {A B : Type 0} {why : Refusal} {g : Got A} {k : A → Got B} → Blames why g → ((a : A) → Blames why (k a)) → Blames why (◌>>=◌ g k)
+blames-bind : {A B : Type 0} {why : Reason} {g : Got A} {k : A → Got B} → Blames why g → ((a : A) → Blames why (k a)) → Blames why (◌>>=◌ g k)
 unfolding ◌>>=◌
 blames-bind {A} {B} {why} {g} {k} b h = go g b.blame
   where
@@ -76,18 +78,18 @@ mutual
   literal-pairs-blame (marked_pair k p e ps) = blames-bind (literal-blames k) (λ l. it-blames)
 
 -- A binding's table that is not made of literals, lists and maps alone is refused for that.
-pub literal-reason : (e : Expr) (why : Refusal) (p : ℕ) → literal_of e ≡ refused why p → why ≡ NotALiteral
+pub literal-reason : (e : Expr) (why : Reason) (p : ℕ) → literal_of e ≡ refused why p → why ≡ NotALiteral
 literal-reason e why p h = blamed (literal-blames e) h
 
-demand-blames : (b : Bool) (why : Refusal) (p : ℕ) → Blames why (demand b why p)
+demand-blames : (b : Bool) (why : Reason) (p : ℕ) → Blames why (demand b why p)
 unfolding demand
 demand-blames true why p = got-blames
 demand-blames false why p = it-blames
 
 key-blames : (es : Entries) (p : ℕ) (o : Option Key) → Blames UnsoundBinding (new_key es p o)
 unfolding new_key ◌>>◌
-key-blames es p none = it-blames
-key-blames es p (some k) = blames-bind (demand-blames _ _ p) (λ u. got-blames)
+key-blames es p None = it-blames
+key-blames es p (Some k) = blames-bind (demand-blames _ _ p) (λ u. got-blames)
 
 mutual
   unfolding spelled key_literal
@@ -116,13 +118,13 @@ unfolding spelled_root ◌>>◌
 root-blames l = blames-bind (demand-blames _ _ _) (λ u. spelled-blames l)
 
 -- One that is so made is refused only for its keys or its nesting.
-pub root-reason : (l : Literal) (why : Refusal) (p : ℕ) → spelled_root l ≡ refused why p → why ≡ UnsoundBinding
+pub root-reason : (l : Literal) (why : Reason) (p : ℕ) → spelled_root l ≡ refused why p → why ≡ UnsoundBinding
 root-reason l why p h = blamed (root-blames l) h
 
 -- ---- the root
 
 -- One that nests no deeper than values may is refused where its spelling is.
-pub root-refused : (l : Literal) → literal_nesting l ≤ deepest_value → (why : Refusal) (p : ℕ) → spelled l ≡ refused why p → spelled_root l ≡ refused why p
+pub root-refused : (l : Literal) → literal_nesting l ≤ deepest_value → (why : Reason) (p : ℕ) → spelled l ≡ refused why p → spelled_root l ≡ refused why p
 unfolding spelled_root ◌>>◌ ◌>>=◌ demand
 root-refused l h why p k = rw (le-leb (literal_nesting l) deepest_value h, k)
 

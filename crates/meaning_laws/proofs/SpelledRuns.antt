@@ -2,10 +2,13 @@
 -- no value exactly where evaluation ends in an error. And how deep that value nests. Rests on Reading and Spelled. Assumes nothing.
 use Prim.Native.Nat.{ℕ, max}
 use mathlib.Core.Path.{◌≡◌, refl, sym, ◌∙◌, ap, subst}
-use mathlib.Core.Option.{Option, none, some, bind}
+use Rattle.std.specs.Prelude.{Option, None, Some}
+use Rattle.meaning.specs.Options.{bind}
 use mathlib.Core.Bool.{false, not}
 use native.Mathlib.Omega.{arith}
-use Rattle.meaning.specs.Errors.{Refusal, ErrorAt, UnsupportedKeyType, UnsoundBinding}
+use Rattle.meaning.specs.Errors.{ErrorAt, UnsupportedKeyType}
+use Rattle.meaning.specs.declared.refusal.Reason.{Reason}
+use Rattle.meaning.specs.declared.refusal.Reason.TheVariants.{UnsoundBinding}
 use Rattle.meaning.specs.Value.{Key, key_scalar, key_in, key_of, scalar_of, Value, list, map, Values, nil, cons, Entries, empty, join, add_entry, nesting, nesting_in, nesting_over}
 use Rattle.meaning.specs.Expr.{Expr, literal, name, unary, binary, conditional, select, list_of, map_of, comprehension, call, none_call, or_value, Elements, no_elements, element, marked_element, Pairs, no_pairs, pair, marked_pair}
 use Rattle.meaning.specs.Comparison.{find, compared}
@@ -117,7 +120,7 @@ module _ (es : Entries) (m : Literal) (part : Eval Value) (b : Alike same (spell
   run_from o = Run.◌>>=◌ (or_fail UnsupportedKeyType o) (λ k. Run.◌>>=◌ (operand part) (λ w. insert es k (kept false w)))
 
   twice : (k : Key) (w : Value) (n : ℕ) (x : Result ErrorAt Value)
-      → (e : Raised) × ((on_value (λ v. Run.◌>>=◌ (compared (n, some w)) (add_new es k v)) (from_operand x)).1 ≡ error e)
+      → (e : Raised) × ((on_value (λ v. Run.◌>>=◌ (compared (n, Some w)) (add_new es k v)) (from_operand x)).1 ≡ error e)
   unfolding Run.◌>>=◌ after charged on_value compared pure from_operand add_new fail
   twice k w n (value v) = (_, refl)
   twice k w n (error e) = (_, refl)
@@ -126,15 +129,15 @@ module _ (es : Entries) (m : Literal) (part : Eval Value) (b : Alike same (spell
       → Alike same (spelled_from (◌>>◌ (demand (not (is_found o)) UnsoundBinding p) (got k)))
       (on_value (λ w. Run.◌>>=◌ (compared (n, o)) (add_new es k w)) (from_operand part.1)).1
   unfolding ◌>>=◌ ◌>>◌ demand is_found add_new pure Run.◌>>=◌ after charged on_value compared
-  tested k p n none = alike-bind _ (alike-through from_operand operand-keeps b) (λ v. record { comes = refl })
-  tested k p n (some w) = record { comes = twice k w n part.1 }
+  tested k p n None = alike-bind _ (alike-through from_operand operand-keeps b) (λ v. record { comes = refl })
+  tested k p n (Some w) = record { comes = twice k w n part.1 }
 
   from_key : (p : ℕ) (o : Option Key) → Alike same (spelled_from (new_key es p o)) (run_from o).1
   unfolding new_key ◌>>=◌ Run.◌>>=◌ after charged on_value or_fail fail pure operand insert kept
-  from_key p none = record { comes = (_, refl) }
-  from_key p (some k) = tested k p (find (key_scalar k) es).0 (find (key_scalar k) es).1
+  from_key p None = record { comes = (_, refl) }
+  from_key p (Some k) = tested k p (find (key_scalar k) es).0 (find (key_scalar k) es).1
 
-  no_key : {A : Type 0} (container : A → Value) → ((a : A) → key_of (container a) ≡ none) → (key : Eval Value) (g : Got A)
+  no_key : {A : Type 0} (container : A → Value) → ((a : A) → key_of (container a) ≡ None) → (key : Eval Value) (g : Got A)
       → Alike same (◌>>=◌ g (λ a. got (container a))) key.1 → (e : Raised) × ((entry_rule false key part es).1 ≡ error e)
   unfolding ◌>>=◌ entry_rule Run.◌>>=◌ after charged on_value operand from_operand or_fail fail
   no_key container never key (got a) x = (by_rule UnsupportedKeyType, rw (x.comes, never a))
@@ -205,7 +208,7 @@ module _ (e : Expr) (l : Literal) (made : literal_of e ≡ got l) where
   spelling-runs v h s = subst (λ (g : Got Value). Comes same g (run e s).1) h (alike-spelled s).comes
 
   -- Where it spells none, for a key that is no key or matches an earlier one, evaluating it is an error.
-  pub unspelled-fails : (why : Refusal) (p : ℕ) → spelled l ≡ refused why p → (s : Scope) → (d : ErrorAt) × ((run e s).1 ≡ error d)
+  pub unspelled-fails : (why : Reason) (p : ℕ) → spelled l ≡ refused why p → (s : Scope) → (d : ErrorAt) × ((run e s).1 ≡ error d)
   unspelled-fails why p h s = subst (λ (g : Got Value). Comes same g (run e s).1) h (alike-spelled s).comes
 
   -- So a value that evaluating it gives, over any bindings, is the one that it spells.

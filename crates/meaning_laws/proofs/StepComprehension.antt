@@ -4,7 +4,7 @@ use Prim.Native.Nat.{ℕ}
 use mathlib.Core.Path.{◌≡◌, refl, sym, ◌∙◌, ap, subst}
 use mathlib.Core.Logic.{◌⊎◌, inl, inr}
 use mathlib.Core.List.{List, [], ◌∷◌, ◌++◌, append_assoc}
-use mathlib.Core.Option.{Option, none, some}
+use Rattle.std.specs.Prelude.{Option, None, Some}
 use native.Mathlib.Omega.{arith}
 use Rattle.meaning.specs.Value.{Scalar, Value, list, nil}
 use Rattle.meaning.specs.Expr.{LogicalFold, Expr, literal, name, unary, binary, conditional, select, list_of, map_of, comprehension, call, none_call, or_value}
@@ -38,14 +38,14 @@ InsideAccounted (call p f e) = Unit {0}
 InsideAccounted (none_call p) = Unit {0}
 InsideAccounted (or_value p target argument) = Unit {0}
 
-no-guard : {g : Expr} → none ≡ some g → ⊥
+no-guard : {g : Expr} → None ≡ Some g → ⊥
 no-guard e = let z : ◌≡◌ {A = ℕ} 0 1 = cc in omega arith
 
-the-guard : {g h : Expr} → some g ≡ some h → g ≡ h
+the-guard : {g h : Expr} → Some g ≡ Some h → g ≡ h
 the-guard e = cc
 
 guard-accounted : {a : ℕ} {next : Expr} {guard : Option Expr} {items : Expr} → Appends a next guard items → InsideAccounted next →
-    (g : Expr) → guard ≡ some g → Accounted g
+    (g : Expr) → guard ≡ Some g → Accounted g
 guard-accounted always c g e = absurd (no-guard e)
 guard-accounted guarded c g e = subst Accounted (the-guard e) c.0
 
@@ -57,7 +57,7 @@ items-list-accounted guarded c = c.1
 
 way-open : {a : ℕ} {next guard items : _} {condition result : Expr} (q n : ℕ) (x : Scalar) → condition ≡ literal q x → result ≡ name n a →
     (k : Seen a next guard items) →
-    append_step a (look condition) (look next) (look result) ≡ some (record { guard = guard_of guard; items = k.m })
+    append_step a (look condition) (look next) (look result) ≡ Some (record { guard = guard_of guard; items = k.m })
 way-open {a} {next} {result} q n x c r k =
     ap (λ e. append_step a (look e) (look next) (look result)) c ∙ ap (λ e. append_step a (look (literal q x)) (look next) (look e)) r ∙ path-open q n x k
 
@@ -77,7 +77,7 @@ module _ (p a i : ℕ) (range init condition next result : Expr) where
   parts = parts_of a i fold path range init condition next result
 
   append-begins : {s t : Scope} {w : Value} {xs : List Value} {before : Trace} {f : Expr} (k : WrittenAppend a condition next result) →
-      (run init s).1 ≡ value (list nil) → (run range s).1 ≡ value w → items_of w ≡ some xs →
+      (run init s).1 ≡ value (list nil) → (run range s).1 ≡ value w → items_of w ≡ Some xs →
       InAppend i condition k.guard k.items xs s before f t →
       Begins whole s (step ∷ ((run init s).0 ++ ((run range s).0 ++ before))) f t
   append-begins {s} {t} {w} {xs} {before} {f} k e g q b =
@@ -103,11 +103,11 @@ module _ (p a i : ℕ) (range init condition next result : Expr) where
       begun-accounted whole s p _ refl (rule-accounted parts s (operand-steps [] init_of of_init)
       (λ g. operand-steps (run init s).0 (range_of g) of_range) (λ v w xs e f q. go v w xs e f q (takes-either a condition next result v)))
     where
-      go : (v w : Value) (xs : List Value) → (run init s).1 ≡ value v → (run range s).1 ≡ value w → items_of w ≡ some xs →
+      go : (v w : Value) (xs : List Value) → (run init s).1 ≡ value v → (run range s).1 ≡ value w → items_of w ≡ Some xs →
           TakesLoop path v ⊎ (WrittenAppend a condition next result × (v ≡ list nil)) → Covered (AtItems s) (loop_from parts path v xs s).0
       go v w xs e f q (inl k) =
           subst (λ r. Covered (AtItems s) r.0) (sym (takes-loop parts k xs s))
-          (loop-accounted a i fold path range init condition next result of_condition of_next of_result xs (store s a v) none
+          (loop-accounted a i fold path range init condition next result of_condition of_next of_result xs (store s a v) None
           (λ b g t l x o. grouped s b x (of-operand (loop_of e f q k l) x o)))
       go v w xs e f q (inr k) =
           let ways = k.0 in

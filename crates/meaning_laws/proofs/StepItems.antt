@@ -3,7 +3,7 @@
 use Prim.Native.Nat.{ℕ}
 use mathlib.Core.Path.{◌≡◌, refl, sym, ◌∙◌, ap, subst}
 use mathlib.Core.List.{List, [], ◌∷◌, ◌++◌, append_assoc}
-use mathlib.Core.Option.{Option, none, some}
+use Rattle.std.specs.Prelude.{Option, None, Some}
 use mathlib.Core.Bool.{Bool, true, false}
 use Rattle.meaning.specs.Errors.{UnexpectedType, an_iterable, ErrorAt}
 use Rattle.meaning.specs.Value.{Value, list, Values, join, bool_of}
@@ -25,26 +25,26 @@ after-step-accounted : {P : Trace → Type 0} (a : ℕ) (fold : Option LogicalFo
     (r : Result ErrorAt Value) → ((t : Scope) (still : Pending) → GoesOn a fold s pending r t still → Covered P (rest t still).0) →
     Covered P (after_step a fold rest s pending r).0
 unfolding after_step fold_step choose
-after-step-accounted a none rest s pending (value v) h = h (store s a v) none plain
-after-step-accounted a none rest s pending (error e) h = nothing
-after-step-accounted a (some fold) rest s none (value v) h = h (store s a v) none folded
-after-step-accounted {P} a (some fold) rest s (some e) (value v) h = go (absorbs fold (bool_of v)) refl
+after-step-accounted a None rest s pending (value v) h = h (store s a v) None plain
+after-step-accounted a None rest s pending (error e) h = nothing
+after-step-accounted a (Some fold) rest s None (value v) h = h (store s a v) None folded
+after-step-accounted {P} a (Some fold) rest s (Some e) (value v) h = go (absorbs fold (bool_of v)) refl
   where
-    go : (b : Bool) → absorbs fold (bool_of v) ≡ b → Covered P (choose (rest (store s a v) none) (rest s (some e)) b).0
-    go true q = h (store s a v) none (cleared q)
-    go false q = h s (some e) (still_held q)
-after-step-accounted a (some fold) rest s pending (error e) h = h s (some e) held
+    go : (b : Bool) → absorbs fold (bool_of v) ≡ b → Covered P (choose (rest (store s a v) None) (rest s (Some e)) b).0
+    go true q = h (store s a v) None (cleared q)
+    go false q = h s (Some e) (still_held q)
+after-step-accounted a (Some fold) rest s pending (error e) h = h s (Some e) held
 
 module _ (a i : ℕ) (fold : Option LogicalFold) (path : Option AppendStep) (range init condition next result : Expr)
     (of_condition : Accounted condition) (of_next : Accounted next) (of_result : Accounted result) where
   abbrev parts : Comprehension Value
   parts = parts_of a i fold path range init condition next result
 
-  finish-accounted : {P : Trace → Type 0} (s : Scope) (pending : Pending) → (pending ≡ none → (x : Trace) → StepOf result s x → P x) →
+  finish-accounted : {P : Trace → Type 0} (s : Scope) (pending : Pending) → (pending ≡ None → (x : Trace) → StepOf result s x → P x) →
       Covered P (finish (λ t. run result t) s pending).0
   unfolding finish operand
-  finish-accounted s none h = covered-map (run result s).0 (h refl) (of_result s)
-  finish-accounted s (some e) h = nothing
+  finish-accounted s None h = covered-map (run result s).0 (h refl) (of_result s)
+  finish-accounted s (Some e) h = nothing
 
   -- a step of each part that is begun at an item, or at the end, is a step of the loop
   pub loop-accounted : {P : Trace → Type 0} (xs : List Value) (s : Scope) (pending : Pending) →
@@ -81,7 +81,7 @@ items-accounted {P} {items} {m} l rest s out c d =
 
 module _ (a i : ℕ) (fold : Option LogicalFold) (path : Option AppendStep) (range init condition next result : Expr) (guard : Option Expr)
     {items : Expr} {m : Scope → Eval Values} (l : ItemsList items m)
-    (of_condition : Accounted condition) (of_guard : (g : Expr) → guard ≡ some g → Accounted g) (of_items : Accounted items) where
+    (of_condition : Accounted condition) (of_guard : (g : Expr) → guard ≡ Some g → Accounted g) (of_items : Accounted items) where
   abbrev parts' : Comprehension Value
   parts' = parts_of a i fold path range init condition next result
 
@@ -89,20 +89,20 @@ module _ (a i : ℕ) (fold : Option LogicalFold) (path : Option AppendStep) (ran
   way = record { guard = guard_of guard; items = m }
 
   turn-accounted : {P : Trace → Type 0} (rest : Gathering) (s : Scope) (out : Values) →
-      ((g : Expr) → guard ≡ some g → (x : Trace) → StepOf g s x → P x) →
+      ((g : Expr) → guard ≡ Some g → (x : Trace) → StepOf g s x → P x) →
       ((q : Trace) → LetsIn guard s q → (x : Trace) → StepOf items s x → P (q ++ x)) →
       ((q : Trace) → LetsIn guard s q → (vs : Values) → (run items s).1 ≡ value (list vs) →
       Covered (λ f. P (q ++ ((run items s).0 ++ (cells vs ∷ f)))) (rest s (join out vs)).0) →
-      ((g : Expr) → guard ≡ some g → GaveBool (run g s) false → Covered (λ f. P ((run g s).0 ++ f)) (rest s out).0) →
+      ((g : Expr) → guard ≡ Some g → GaveBool (run g s) false → Covered (λ f. P ((run g s).0 ++ f)) (rest s out).0) →
       Covered P (append_turn (guard_of guard) m rest s out).0
   unfolding append_turn
   turn-accounted {P} rest s out hg hi hr hn = go guard refl
     where
       go : (o : Option Expr) → guard ≡ o → Covered P (append_turn (guard_of o) m rest s out).0
-      go none e =
+      go None e =
           let k = subst (λ o. LetsIn o s []) (sym e) unguarded in
           items-accounted l rest s out (covered-map (run items s).0 (hi [] k) (of_items s)) (hr [] k)
-      go (some g) e =
+      go (Some g) e =
           let k : GaveBool (run g s) true → LetsIn guard s (run g s).0 = λ h. subst (λ o. LetsIn o s (run g s).0) (sym e) (guard_holds h) in
           covered-choice (run g s) _ _ (covered-map (run g s).0 (hg g e) (of_guard g e s))
           (λ h. items-accounted l rest s out (covered-map (run items s).0 (hi (run g s).0 (k h)) (of_items s)) (hr (run g s).0 (k h)))
@@ -134,7 +134,7 @@ module _ (a i : ℕ) (fold : Option LogicalFold) (path : Option AppendStep) (ran
 
 pub rule-accounted : {P : Trace → Type 0} (c : Comprehension Value) (s : Scope) → Covered P (c.init s).0 →
     (GaveValue (c.init s) → Covered (λ f. P ((c.init s).0 ++ f)) (c.range s).0) →
-    ((v w : Value) (xs : List Value) → (c.init s).1 ≡ value v → (c.range s).1 ≡ value w → c.items_in w ≡ some xs →
+    ((v w : Value) (xs : List Value) → (c.init s).1 ≡ value v → (c.range s).1 ≡ value w → c.items_in w ≡ Some xs →
     Covered (λ f. P ((c.init s).0 ++ ((c.range s).0 ++ f))) (loop_from c c.append v xs s).0) → Covered P (comprehension_rule c s).0
 unfolding comprehension_rule
 rule-accounted c s d r h =

@@ -5,8 +5,9 @@ use native.Mathlib.Omega.{arith}
 use native.Mathlib.Nat.{add-zero, add-suc, suc-add}
 use mathlib.Core.Path.{◌≡◌, refl, sym, ap, ◌∙◌}
 use mathlib.Core.List.{List, [], ◌∷◌, ◌++◌}
-use mathlib.Core.Option.{some}
-use lib.ListN.{length, get_or, get_elem?, length-append, take, take-append-drop}
+use Rattle.std.specs.Prelude.{Some}
+use lib.ListN.{length, get_or, length-append, take, take-append-drop}
+use Rattle.std.specs.Prelude.{slice_get}
 use lib.Seq.{slice, slice-cons, slice_empty, length-take-le, drop-append-le, take-take}
 use Rattle.meaning.specs.Kinds.{Field, byte, word, long}
 use Rattle.meaning.specs.Heads.{field_bytes, fields_bytes, little_endian, numbers_at}
@@ -69,7 +70,7 @@ module _ (table : List ℕ) where
   -- the bytes stand in the table from a place on
   abbrev pub Stands : ℕ → List ℕ → Type 0
   Stands p [] = Unit {0}
-  Stands p (b ∷ bs) = (get_elem? table p ≡ some b) × Stands (suc p) bs
+  Stands p (b ∷ bs) = (slice_get table p ≡ Some b) × Stands (suc p) bs
 
   -- Of what stands in the table the beginning stands there.
   pub stands-first : (xs ys : List ℕ) (p : ℕ) → Stands p (xs ++ ys) → Stands p xs
@@ -82,7 +83,7 @@ module _ (table : List ℕ) where
   stands-second (x ∷ xs) ys p s = rw (add-suc, ← suc-add) (stands-second xs ys (suc p) s.1)
 
 -- A byte that is there is the one that is read.
-pub byte-there : (table : List ℕ) (i b : ℕ) → get_elem? table i ≡ some b → get_or table i 0 ≡ b
+pub byte-there : (table : List ℕ) (i b : ℕ) → slice_get table i ≡ Some b → get_or table i 0 ≡ b
 byte-there [] i b e = nonsense (cc)
 byte-there (x ∷ xs) zero b e = cc
 byte-there (x ∷ xs) (suc i) b e = byte-there xs i b e

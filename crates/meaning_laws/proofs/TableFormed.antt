@@ -3,7 +3,7 @@
 use Prim.Native.Nat.{ℕ, zero, suc, ◌+◌, ◌^◌, ◌<◌}
 use mathlib.Core.Path.{◌≡◌, refl}
 use mathlib.Core.List.{List, [], ◌∷◌}
-use mathlib.Core.Option.{Option, none, some}
+use Rattle.std.specs.Prelude.{Option, None, Some}
 use mathlib.Core.Bool.{Bool, true, false, cond}
 use native.Mathlib.Omega.{arith}
 use lib.ListN.{length, take, drop, length-take}
@@ -18,7 +18,7 @@ use Rattle.text.specs.Utf8.{well_formed}
 use Rattle.meaning.specs.Limits.{names, deepest_record}
 use Rattle.meaning.specs.Expr.{Expr, Elements, Pairs}
 use Rattle.meaning.specs.Kinds.{ExprKind, null_kind, bool_kind, int_kind, uint_kind, double_kind, string_kind, bytes_kind, name_kind, unary_kind, binary_kind, conditional_kind, select_kind, list_kind, map_kind, comprehension_kind, function_kind, Kind, mark, expr, Called, to_one, to_none, to_two, name_of}
-use Rattle.meaning.specs.Errors.{WrongField}
+use Rattle.meaning.specs.declared.refusal.Reason.TheVariants.{WrongField}
 use Rattle.meaning.specs.Heads.{or_refuse, got, Head, first, second, third}
 use Rattle.meaning.specs.Table.{Part, bare, marked, add_element, add_pair, Reader, elements_from, pairs_from, span, utf8, filled, called_at, body_at, as_expr, as_part, expr_at, part_at, root_at, word_bytes, read_table}
 use Rattle.meaning.specs.Bindings.{text_bytes}
@@ -38,7 +38,7 @@ name_below : (n : ℕ) → Perhaps (λ m. m < names) (name_of n)
 unfolding name_of
 name_below n = go (ltb n names) (ltb-true n names)
   where
-    go : (t : Bool) → (t ≡ true → n < names) → Perhaps (λ m. m < names) (cond t (some n) none)
+    go : (t : Bool) → (t ≡ true → n < names) → Perhaps (λ m. m < names) (cond t (Some n) None)
     go true h = h refl
     go false h = tt
 
@@ -62,16 +62,16 @@ span-formed : (text : List ℕ) → AllBytes text → (offset n : ℕ) → n < s
 unfolding span
 span-formed text h offset n k = go (leb (offset + n) (length text))
   where
-    go : (t : Bool) → Perhaps FormedSpan (cond t (some (take n (drop offset text))) none)
+    go : (t : Bool) → Perhaps FormedSpan (cond t (Some (take n (drop offset text))) None)
     go true = (take-bytes n (drop offset text) (drop-bytes offset text h), omega (arith, length-take n (drop offset text)))
     go false = tt
 
 utf8-formed : (o : Option (List ℕ)) → Perhaps FormedSpan o → Perhaps FormedText (utf8 o)
 unfolding utf8
-utf8-formed none h = tt
-utf8-formed (some s) h = go (well_formed s) refl
+utf8-formed None h = tt
+utf8-formed (Some s) h = go (well_formed s) refl
   where
-    go : (t : Bool) → well_formed s ≡ t → Perhaps FormedText (cond t (some s) none)
+    go : (t : Bool) → well_formed s ≡ t → Perhaps FormedText (cond t (Some s) None)
     go true e = (h.0, h.1, e)
     go false e = tt
 

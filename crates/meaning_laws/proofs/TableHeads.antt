@@ -4,13 +4,14 @@ use Prim.Native.Nat.{ℕ, suc, ◌+◌, ◌≤◌}
 use native.Mathlib.Omega.{arith}
 use mathlib.Core.Path.{◌≡◌, refl, sym, ap, subst, ◌∙◌}
 use mathlib.Core.List.{List, [], ◌∷◌, ◌++◌}
-use mathlib.Core.Option.{Option, none, some}
+use Rattle.std.specs.Prelude.{Option, None, Some}
 use mathlib.Core.Bool.{Bool, true, false, ◌&&◌, cond}
-use lib.ListN.{length, get_or, get_elem?, length-append}
+use lib.ListN.{length, get_or, length-append}
+use Rattle.std.specs.Prelude.{slice_get}
 use lib.Seq.{slice, slice-cons, length-slice}
 use lib.Dec.{leb, eqb}
 use borrow.Author.Tests.{le-leb, leb-true, eq-eqb, eqb-true}
-use Rattle.meaning.specs.Errors.{Refusal}
+use Rattle.meaning.specs.declared.refusal.Reason.{Reason}
 use Rattle.meaning.specs.Kinds.{byte, word, Kind, Row, kinds, is_leaf}
 use Rattle.meaning.specs.Heads.{Got, got, refused, ◌>>=◌, ◌>>◌, demand, or_refuse, Head, first, field_bytes, fields_bytes, little_endian, numbers_at}
 use Rattle.meaning.specs.Heads.{row_at, extent_fits, head_at}
@@ -32,7 +33,7 @@ abbrev pub head_of : (width : ℕ) → Kind → List ℕ → (p end : ℕ) → H
 head_of width k ns p end = record { kind = k; numbers = ns; operands_at = behind_head width k p; end = end }
 
 module _ (width : ℕ) (table : List ℕ) where
-  row_read : (p b : ℕ) (r : Row) → get_elem? table p ≡ some b → get_elem? kinds b ≡ some r → row_at width table p ≡ got r
+  row_read : (p b : ℕ) (r : Row) → slice_get table p ≡ Some b → slice_get kinds b ≡ Some r → row_at width table p ≡ got r
   unfolding row_at ◌>>=◌ or_refuse
   row_read p b r e f = rw (e, f)
 
@@ -116,16 +117,16 @@ module _ {A B : Type 0} {C : Type 0} where
   went_on g k b e f = went g (λ a. k) b e f
 
 -- What was demanded holds.
-pub demanded : (t : Bool) (r : Refusal) (p : ℕ) (u : Unit {0}) → demand t r p ≡ got u → t ≡ true
+pub demanded : (t : Bool) (r : Reason) (p : ℕ) (u : Unit {0}) → demand t r p ≡ got u → t ≡ true
 unfolding demand
 demanded true r p u e = refl
 demanded false r p u e = cc
 
 -- What was chosen was there.
-pub chosen : {A : Type 0} (r : Refusal) (p : ℕ) (o : Option A) (a : A) → or_refuse r p o ≡ got a → o ≡ some a
+pub chosen : {A : Type 0} (r : Reason) (p : ℕ) (o : Option A) (a : A) → or_refuse r p o ≡ got a → o ≡ Some a
 unfolding or_refuse
-chosen r p none a e = cc
-chosen r p (some b) a e = cc
+chosen r p None a e = cc
+chosen r p (Some b) a e = cc
 
 last-two : (a b c : Bool) → (a && b && c) ≡ true → (b ≡ true) × (c ≡ true)
 last-two true true c e = (refl, e)
@@ -137,7 +138,7 @@ last-two false b c e = nonsense (cc)
 module _ (width : ℕ) (table : List ℕ) where
   -- what is known of a head that was read at p, inside a parent that ends at `end`
   pub record Opened (p end : ℕ) (h : Head) : Type 0 where
-    pub kind_there : get_elem? table p ≡ some (kind_byte h.kind)
+    pub kind_there : slice_get table p ≡ Some (kind_byte h.kind)
     pub numbers_there : h.numbers ≡ numbers_at width table (fields_of h.kind) (p + sizes_of width (byte ∷ word ∷ []))
     pub operands_there : h.operands_at ≡ behind_head width h.kind p
     pub extent_there : h.end ≡ p + little_endian width table width (p + 1)
@@ -167,7 +168,7 @@ module _ (width : ℕ) (table : List ℕ) where
   fits_from p r = extent_fits width table r (head_from p r).numbers (fields_bytes width (byte ∷ word ∷ r.fields))
       (little_endian width table (field_bytes width word) (p + field_bytes width byte))
 
-  row_opened : (p end : ℕ) (r : Row) → get_elem? table p ≡ some (kind_byte r.kind) → r.fields ≡ fields_of r.kind
+  row_opened : (p end : ℕ) (r : Row) → slice_get table p ≡ Some (kind_byte r.kind) → r.fields ≡ fields_of r.kind
       → r.operands ≡ operands_of r.kind → (head_from p r).end ≤ end
       → fits_from p r ≡ true → Opened p end (head_from p r)
   row_opened p end r there fields operands bound fits =
@@ -187,17 +188,17 @@ module _ (width : ℕ) (table : List ℕ) where
   unfolding head_at row_at
   head_opened p end h e =
       went (row_at width table p) _ h e λ r row e. went_on (demand _ _ p) _ h e λ u fits e.
-      went (or_refuse _ p (get_elem? table p)) _ r row λ b there known.
-      let (byte-is, row_is) = kind-here b r (chosen _ p (get_elem? kinds b) r known) in
+      went (or_refuse _ p (slice_get table p)) _ r row λ b there known.
+      let (byte_is, row_is) = kind-here b r (chosen _ p (slice_get kinds b) r known) in
       let (bound, fit) = last-two (leb (head_from p r).operands_at end) (leb (head_from p r).end end) (fits_from p r) (demanded _ _ p u fits) in
-      let at : get_elem? table p ≡ some (kind_byte r.kind) = rw byte-is at (chosen _ p (get_elem? table p) b there) in
+      let at : slice_get table p ≡ Some (kind_byte r.kind) = rw byte_is at (chosen _ p (slice_get table p) b there) in
       let opened = row_opened p end r at (ap (λ (s : Row). s.fields) row_is) (ap (λ (s : Row). s.operands) row_is)
       (leb-true (head_from p r).end end bound) fit in
       let same : head_from p r ≡ h = cc in
       subst (λ (g : Head). Opened p end g) same opened
 
   -- where the operands behind a head are written, the whole record is
-  module _ (all : AllBytes table) (p at end : ℕ) (k : Kind) (ns : List ℕ) (there : get_elem? table p ≡ some (kind_byte k))
+  module _ (all : AllBytes table) (p at end : ℕ) (k : Kind) (ns : List ℕ) (there : slice_get table p ≡ Some (kind_byte k))
       (numbers : ns ≡ numbers_at width table (fields_of k) (suc p + width)) (begins : at ≡ suc p + width + sizes_of width (fields_of k))
       (ends : end ≡ p + little_endian width table width (suc p)) (fits : at ≤ end) (inside : end ≤ length table) where
     extent-is : length (slice p end table) ≡ little_endian width table width (suc p)

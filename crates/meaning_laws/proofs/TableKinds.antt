@@ -6,9 +6,9 @@ use native.Mathlib.Nat.{zero-add, add-zero, add-suc, suc-add}
 use native.Mathlib.Numerals.{one-add}
 use mathlib.Core.Path.{◌≡◌, refl}
 use mathlib.Core.List.{List, [], ◌∷◌}
-use mathlib.Core.Option.{none, some}
+use Rattle.std.specs.Prelude.{None, Some}
 use mathlib.Core.Bool.{Bool, true, false, cond}
-use lib.ListN.{get_elem?}
+use Rattle.std.specs.Prelude.{slice_get}
 use lib.Dec.{ltb}
 use borrow.Author.Tests.{lt-ltb, ltb-true}
 use Rattle.meaning.specs.Limits.{names}
@@ -29,7 +29,7 @@ abbrev All : {A : Type 0} → (ℕ → A → Type 0) → ℕ → List A → Type
 All P n [] = Unit {0}
 All P n (x ∷ xs) = P n x × All P (suc n) xs
 
-all-at : {A : Type 0} (P : ℕ → A → Type 0) (xs : List A) (n i : ℕ) (a : A) → All P n xs → get_elem? xs i ≡ some a → P (n + i) a
+all-at : {A : Type 0} (P : ℕ → A → Type 0) (xs : List A) (n i : ℕ) (a : A) → All P n xs → slice_get xs i ≡ Some a → P (n + i) a
 all-at P [] n i a h e = nonsense (cc)
 all-at P (x ∷ xs) n zero a h e = let same : x ≡ a = cc in rw (add-zero, ← same) h.0
 all-at P (x ∷ xs) n (suc i) a h e = rw (add-suc, ← suc-add) (all-at P xs (suc n) i a h.1 e)
@@ -101,7 +101,7 @@ abbrev pub row_of : Kind → Row
 row_of k = record { kind = k; fields = fields_of k; operands = operands_of k }
 
 -- The row of a kind stands at the kind's byte.
-pub kind-there : (k : Kind) → get_elem? kinds (kind_byte k) ≡ some (row_of k)
+pub kind-there : (k : Kind) → slice_get kinds (kind_byte k) ≡ Some (row_of k)
 unfolding kinds
 kind-there (expr null_kind) = refl
 kind-there (expr bool_kind) = refl
@@ -140,19 +140,19 @@ rows-complete = (r, (r, (r, (r, (r, (r, (r, (r, (r, (r, (r, (r, (r, (r, (r, (r, 
     r = refl
 
 -- A row that stands at a byte is the row of its kind, and the byte is the kind's.
-pub kind-here : (b : ℕ) (r : Row) → get_elem? kinds b ≡ some r → (b ≡ kind_byte r.kind) × (r ≡ row_of r.kind)
+pub kind-here : (b : ℕ) (r : Row) → slice_get kinds b ≡ Some r → (b ≡ kind_byte r.kind) × (r ≡ row_of r.kind)
 kind-here b r e = (rw zero-add at (all-at Numbered kinds 0 b r rows-numbered e), all-at Complete kinds 0 b r rows-complete e)
 
 -- ---- operators, functions, flags and names
 
 -- the n-th of a list whose numbers begin at 1
-numbered-at : {A : Type 0} (P : ℕ → A → Type 0) (xs : List A) (n : ℕ) (a : A) → All P 1 xs → numbered xs n ≡ some a → P n a
+numbered-at : {A : Type 0} (P : ℕ → A → Type 0) (xs : List A) (n : ℕ) (a : A) → All P 1 xs → numbered xs n ≡ Some a → P n a
 unfolding numbered
 numbered-at P xs zero a h e = nonsense (cc)
 numbered-at P xs (suc n) a h e = rw one-add at (all-at P xs 1 n a h e)
 
 -- A flag stands under its number.
-pub flag-there : (b : Bool) → get_elem? flags (flag_number b) ≡ some b
+pub flag-there : (b : Bool) → slice_get flags (flag_number b) ≡ Some b
 unfolding flags
 flag-there false = refl
 flag-there true = refl
@@ -165,11 +165,11 @@ unfolding flags
 flags-numbered = omega arith
 
 -- What stands under a number is the flag with this number.
-pub flag-here : (n : ℕ) (b : Bool) → get_elem? flags n ≡ some b → n ≡ flag_number b
+pub flag-here : (n : ℕ) (b : Bool) → slice_get flags n ≡ Some b → n ≡ flag_number b
 flag-here n b e = rw zero-add at (all-at OfFlag flags 0 n b flags-numbered e)
 
 -- A unary operator stands under its number.
-pub unary-there : (o : Unary) → numbered unaries (unary_number o) ≡ some o
+pub unary-there : (o : Unary) → numbered unaries (unary_number o) ≡ Some o
 unfolding numbered unaries
 unary-there not_op = refl
 unary-there negate_op = refl
@@ -183,11 +183,11 @@ unfolding unaries
 unaries-numbered = omega arith
 
 -- What stands under a number is the unary operator with this number.
-pub unary-here : (n : ℕ) (o : Unary) → numbered unaries n ≡ some o → n ≡ unary_number o
+pub unary-here : (n : ℕ) (o : Unary) → numbered unaries n ≡ Some o → n ≡ unary_number o
 unary-here n o e = numbered-at OfUnary unaries n o unaries-numbered e
 
 -- A binary operator stands under its number.
-pub binary-there : (o : Binary) → numbered binaries (binary_number o) ≡ some o
+pub binary-there : (o : Binary) → numbered binaries (binary_number o) ≡ Some o
 unfolding numbered binaries
 binary-there (logic Or) = refl
 binary-there (logic And) = refl
@@ -215,7 +215,7 @@ unfolding binaries
 binaries-numbered = omega arith
 
 -- What stands under a number is the binary operator with this number.
-pub binary-here : (n : ℕ) (o : Binary) → numbered binaries n ≡ some o → n ≡ binary_number o
+pub binary-here : (n : ℕ) (o : Binary) → numbered binaries n ≡ Some o → n ≡ binary_number o
 binary-here n o e = numbered-at OfBinary binaries n o binaries-numbered e
 
 -- the number of a function
@@ -225,7 +225,7 @@ called_number to_none = 3
 called_number to_two = 6
 
 -- A function stands under its number.
-pub called-there : (f : Called) → numbered functions (called_number f) ≡ some f
+pub called-there : (f : Called) → numbered functions (called_number f) ≡ Some f
 unfolding numbered functions
 called-there (to_one size_call) = refl
 called-there (to_one of_call) = refl
@@ -242,19 +242,19 @@ unfolding functions
 functions-numbered = omega arith
 
 -- What stands under a number is the function with this number.
-pub called-here : (n : ℕ) (f : Called) → numbered functions n ≡ some f → n ≡ called_number f
+pub called-here : (n : ℕ) (f : Called) → numbered functions n ≡ Some f → n ≡ called_number f
 called-here n f e = numbered-at OfCalled functions n f functions-numbered e
 
 -- A number below the limit is a name.
-pub name-there : (n : ℕ) → n < names → name_of n ≡ some n
+pub name-there : (n : ℕ) → n < names → name_of n ≡ Some n
 unfolding name_of
 name-there n h = rw (lt-ltb n names h)
 
 -- A name is its number, below the limit.
-pub name-here : (n m : ℕ) → name_of n ≡ some m → (n ≡ m) × (m < names)
+pub name-here : (n m : ℕ) → name_of n ≡ Some m → (n ≡ m) × (m < names)
 unfolding name_of
 name-here n m e = go (ltb n names) refl e
   where
-    go : (t : Bool) → ltb n names ≡ t → cond t (some n) none ≡ some m → (n ≡ m) × (m < names)
+    go : (t : Bool) → ltb n names ≡ t → cond t (Some n) None ≡ Some m → (n ≡ m) × (m < names)
     go true h e = let same : n ≡ m = cc in (same, rw (← same) (ltb-true n names h))
     go false h e = nonsense (cc)

@@ -4,9 +4,10 @@ use Prim.Native.Nat.{ℕ, zero, suc, ◌+◌, ◌^◌, ◌<◌}
 use mathlib.Core.List.{List, [], ◌∷◌}
 use native.Mathlib.Nat.{pow-suc}
 use native.Mathlib.Omega.{arith}
-use lib.ListN.{get_or, get_elem?, drop}
+use lib.ListN.{get_or, drop}
+use Rattle.std.specs.Prelude.{slice_get}
 use Rattle.meaning.specs.Limits.{byte_numbers}
-use Rattle.meaning.specs.Errors.{WrongExtent, UnknownKind}
+use Rattle.meaning.specs.declared.refusal.Reason.TheVariants.{WrongExtent, UnknownKind}
 use Rattle.meaning.specs.Kinds.{Field, byte, word, long, Row, kinds}
 use Rattle.meaning.specs.Heads.{or_refuse, first, second, third, field_bytes, little_endian, numbers_at, row_at, head_at}
 use Rattle.meaning.specs.Table.{word_bytes}
@@ -35,7 +36,7 @@ pub record NumbersFit (ns : List ℕ) : Type 0 where
   pub second_fits : second ns < spans
   pub third_fits : third ns < spans
 
-pub get_elem-each : {A : Type 0} (P : A → Type 0) (xs : List A) (i : ℕ) → Each P xs → Perhaps P (get_elem? xs i)
+pub get_elem-each : {A : Type 0} (P : A → Type 0) (xs : List A) (i : ℕ) → Each P xs → Perhaps P (slice_get xs i)
 get_elem-each P [] i h = tt
 get_elem-each P (x ∷ xs) zero h = h.0
 get_elem-each P (x ∷ xs) (suc i) h = get_elem-each P xs i h.1
@@ -81,8 +82,8 @@ module _ (table : List ℕ) (bytes_only : AllBytes table) where
   row_fits : (p : ℕ) → Reads RowFits (row_at word_bytes table p)
   unfolding row_at
   row_fits p =
-      reads-bind-any (or_refuse WrongExtent p (get_elem? table p))
-      (λ b. reads-or_refuse UnknownKind p (get_elem? kinds b) (get_elem-each RowFits kinds b rows_fit))
+      reads-bind-any (or_refuse WrongExtent p (slice_get table p))
+      (λ b. reads-or_refuse UnknownKind p (slice_get kinds b) (get_elem-each RowFits kinds b rows_fit))
 
   -- Every head that is read has numbers that fit.
   pub head-fits : (p end : ℕ) → Reads (λ h. NumbersFit h.numbers) (head_at word_bytes table p end)

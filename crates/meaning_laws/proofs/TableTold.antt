@@ -4,7 +4,7 @@ use Prim.Native.Nat.{ℕ, zero, suc, ◌+◌, ◌≤◌, max}
 use native.Mathlib.Omega.{arith}
 use mathlib.Core.Path.{◌≡◌, refl, sym, ap, subst, ◌∙◌}
 use mathlib.Core.List.{List}
-use mathlib.Core.Option.{Option, none, some}
+use Rattle.std.specs.Prelude.{Option, None, Some}
 use mathlib.Core.Bool.{Bool, true, false, cond}
 use lib.ListN.{length, take, drop, length-drop}
 use lib.Seq.{slice, slice_empty, length-slice, length-take-le}
@@ -22,11 +22,11 @@ use Rattle.meaning_laws.proofs.TableForms.{depth_part, WrittenPart}
 -- ---- texts
 
 -- A span that is found is a part of the text, and has the length that was asked for.
-pub span-here : (text : List ℕ) (offset n : ℕ) (s : List ℕ) → span text offset n ≡ some s → Excerpt text s offset × (n ≡ length s)
+pub span-here : (text : List ℕ) (offset n : ℕ) (s : List ℕ) → span text offset n ≡ Some s → Excerpt text s offset × (n ≡ length s)
 unfolding span
 span-here text offset n s e = go (leb (offset + n) (length text)) refl e
   where
-    go : (t : Bool) → leb (offset + n) (length text) ≡ t → cond t (some (take n (drop offset text))) none ≡ some s → Excerpt text s offset × (n ≡ length s)
+    go : (t : Bool) → leb (offset + n) (length text) ≡ t → cond t (Some (take n (drop offset text))) None ≡ Some s → Excerpt text s offset × (n ≡ length s)
     go true h e =
         let within = leb-true (offset + n) (length text) h in
         let same : take n (drop offset text) ≡ s = cc in
@@ -36,12 +36,12 @@ span-here text offset n s e = go (leb (offset + n) (length text)) refl e
     go false h e = nonsense (cc)
 
 -- What passes as UTF-8 is well formed, and is what was found.
-pub utf8-here : (o : Option (List ℕ)) (s : List ℕ) → utf8 o ≡ some s → (o ≡ some s) × (well_formed s ≡ true)
+pub utf8-here : (o : Option (List ℕ)) (s : List ℕ) → utf8 o ≡ Some s → (o ≡ Some s) × (well_formed s ≡ true)
 unfolding utf8
-utf8-here none s e = nonsense (cc)
-utf8-here (some r) s e = go (well_formed r) refl e
+utf8-here None s e = nonsense (cc)
+utf8-here (Some r) s e = go (well_formed r) refl e
   where
-    go : (t : Bool) → well_formed r ≡ t → cond t (some r) none ≡ some s → (some r ≡ some s) × (well_formed s ≡ true)
+    go : (t : Bool) → well_formed r ≡ t → cond t (Some r) None ≡ Some s → (Some r ≡ Some s) × (well_formed s ≡ true)
     go true h e = (e, ap well_formed (cc) ∙ h)
     go false h e = nonsense (cc)
 

@@ -5,7 +5,7 @@ use native.Mathlib.Omega.{arith}
 use native.Mathlib.Nat.{zero-add}
 use mathlib.Core.Path.{◌≡◌, sym, ap, subst, ◌∙◌}
 use mathlib.Core.List.{List, [], ◌∷◌, ◌++◌, map, map-append}
-use mathlib.Core.Option.{Option, none, some}
+use Rattle.std.specs.Prelude.{Option, None, Some}
 use lib.ListN.{length, length-append}
 use Rattle.meaning.specs.Limits.{byte_numbers}
 use Rattle.meaning.specs.Value.{Scalar, null, bool, int, uint, double, string, bytes}
@@ -33,41 +33,41 @@ module _ (width : ℕ) (text : List ℕ) (Q : Form → List Listed → Type 0) (
   abbrev W : Expr → Form
   W e = Written width text e
 
-  of-scalar : (q : ℕ) (s : Scalar) → Q (WrittenScalar width text q s) ((q, none) ∷ [])
-  of-scalar q null = one q none 0 nothing _ [] (omega arith) (λ p bs r. (_, r)) end
-  of-scalar q (bool b) = one q none 1 nothing _ [] (omega arith) (λ p bs r. (_, r)) end
-  of-scalar q (int z) = one q none 2 nothing _ [] (omega arith) (λ p bs r. (_, r.2)) end
-  of-scalar q (uint n) = one q none 3 nothing _ [] (omega arith) (λ p bs r. (_, r)) end
-  of-scalar q (double d) = one q none 4 nothing _ [] (omega arith) (λ p bs r. (_, r)) end
-  of-scalar q (string s) = one q none 5 nothing _ [] (omega arith) (λ p bs r. (_, r.1.2)) end
-  of-scalar q (bytes s) = one q none 6 nothing _ [] (omega arith) (λ p bs r. (_, r.2)) end
+  of-scalar : (q : ℕ) (s : Scalar) → Q (WrittenScalar width text q s) ((q, None) ∷ [])
+  of-scalar q null = one q None 0 nothing _ [] (omega arith) (λ p bs r. (_, r)) end
+  of-scalar q (bool b) = one q None 1 nothing _ [] (omega arith) (λ p bs r. (_, r)) end
+  of-scalar q (int z) = one q None 2 nothing _ [] (omega arith) (λ p bs r. (_, r.2)) end
+  of-scalar q (uint n) = one q None 3 nothing _ [] (omega arith) (λ p bs r. (_, r)) end
+  of-scalar q (double d) = one q None 4 nothing _ [] (omega arith) (λ p bs r. (_, r)) end
+  of-scalar q (string s) = one q None 5 nothing _ [] (omega arith) (λ p bs r. (_, r.1.2)) end
+  of-scalar q (bytes s) = one q None 6 nothing _ [] (omega arith) (λ p bs r. (_, r.2)) end
 
   mutual
     of-expr : (e : Expr) → Q (W e) (records_of e)
     of-expr (literal q s) = of-scalar q s
-    of-expr (name q n) = one q (some n) 7 nothing _ [] (omega arith) (λ p bs r. (_, r.1)) end
-    of-expr (unary q o x) = one q none 8 (W x) _ _ (omega arith) (λ p bs r. (_, r)) (of-expr x)
-    of-expr (binary q o x y) = one q none 9 (W x then W y) _ _ (omega arith) (λ p bs r. (_, r)) (next (W x) (W y) _ _ (of-expr x) (of-expr y))
+    of-expr (name q n) = one q (Some n) 7 nothing _ [] (omega arith) (λ p bs r. (_, r.1)) end
+    of-expr (unary q o x) = one q None 8 (W x) _ _ (omega arith) (λ p bs r. (_, r)) (of-expr x)
+    of-expr (binary q o x y) = one q None 9 (W x then W y) _ _ (omega arith) (λ p bs r. (_, r)) (next (W x) (W y) _ _ (of-expr x) (of-expr y))
     of-expr (conditional q x y z) =
-        one q none 10 (W x then W y then W z) _ _ (omega arith) (λ p bs r. (_, r))
+        one q None 10 (W x then W y then W z) _ _ (omega arith) (λ p bs r. (_, r))
         (next (W x) (W y then W z) _ _ (of-expr x) (next (W y) (W z) _ _ (of-expr y) (of-expr z)))
-    of-expr (select q test field x) = one q none 11 (W x) _ _ (omega arith) (λ p bs r. (_, r.1.2)) (of-expr x)
-    of-expr (list_of q es) = one q none 12 (WrittenElements width text es) _ _ (omega arith) (λ p bs r. (_, r)) (of-elements es)
-    of-expr (map_of q es) = one q none 13 (WrittenPairs width text es) _ _ (omega arith) (λ p bs r. (_, r)) (of-pairs es)
+    of-expr (select q test field x) = one q None 11 (W x) _ _ (omega arith) (λ p bs r. (_, r.1.2)) (of-expr x)
+    of-expr (list_of q es) = one q None 12 (WrittenElements width text es) _ _ (omega arith) (λ p bs r. (_, r)) (of-elements es)
+    of-expr (map_of q es) = one q None 13 (WrittenPairs width text es) _ _ (omega arith) (λ p bs r. (_, r)) (of-pairs es)
     of-expr (comprehension q accumulator item range init condition step result) =
-        one q none 15 (W range then W init then W condition then W step then W result) _ _ (omega arith) (λ p bs r. (_, r.1.1))
+        one q None 15 (W range then W init then W condition then W step then W result) _ _ (omega arith) (λ p bs r. (_, r.1.1))
         (next (W range) _ _ _ (of-expr range)
         (next (W init) _ _ _ (of-expr init)
         (next (W condition) _ _ _ (of-expr condition) (next (W step) (W result) _ _ (of-expr step) (of-expr result)))))
-    of-expr (call q f x) = one q none 16 (W x) _ _ (omega arith) (λ p bs r. (_, r)) (of-expr x)
-    of-expr (none_call q) = one q none 16 nothing _ [] (omega arith) (λ p bs r. (_, r)) end
-    of-expr (or_value q x y) = one q none 16 (W x then W y) _ _ (omega arith) (λ p bs r. (_, r)) (next (W x) (W y) _ _ (of-expr x) (of-expr y))
+    of-expr (call q f x) = one q None 16 (W x) _ _ (omega arith) (λ p bs r. (_, r)) (of-expr x)
+    of-expr (none_call q) = one q None 16 nothing _ [] (omega arith) (λ p bs r. (_, r)) end
+    of-expr (or_value q x y) = one q None 16 (W x then W y) _ _ (omega arith) (λ p bs r. (_, r)) (next (W x) (W y) _ _ (of-expr x) (of-expr y))
 
     of-elements : (es : Elements) → Q (WrittenElements width text es) (records_of_elements es)
     of-elements no_elements = end
     of-elements (element e es) = next (W e) (WrittenElements width text es) _ _ (of-expr e) (of-elements es)
     of-elements (marked_element m e es) =
-        next (Record width m 14 [] (W e)) (WrittenElements width text es) _ _ (one m none 14 (W e) _ _ (omega arith) (λ p bs r. (_, r)) (of-expr e))
+        next (Record width m 14 [] (W e)) (WrittenElements width text es) _ _ (one m None 14 (W e) _ _ (omega arith) (λ p bs r. (_, r)) (of-expr e))
         (of-elements es)
 
     of-pairs : (es : Pairs) → Q (WrittenPairs width text es) (records_of_pairs es)
@@ -76,7 +76,7 @@ module _ (width : ℕ) (text : List ℕ) (Q : Form → List Listed → Type 0) (
         next (W k) (W e then WrittenPairs width text es) _ _ (of-expr k) (next (W e) (WrittenPairs width text es) _ _ (of-expr e) (of-pairs es))
     of-pairs (marked_pair k m e es) =
         next (W k) (Record width m 14 [] (W e) then WrittenPairs width text es) _ _ (of-expr k)
-        (next (Record width m 14 [] (W e)) (WrittenPairs width text es) _ _ (one m none 14 (W e) _ _ (omega arith) (λ p bs r. (_, r)) (of-expr e))
+        (next (Record width m 14 [] (W e)) (WrittenPairs width text es) _ _ (one m None 14 (W e) _ _ (omega arith) (λ p bs r. (_, r)) (of-expr e))
         (of-pairs es))
 
 -- ---- places

@@ -1,7 +1,6 @@
 -- The binding rooms that calls make: an empty one, and any of these after a binding is brought in. What is true of their values and of the
 -- rooms.
-use Rattle.std.specs.Prelude.{ℕ, ◌+◌, ◌≤◌, ◌<◌, min, ◌≡◌, List, [], ◌∷◌}
-use Rattle.std.proofs.Math.Option.{some}
+use Rattle.std.specs.Prelude.{ℕ, ◌+◌, ◌≤◌, ◌<◌, min, ◌≡◌, List, [], ◌∷◌, Some}
 use Rattle.meaning.specs.Limits.{names, most_cells, most_bytes}
 use Rattle.meaning.specs.Value.{Value}
 use Rattle.meaning.specs.Comprehension.{Scope}
@@ -23,7 +22,7 @@ pub record BoundValue (v : Value) : Type 0 where
   pub bytes_fit : bytes_of v ≤ most_bytes
 
 abbrev pub BoundScope : Scope → Type 0
-BoundScope s = (n : ℕ) (v : Value) → s n ≡ some v → BoundValue v
+BoundScope s = (n : ℕ) (v : Value) → s n ≡ Some v → BoundValue v
 
 -- what all the values of a room take together
 abbrev pub cells_taken : List (ℕ × Value) → ℕ

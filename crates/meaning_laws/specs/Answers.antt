@@ -2,7 +2,8 @@
 -- Rests on the definition of answers and on Charges.
 use Rattle.std.specs.Prelude.{ℕ, ◌≡◌, List, [], length}
 use Rattle.meaning.specs.Limits.{Counts, nothing_yet, cut}
-use Rattle.meaning.specs.Errors.{Refusal, ErrorAt, Exhausted}
+use Rattle.meaning.specs.Errors.{ErrorAt, Exhausted}
+use Rattle.meaning.specs.declared.refusal.Reason.{Reason}
 use Rattle.meaning.specs.Value.{Value}
 use Rattle.meaning.specs.Expr.{Expr}
 use Rattle.meaning.specs.Run.{Result}
@@ -25,7 +26,7 @@ pub data Ending : Type 0 where
 -- what the answer to a table is in each case, with the rooms afterwards, and what it rests on
 abbrev pub Answers : (table text : List ℕ) → BindingRoom → Counts → Ending → Type 0
 Answers table text room lent is_refused =
-    (r : Refusal) × (p : ℕ) ×
+    (r : Reason) × (p : ℕ) ×
     (read_table table text ≡ refused r p) ×
     (answer_of table text room lent ≡ record { answer = refusal r p; rooms = record { cells = []; bytes = [] } })
 Answers table text room lent gives_value =

@@ -2,8 +2,7 @@
 -- `Begins e s before f t`: evaluating e in the scope s makes the charges `before` and then begins f in the scope t.
 -- It repeats only the part of the definition of evaluation that comes before an operand. proofs/Begun (`reached`) proves that it says nothing
 -- wrong, proofs/EveryStep that it leaves no operand out.
-use Rattle.std.specs.Prelude.{ℕ, ◌*◌, ◌≡◌, List, [], ◌∷◌, ◌++◌, Bool, true, false}
-use Rattle.std.proofs.Math.Option.{Option, none, some}
+use Rattle.std.specs.Prelude.{ℕ, ◌*◌, ◌≡◌, List, [], ◌∷◌, ◌++◌, Bool, true, false, Option, None, Some}
 use Rattle.meaning.specs.Errors.{ErrorAt}
 use Rattle.meaning.specs.Value.{Scalar, Key, Value, list, Values, nil, Entries, empty, bool_of, key_of, is_none}
 use Rattle.meaning.specs.Expr.{Unary, LogicalFold, add, Binary, logic, equals, not_equals, index, opt_index, opt_select, arith, compare, is_in, Function, Expr, literal, name, unary, binary, conditional, select, list_of, map_of, comprehension, call, or_value, Elements, element, marked_element, Pairs, pair, marked_pair, count_elements, count_pairs}
@@ -20,7 +19,7 @@ abbrev pub GaveValue : Eval Value → Type 0
 GaveValue r = (v : Value) × (r.1 ≡ value v)
 
 abbrev pub GaveBool : Eval Value → Bool → Type 0
-GaveBool r b = (v : Value) × (r.1 ≡ value v) × (bool_of v ≡ some b)
+GaveBool r b = (v : Value) × (r.1 ≡ value v) × (bool_of v ≡ Some b)
 
 -- after this left operand the right one is begun: for `||` and `&&` if the left does not decide, for an index if it is not none, for others if it
 -- is a value
@@ -46,7 +45,7 @@ map_cells ps s = cells (pad (cells_an_entry * count_pairs ps) (entry_cells (read
 
 -- a key is a value that may stand as one
 abbrev pub GaveKey : Eval Value → Type 0
-GaveKey r = (v : Value) × (k : Key) × (r.1 ≡ value v) × (key_of v ≡ some k)
+GaveKey r = (v : Value) × (k : Key) × (r.1 ≡ value v) × (key_of v ≡ Some k)
 
 module _ (s : Scope) where
   -- the first element, or one behind an element that gave a value
@@ -78,21 +77,21 @@ module _ (s : Scope) where
 module _ (accumulator : ℕ) where
   -- after a step with this result, with an error pending or not, the loop goes on from this scope and this pending error
   pub data GoesOn : Option LogicalFold → Scope → Pending → Result ErrorAt Value → Scope → Pending → Type 0 where
-    plain : {s : Scope} {pending : Pending} {v : Value} → GoesOn none s pending (value v) (store s accumulator v) none
-    folded : {fold : LogicalFold} {s : Scope} {v : Value} → GoesOn (some fold) s none (value v) (store s accumulator v) none
+    plain : {s : Scope} {pending : Pending} {v : Value} → GoesOn None s pending (value v) (store s accumulator v) None
+    folded : {fold : LogicalFold} {s : Scope} {v : Value} → GoesOn (Some fold) s None (value v) (store s accumulator v) None
     cleared : {fold : LogicalFold} {s : Scope} {e : ErrorAt} {v : Value} →
-        absorbs fold (bool_of v) ≡ true → GoesOn (some fold) s (some e) (value v) (store s accumulator v) none
+        absorbs fold (bool_of v) ≡ true → GoesOn (Some fold) s (Some e) (value v) (store s accumulator v) None
     still_held : {fold : LogicalFold} {s : Scope} {e : ErrorAt} {v : Value} →
-        absorbs fold (bool_of v) ≡ false → GoesOn (some fold) s (some e) (value v) s (some e)
-    held : {fold : LogicalFold} {s : Scope} {pending : Pending} {e : ErrorAt} → GoesOn (some fold) s pending (error e) s (some e)
+        absorbs fold (bool_of v) ≡ false → GoesOn (Some fold) s (Some e) (value v) s (Some e)
+    held : {fold : LogicalFold} {s : Scope} {pending : Pending} {e : ErrorAt} → GoesOn (Some fold) s pending (error e) s (Some e)
 
 module _ (accumulator item : ℕ) (fold : Option LogicalFold) (condition next result : Expr) where
   -- over the items left, from a scope and a pending error
   pub data InLoop : List Value → Scope → Pending → Trace → Expr → Scope → Type 0 where
-    result_at_end : {s : Scope} → InLoop [] s none [] result s
+    result_at_end : {s : Scope} → InLoop [] s None [] result s
     condition_of_item : {x : Value} {xs : List Value} {s : Scope} {pending : Pending} → InLoop (x ∷ xs) s pending [] condition s
     result_at_false : {x : Value} {xs : List Value} {s : Scope} →
-        GaveBool (run condition s) false → InLoop (x ∷ xs) s none (run condition s).0 result s
+        GaveBool (run condition s) false → InLoop (x ∷ xs) s None (run condition s).0 result s
     step_of_item : {x : Value} {xs : List Value} {s : Scope} {pending : Pending} →
         GaveBool (run condition s) true → InLoop (x ∷ xs) s pending (run condition s).0 next (store s item x)
     later_item : {x : Value} {xs : List Value} {s t u : Scope} {pending still : Pending} {before : Trace} {f : Expr} →
@@ -103,28 +102,28 @@ module _ (accumulator item : ℕ) (fold : Option LogicalFold) (condition next re
 
 -- the ordinary loop is taken, with init's value v: there is no append step, or v is no empty list
 pub data TakesLoop : Option AppendStep → Value → Type 0 where
-  no_append : {v : Value} → TakesLoop none v
-  not_empty : {path : AppendStep} {v : Value} → is_empty_list v ≡ false → TakesLoop (some path) v
+  no_append : {v : Value} → TakesLoop None v
+  not_empty : {path : AppendStep} {v : Value} → is_empty_list v ≡ false → TakesLoop (Some path) v
 
 -- ---- the append path
 
 module _ (accumulator : ℕ) where
   -- a step `accumulator + [..]`, or `guard ? accumulator + [..] : accumulator`: its guard, and its items list
   pub data Appends : Expr → Option Expr → Expr → Type 0 where
-    always : {p q r : ℕ} {es : Elements} → Appends (binary p (arith add) (name q accumulator) (list_of r es)) none (list_of r es)
+    always : {p q r : ℕ} {es : Elements} → Appends (binary p (arith add) (name q accumulator) (list_of r es)) None (list_of r es)
     guarded : {o p q r n : ℕ} {guard : Expr} {es : Elements} →
-        Appends (conditional o guard (binary p (arith add) (name q accumulator) (list_of r es)) (name n accumulator)) (some guard) (list_of r es)
+        Appends (conditional o guard (binary p (arith add) (name q accumulator) (list_of r es)) (name n accumulator)) (Some guard) (list_of r es)
 
 -- the guard, if there is one, lets the item in, after these charges
 pub data LetsIn : Option Expr → Scope → Trace → Type 0 where
-  unguarded : {s : Scope} → LetsIn none s []
-  guard_holds : {guard : Expr} {s : Scope} → GaveBool (run guard s) true → LetsIn (some guard) s (run guard s).0
+  unguarded : {s : Scope} → LetsIn None s []
+  guard_holds : {guard : Expr} {s : Scope} → GaveBool (run guard s) true → LetsIn (Some guard) s (run guard s).0
 
 module _ (item : ℕ) (condition : Expr) (guard : Option Expr) (items : Expr) where
   -- over the items left, from a scope; an items list is followed at once by the charge of a cell for each of its elements
   pub data InAppend : List Value → Scope → Trace → Expr → Scope → Type 0 where
     condition_of_item : {x : Value} {xs : List Value} {s : Scope} → InAppend (x ∷ xs) s [] condition s
-    guard_of_item : {x : Value} {xs : List Value} {s : Scope} {g : Expr} → guard ≡ some g →
+    guard_of_item : {x : Value} {xs : List Value} {s : Scope} {g : Expr} → guard ≡ Some g →
         GaveBool (run condition s) true → InAppend (x ∷ xs) s (run condition s).0 g (store s item x)
     items_of_item : {x : Value} {xs : List Value} {s : Scope} {asked : Trace} →
         GaveBool (run condition s) true →
@@ -136,7 +135,7 @@ module _ (item : ℕ) (condition : Expr) (guard : Option Expr) (items : Expr) wh
         (run items (store s item x)).1 ≡ value (list vs) →
         InAppend xs (store s item x) before f u →
         InAppend (x ∷ xs) s ((run condition s).0 ++ (asked ++ ((run items (store s item x)).0 ++ (cells vs ∷ before)))) f u
-    after_no_items : {x : Value} {xs : List Value} {s u : Scope} {g : Expr} {before : Trace} {f : Expr} → guard ≡ some g →
+    after_no_items : {x : Value} {xs : List Value} {s u : Scope} {g : Expr} {before : Trace} {f : Expr} → guard ≡ Some g →
         GaveBool (run condition s) true →
         GaveBool (run g (store s item x)) false →
         InAppend xs (store s item x) before f u →
@@ -164,16 +163,16 @@ pub data Begins : Expr → Scope → Trace → Expr → Scope → Type 0 where
   loop_of : {p a i : ℕ} {range init condition next result f : Expr} {s t : Scope} {v w : Value} {xs : List Value} {before : Trace} →
       (run init s).1 ≡ value v →
       (run range s).1 ≡ value w →
-      items_of w ≡ some xs →
+      items_of w ≡ Some xs →
       TakesLoop (append_step a (look condition) (look next) (look result)) v →
-      InLoop a i (of_name a (look next).folds) condition next result xs (store s a v) none before f t →
+      InLoop a i (of_name a (look next).folds) condition next result xs (store s a v) None before f t →
       Begins (comprehension p a i range init condition next result) s (step ∷ ((run init s).0 ++ ((run range s).0 ++ before))) f t
   -- on the append path: a literal condition, a step that appends, the accumulator as the result, and an empty list as init
   append_of : {p a i q n : ℕ} {x : Scalar} {range init next items f : Expr} {guard : Option Expr} {s t : Scope} {w : Value} {xs : List Value}
       {before : Trace} →
       (run init s).1 ≡ value (list nil) →
       (run range s).1 ≡ value w →
-      items_of w ≡ some xs →
+      items_of w ≡ Some xs →
       Appends a next guard items →
       InAppend i (literal q x) guard items xs s before f t →
       Begins (comprehension p a i range init (literal q x) next (name n a)) s (step ∷ ((run init s).0 ++ ((run range s).0 ++ before))) f t

@@ -1,6 +1,5 @@
 -- A binding brought in: the room with one binding more, the room that is left for it, and what an accepted binding is.
-use Rattle.std.specs.Prelude.{ℕ, ◌+◌, ◌≤◌, ◌<◌, min, ◌≡◌, List, ◌∷◌}
-use Rattle.std.proofs.Math.Option.{none, some}
+use Rattle.std.specs.Prelude.{ℕ, ◌+◌, ◌≤◌, ◌<◌, min, ◌≡◌, List, ◌∷◌, None, Some}
 use Rattle.meaning.specs.Limits.{names, deepest_value, most_cells, most_bytes}
 use Rattle.meaning.specs.Value.{Value, nesting}
 use Rattle.meaning.specs.Expr.{Expr}
@@ -28,7 +27,7 @@ pub record Brought (lent_cells lent_bytes : ℕ) (room : BindingRoom) (number : 
   pub made : Literal
   pub held : Value
   pub named : number < names
-  pub free : scope_of room number ≡ none
+  pub free : scope_of room number ≡ None
   pub reads : read_table table text ≡ got rule
   pub literals : literal_of rule ≡ got made
   pub spells : spelled_root made ≡ got held
@@ -36,4 +35,4 @@ pub record Brought (lent_cells lent_bytes : ℕ) (room : BindingRoom) (number : 
   pub nests : nesting held ≤ deepest_value
   pub fits : Fits lent_cells lent_bytes room held
   pub becomes : more ≡ with_binding room number held
-  pub holds : scope_of more number ≡ some held
+  pub holds : scope_of more number ≡ Some held

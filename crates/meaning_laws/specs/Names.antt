@@ -1,7 +1,6 @@
 -- Which names an expression names: the numbers in its name records, and not those that a comprehension only carries for its accumulator
 -- and its item. Two scopes agree where both hold the same value, or both none, under each name in question.
-use Rattle.std.specs.Prelude.{ℕ, ◌≡◌, ◌⊎◌, List, [], ◌∷◌}
-use Rattle.std.proofs.Math.Option.{none}
+use Rattle.std.specs.Prelude.{ℕ, ◌≡◌, ◌⊎◌, List, [], ◌∷◌, None}
 use Rattle.meaning.specs.Expr.{Expr, literal, name, unary, binary, conditional, select, list_of, map_of, comprehension, call, none_call, or_value, Elements, no_elements, element, marked_element, Pairs, no_pairs, pair, marked_pair}
 use Rattle.meaning.specs.Comprehension.{Scope}
 
@@ -37,7 +36,7 @@ Agree these s t = (n : ℕ) → these n → s n ≡ t n
 
 -- under none of these names the scope holds a value
 abbrev pub Absent : (ℕ → Type 0) → Scope → Type 0
-Absent these s = (n : ℕ) → these n → s n ≡ none
+Absent these s = (n : ℕ) → these n → s n ≡ None
 
 -- each of these names is one of those
 abbrev pub Among : (ℕ → Type 0) → (ℕ → Type 0) → Type 0

@@ -36,39 +36,37 @@ is-nan (fin s m e) h = absurd (true≢false (sym h))
 pub nan-of : (b : ℕ) → is_nan b ≡ true → of_bits binary64 b ≡ nan
 nan-of b e = is-nan (of_bits binary64 b) (sym (nan_bits_is binary64 b) ∙ nan_is b ∙ e)
 
-pub zero-over-zero : div binary64 (of_bits binary64 0) (of_bits binary64 0) ≡ nan
-unfolding div of_bits
-zero-over-zero = refl
+pub nan-back : of_bits binary64 arithmetic_nan ≡ nan
+nan-back = nan-of arithmetic_nan refl
 
 pub differs : (x : Float) → ne x x ≡ true → x ≡ nan
 differs x e = differs_from_itself x (subst T (sym e) tt)
 
-pub same-no-nan : (x : Float) → ne x x ≡ false → T (not (Ieee.is_nan x))
+pub same-no-nan : (x : Float) → ne x x ≡ false → Ieee.is_nan x ≡ false
 unfolding Ieee.is_nan
 same-no-nan nan e = absurd (true≢false (sym nan_differs ∙ e))
-same-no-nan (inf s) e = tt
-same-no-nan (fin s m e) h = tt
+same-no-nan (inf s) e = refl
+same-no-nan (fin s m e) h = refl
 
 pub nan-bits : to_bits binary64 nan ≡ arithmetic_nan
 unfolding to_bits
 nan-bits = refl
 
+pub bits-of-nan : (x : Float) → Ieee.is_nan x ≡ true → to_bits binary64 x ≡ arithmetic_nan
+bits-of-nan x e = ap (to_bits binary64) (is-nan x e) ∙ nan-bits
+
 -- ---- the Double of a float
 
-pub double-of-nan : (x : Float) → ne x x ≡ true → double_of (to_bits binary64 x) ≡ Nan arithmetic_nan
+pub double-of-nan : (x : Float) → Ieee.is_nan x ≡ true → double_of (to_bits binary64 x) ≡ Nan arithmetic_nan
 unfolding double_of
-double-of-nan x e = ap double_of (ap (to_bits binary64) (differs x e) ∙ nan-bits)
+double-of-nan x e = ap double_of (bits-of-nan x e)
 
-pub double-of-plain : (x : Float) → T (fits binary64 x) → ne x x ≡ false → double_of (to_bits binary64 x) ≡ Plain x
+pub double-of-plain : (x : Float) → T (fits binary64 x) → Ieee.is_nan x ≡ false → double_of (to_bits binary64 x) ≡ Plain x
 unfolding double_of
 double-of-plain x f e =
     let back = of_bits-to_bits binary64 x f in
-    let k : is_nan (to_bits binary64 x) ≡ false = sym (nan_is (to_bits binary64 x)) ∙ nan_bits_is binary64 (to_bits binary64 x) ∙ ap Ieee.is_nan back ∙ no (Ieee.is_nan x) (same-no-nan x e) in
+    let k : is_nan (to_bits binary64 x) ≡ false = sym (nan_is (to_bits binary64 x)) ∙ nan_bits_is binary64 (to_bits binary64 x) ∙ ap Ieee.is_nan back ∙ e in
     rw (k, back)
-  where
-    no : (t : Bool) → T (not t) → t ≡ false
-    no true h = absurd h
-    no false h = refl
 
 -- ---- bits and Double give each other back
 
@@ -96,7 +94,7 @@ proper b = go (is_nan b) refl
 
 -- From a Double so spelled to bits and back changes nothing.
 pub double-back : (d : Double) → Proper d → double_of (bits_of d) ≡ d
-double-back (Plain x) p = double-of-plain x p.0 p.1
+double-back (Plain x) p = double-of-plain x p.0 (same-no-nan x p.1)
 double-back (Nan b) p = unfold double_of in rw p
 
 -- ---- what each operation gives, by the bits

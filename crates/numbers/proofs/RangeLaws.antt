@@ -10,8 +10,7 @@ use lib.Dec.{leb, ltb, eqb}
 use borrow.Author.Tests.{ltb-true}
 use Rattle.numbers.specs.declared.error.ArithmeticError.{ArithmeticError}
 use Rattle.numbers.specs.declared.error.ArithmeticError.TheVariants as Failed
-use Rattle.numbers.specs.declared.int.IntAnswer.{IntAnswer}
-use Rattle.numbers.specs.declared.uint.UintAnswer.{UintAnswer}
+use Rattle.std.specs.Prelude.{Result, Ok, Err}
 use Rattle.numbers.specs.Int as Int
 use Rattle.numbers.specs.Int.{in_range, is_zero}
 use Rattle.numbers.specs.Uint as Uint
@@ -21,15 +20,15 @@ use Rattle.numbers.proofs.IntLaws.{in-range, range_small}
 -- ---- Int
 
 -- of an answer that is a number
-abbrev pub IntInRange : IntAnswer → Type 0
-IntInRange (IntAnswer.Value z) = in_range z ≡ true
-IntInRange (IntAnswer.Error e) = Unit {0}
+abbrev pub IntInRange : Result ℤ ArithmeticError → Type 0
+IntInRange (Ok z) = in_range z ≡ true
+IntInRange (Err e) = Unit {0}
 
 answer-in-range : (z : ℤ) → IntInRange (Int.answer z)
 unfolding Int.answer
 answer-in-range z = go (in_range z) refl
   where
-    go : (t : Bool) → in_range z ≡ t → IntInRange (cond t (IntAnswer.Value z) (IntAnswer.Error Failed.Overflow))
+    go : (t : Bool) → in_range z ≡ t → IntInRange (cond t (Ok z) (Err Failed.Overflow))
     go true e = e
     go false e = tt
 
@@ -56,7 +55,7 @@ pub int_div : (a b : ℤ) → IntInRange (Int.div_of a b)
 unfolding Int.div_of
 int_div a b = go (is_zero b)
   where
-    go : (t : Bool) → IntInRange (cond t (IntAnswer.Error Failed.DivisionByZero) (Int.answer (quot_z a b)))
+    go : (t : Bool) → IntInRange (cond t (Err Failed.DivisionByZero) (Int.answer (quot_z a b)))
     go true = tt
     go false = answer-in-range (quot_z a b)
 
@@ -64,22 +63,22 @@ pub int_rem : (a b : ℤ) → in_range a ≡ true → IntInRange (Int.rem_of a b
 unfolding Int.rem_of
 int_rem a b h = go (is_zero b) (in_range (quot_z a b))
   where
-    go : (t u : Bool) → IntInRange (cond t (IntAnswer.Error Failed.RemainderByZero) (cond u (IntAnswer.Value (rem_z a b)) (IntAnswer.Error Failed.Overflow)))
+    go : (t u : Bool) → IntInRange (cond t (Err Failed.RemainderByZero) (cond u (Ok (rem_z a b)) (Err Failed.Overflow)))
     go true u = tt
     go false true = remainder-in-range a b h
     go false false = tt
 
 -- ---- Uint
 
-abbrev pub UintInRange : UintAnswer → Type 0
-UintInRange (UintAnswer.Value n) = n < 2 ^ 64
-UintInRange (UintAnswer.Error e) = Unit {0}
+abbrev pub UintInRange : Result ℕ ArithmeticError → Type 0
+UintInRange (Ok n) = n < 2 ^ 64
+UintInRange (Err e) = Unit {0}
 
 exact-in-range : (n : ℕ) → UintInRange (Uint.answer n)
 unfolding Uint.answer
 exact-in-range n = go (ltb n (2 ^ 64)) (ltb-true n (2 ^ 64))
   where
-    go : (t : Bool) → (t ≡ true → n < 2 ^ 64) → UintInRange (cond t (UintAnswer.Value n) (UintAnswer.Error Failed.Overflow))
+    go : (t : Bool) → (t ≡ true → n < 2 ^ 64) → UintInRange (cond t (Ok n) (Err Failed.Overflow))
     go true h = h refl
     go false h = tt
 
@@ -87,7 +86,7 @@ divided-in-range : (b : ℕ) (e : ArithmeticError) (a n : ℕ) → n ≤ a → a
 unfolding unless_zero
 divided-in-range b e a n h k = go (eqb b 0)
   where
-    go : (t : Bool) → UintInRange (cond t (UintAnswer.Error e) (UintAnswer.Value n))
+    go : (t : Bool) → UintInRange (cond t (Err e) (Ok n))
     go true = tt
     go false = omega arith
 
@@ -99,7 +98,7 @@ pub uint-sub : (a b : ℕ) → a < 2 ^ 64 → UintInRange (Uint.sub_of a b)
 unfolding Uint.sub_of
 uint-sub a b h = go (leb b a)
   where
-    go : (t : Bool) → UintInRange (cond t (UintAnswer.Value (a - b)) (UintAnswer.Error Failed.Overflow))
+    go : (t : Bool) → UintInRange (cond t (Ok (a - b)) (Err Failed.Overflow))
     go true = omega arith
     go false = tt
 

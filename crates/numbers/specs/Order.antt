@@ -1,7 +1,8 @@
 -- The order of numbers of all three kinds: the order of their points on the exact number line, with nothing rounded.
-use Rattle.std.specs.Prelude.{Bool, true, false, cond, ℕ, ◌+◌, ◌*◌, ◌^◌, ltb, eqb, ℤ, pos, negsuc, nat_abs}
-use Rattle.numbers.specs.declared.order.Order.{Order}
-use Rattle.numbers.specs.declared.order.Order.TheVariants.{Less, Equal, Greater, Unordered}
+use Rattle.std.specs.Prelude.{Bool, true, false, cond, ℕ, ◌+◌, ◌*◌, ◌^◌, eqb, ℤ, pos, negsuc, nat_abs, Option, None, Some, option_map}
+use Rattle.std.specs.declared.cmp.Ordering.{Ordering}
+use Rattle.std.specs.declared.cmp.Ordering.TheVariants.{Less, Equal, Greater}
+use Rattle.std.specs.Ordering.{nat_cmp, ordering_reverse, is_eq, is_some_and}
 use Rattle.numbers.specs.declared.order.Number.{Number}
 use Rattle.numbers.specs.declared.order.Number.TheVariants.{Int, Uint, Double}
 use Rattle.numbers.specs.Double.{Point, nan, infinite, finite, point_of, bits_of}
@@ -29,38 +30,33 @@ number_point (Double d) = point_of (bits_of d)
 
 -- ---- the order of points
 
-unfoldable pub size_order : ℕ → ℕ → Order
-size_order a b = cond (ltb a b) Less (cond (eqb a b) Equal Greater)
+unfoldable pub size_order : ℕ → ℕ → Ordering
+size_order a b = nat_cmp a b
 
 -- -0 and 0 are one point
-unfoldable pub signed_order : Bool → ℕ → Bool → ℕ → Order
+unfoldable pub signed_order : Bool → ℕ → Bool → ℕ → Ordering
 signed_order false a false b = size_order a b
 signed_order false a true b = cond (eqb (a + b) 0) Equal Greater
 signed_order true a false b = cond (eqb (a + b) 0) Equal Less
 signed_order true a true b = size_order b a
 
-unfoldable pub order_of : Point → Point → Order
-order_of nan y = Unordered
-order_of (infinite s) nan = Unordered
-order_of (infinite false) (infinite false) = Equal
-order_of (infinite false) (infinite true) = Greater
-order_of (infinite true) (infinite false) = Less
-order_of (infinite true) (infinite true) = Equal
-order_of (infinite false) (finite t b) = Greater
-order_of (infinite true) (finite t b) = Less
-order_of (finite s a) nan = Unordered
-order_of (finite s a) (infinite false) = Less
-order_of (finite s a) (infinite true) = Greater
-order_of (finite s a) (finite t b) = signed_order s a t b
+-- none where one of the two is no number
+unfoldable pub order_of : Point → Point → Option Ordering
+order_of nan y = None
+order_of (infinite s) nan = None
+order_of (infinite false) (infinite false) = Some Equal
+order_of (infinite false) (infinite true) = Some Greater
+order_of (infinite true) (infinite false) = Some Less
+order_of (infinite true) (infinite true) = Some Equal
+order_of (infinite false) (finite t b) = Some Greater
+order_of (infinite true) (finite t b) = Some Less
+order_of (finite s a) nan = None
+order_of (finite s a) (infinite false) = Some Less
+order_of (finite s a) (infinite true) = Some Greater
+order_of (finite s a) (finite t b) = Some (signed_order s a t b)
 
-abbrev pub is_equal : Order → Bool
-is_equal Less = false
-is_equal Equal = true
-is_equal Greater = false
-is_equal Unordered = false
+abbrev pub is_equal : Option Ordering → Bool
+is_equal o = is_some_and is_eq o
 
-abbrev pub flipped : Order → Order
-flipped Less = Greater
-flipped Equal = Equal
-flipped Greater = Less
-flipped Unordered = Unordered
+abbrev pub flipped : Option Ordering → Option Ordering
+flipped o = option_map ordering_reverse o

@@ -7,7 +7,7 @@ pub mod double;
 pub mod error;
 // Int, an `i64`: its size, and checked arithmetic.
 pub mod int;
-// A number of any kind, and how two of them stand.
+// A number of any kind.
 pub mod order;
 // Uint, a `u64`: checked arithmetic.
 pub mod uint;

@@ -1,4 +1,4 @@
-// A number of any kind, and how two of them stand.
+// A number of any kind.
 use crate::double::Double;
 
 #[derive(Clone, Copy)]
@@ -6,13 +6,4 @@ pub enum Number {
     Int(i64),
     Uint(u64),
     Double(Double),
-}
-
-#[derive(Clone, Copy)]
-pub enum Order {
-    Less,
-    Equal,
-    Greater,
-    // One of the two is NaN.
-    Unordered,
 }

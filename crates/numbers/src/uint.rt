@@ -1,73 +1,38 @@
-// Uint, a `u64`: what arithmetic on it answers, and that arithmetic, checked.
+// Uint, a `u64`: arithmetic, checked. int.rt and this file differ in what a zero divisor and -1 do, and each body is one of std's methods,
+// so a trait for both would only repeat the methods.
+#![tactic(auto, using(crate::proofs::UintLaws::answers))]
+
 ghost use Rattle.std.specs.Prelude.{◌≡◌};
 ghost use Rattle.numbers.specs.Uint.{add_of, sub_of, mul_of, div_of, rem_of};
 
 use crate::error::ArithmeticError;
 
-#[derive(Clone, Copy)]
-pub enum UintAnswer {
-    Value(u64),
-    Error(ArithmeticError),
-}
-
-const MAX: u64 = 18446744073709551615;
-
-// Where the exact result is not in range.
-fn overflow() -> UintAnswer
-    ensures { result ≡ UintAnswer.Error ArithmeticError.Overflow }
-{
-    UintAnswer::Error(ArithmeticError::Overflow)
-}
-
-pub fn add(a: u64, b: u64) -> UintAnswer
+pub fn add(a: u64, b: u64) -> Result<u64, ArithmeticError>
     ensures { result ≡ add_of a b }
 {
-    if MAX - b < a {
-        overflow()
-    } else {
-        UintAnswer::Value(a + b)
-    }
+    a.checked_add(b).ok_or(ArithmeticError::Overflow)
 }
 
-pub fn sub(a: u64, b: u64) -> UintAnswer
+pub fn sub(a: u64, b: u64) -> Result<u64, ArithmeticError>
     ensures { result ≡ sub_of a b }
 {
-    if b <= a {
-        UintAnswer::Value(a - b)
-    } else {
-        overflow()
-    }
+    a.checked_sub(b).ok_or(ArithmeticError::Overflow)
 }
 
-pub fn mul(a: u64, b: u64) -> UintAnswer
+pub fn mul(a: u64, b: u64) -> Result<u64, ArithmeticError>
     ensures { result ≡ mul_of a b }
 {
-    if b == 0 {
-        return UintAnswer::Value(0);
-    }
-    if MAX / b < a {
-        overflow()
-    } else {
-        UintAnswer::Value(a * b)
-    }
+    a.checked_mul(b).ok_or(ArithmeticError::Overflow)
 }
 
-pub fn div(a: u64, b: u64) -> UintAnswer
+pub fn div(a: u64, b: u64) -> Result<u64, ArithmeticError>
     ensures { result ≡ div_of a b }
 {
-    if b == 0 {
-        UintAnswer::Error(ArithmeticError::DivisionByZero)
-    } else {
-        UintAnswer::Value(a / b)
-    }
+    a.checked_div(b).ok_or(ArithmeticError::DivisionByZero)
 }
 
-pub fn rem(a: u64, b: u64) -> UintAnswer
+pub fn rem(a: u64, b: u64) -> Result<u64, ArithmeticError>
     ensures { result ≡ rem_of a b }
 {
-    if b == 0 {
-        UintAnswer::Error(ArithmeticError::RemainderByZero)
-    } else {
-        UintAnswer::Value(a % b)
-    }
+    a.checked_rem(b).ok_or(ArithmeticError::RemainderByZero)
 }

@@ -6,11 +6,12 @@ use Prim.Native.Nat.{ℕ, ◌%◌, ◌^◌, ◌≤◌, ◌<◌}
 use native.Mathlib.Omega.{arith}
 use lib.Dec.{leb}
 use borrow.Author.Tests.{leb-true, leb-false}
-use Rattle.numbers.specs.declared.order.Order.{Order}
-use Rattle.numbers.specs.declared.order.Order.TheVariants.{Equal}
+use Rattle.std.specs.Prelude.{Some}
+use Rattle.std.specs.declared.cmp.Ordering.{Ordering}
+use Rattle.std.specs.declared.cmp.Ordering.TheVariants.{Equal}
 use Rattle.numbers.specs.Double.{Point, nan, infinite, finite, negative, point_of, is_nan}
 use Rattle.numbers.specs.Order.{order_of}
-use Rattle.numbers_laws.proofs.OrderLaws.{order-self}
+use Rattle.numbers_laws.proofs.OrderLaws.{just, order-self}
 use Rattle.numbers_laws.proofs.PointLaws.{bits-sized, bits-order}
 use Rattle.numbers_laws.proofs.SignedOrder.{SaysSigned, signed-says}
 
@@ -44,7 +45,7 @@ whole b c h k e m = go (leb (2 ^ 63) b) (leb-true (2 ^ 63) b) (leb-false (2 ^ 63
 pub bits-one : (b c : ℕ) → b < 2 ^ 64 → c < 2 ^ 64 → is_nan b ≡ false → is_nan c ≡ false → point_of b ≡ point_of c → b ≡ c
 bits-one b c h k n m e =
     let s : negative b ≡ negative c = sym (sign-is b n) ∙ ap sign e ∙ sign-is c m in
-    let o : order_of (point_of b) (point_of c) ≡ Equal = ap (order_of (point_of b)) (sym e) ∙ order-self (point_of b) (is_number b n) in
+    let o : order_of (point_of b) (point_of c) ≡ Some Equal = ap (order_of (point_of b)) (sym e) ∙ order-self (point_of b) (is_number b n) in
     let says : SaysSigned Equal (negative b) (b % 2 ^ 63) (negative c) (c % 2 ^ 63) =
-    subst (λ (r : Order). SaysSigned r (negative b) (b % 2 ^ 63) (negative c) (c % 2 ^ 63)) (sym (bits-order b c n m) ∙ o) (signed-says (negative b) (b % 2 ^ 63) (negative c) (c % 2 ^ 63)) in
+    subst (λ (r : Ordering). SaysSigned r (negative b) (b % 2 ^ 63) (negative c) (c % 2 ^ 63)) (just (sym (bits-order b c n m) ∙ o)) (signed-says (negative b) (b % 2 ^ 63) (negative c) (c % 2 ^ 63)) in
     whole b c h k s (like (negative b) (b % 2 ^ 63) (c % 2 ^ 63) (subst (λ (t : Bool). SaysSigned Equal (negative b) (b % 2 ^ 63) t (c % 2 ^ 63)) (sym s) says))

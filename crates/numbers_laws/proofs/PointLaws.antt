@@ -9,7 +9,9 @@ use lib.Dec.{ltb, eqb, lit<, lit≤}
 use lib.Pow.{pow_pos, pow_mono, pow-add, shl_lt}
 use borrow.Author.Tests.{eq-eqb, ne_eqb, ltb-true, ltb-false, eqb-true, eqb-false}
 use Rattle.numbers.specs.Double.{nan, infinite, finite, negative, exponent, digits, units, size_of, point_of, is_nan}
-use Rattle.numbers.specs.Order.{size_order, signed_order, order_of, whole_point, flipped}
+use Rattle.std.specs.Prelude.{Some}
+use Rattle.std.specs.Ordering.{ordering_reverse}
+use Rattle.numbers.specs.Order.{size_order, signed_order, order_of, whole_point}
 use Rattle.numbers_laws.proofs.SignedOrder.{signed-map, unlike-map, some, size-swap}
 use Rattle.numbers_laws.proofs.OrderLaws.{Sized, order-sized}
 
@@ -129,26 +131,26 @@ size-key b = ap (units (exponent b)) (same b)
 -- ---- the laws that `order` uses
 
 -- Two Doubles compare as their signs and the bits below them.
-pub bits-order : (p q : ℕ) → is_nan p ≡ false → is_nan q ≡ false → order_of (point_of p) (point_of q) ≡ signed_order (negative p) (p % 2 ^ 63) (negative q) (q % 2 ^ 63)
+pub bits-order : (p q : ℕ) → is_nan p ≡ false → is_nan q ≡ false → order_of (point_of p) (point_of q) ≡ Some (signed_order (negative p) (p % 2 ^ 63) (negative q) (q % 2 ^ 63))
 bits-order p q h k =
     order-sized beyond (pow_pos 2098) (point_of p) (point_of q) (negative p) (size_of p) (negative q) (size_of q) (bits-sized p h) (bits-sized q k)
-    ∙ (λ i. signed_order (negative p) (size-key p i) (negative q) (size-key q i))
-    ∙ signed-map key key-zero key-grows (negative p) (p % 2 ^ 63) (negative q) (q % 2 ^ 63)
+    ∙ (λ i. Some (signed_order (negative p) (size-key p i) (negative q) (size-key q i)))
+    ∙ ap Some (signed-map key key-zero key-grows (negative p) (p % 2 ^ 63) (negative q) (q % 2 ^ 63))
 
 -- A whole number and a Double compare as their signs and sizes.
-whole-bits-order : (s : Bool) (n b : ℕ) (t : Bool) → n < 2 ^ 64 → is_nan b ≡ false → negative b ≡ t → order_of (whole_point s n) (point_of b) ≡ signed_order s (n * 2 ^ 1074) t (size_of b)
-whole-bits-order s n b t h k e = order-sized beyond (pow_pos 2098) (whole_point s n) (point_of b) s (n * 2 ^ 1074) (negative b) (size_of b) (whole-sized s n h) (bits-sized b k) ∙ ap (λ (u : Bool). signed_order s (n * 2 ^ 1074) u (size_of b)) e
+whole-bits-order : (s : Bool) (n b : ℕ) (t : Bool) → n < 2 ^ 64 → is_nan b ≡ false → negative b ≡ t → order_of (whole_point s n) (point_of b) ≡ Some (signed_order s (n * 2 ^ 1074) t (size_of b))
+whole-bits-order s n b t h k e = order-sized beyond (pow_pos 2098) (whole_point s n) (point_of b) s (n * 2 ^ 1074) (negative b) (size_of b) (whole-sized s n h) (bits-sized b k) ∙ ap (λ (u : Bool). Some (signed_order s (n * 2 ^ 1074) u (size_of b))) e
 
 module _ (n b : ℕ) (h : n < 2 ^ 64) (k : is_nan b ≡ false) where
-  pub whole_above : negative b ≡ false → order_of (whole_point false n) (point_of b) ≡ size_order (n * 2 ^ 1074) (size_of b)
+  pub whole_above : negative b ≡ false → order_of (whole_point false n) (point_of b) ≡ Some (size_order (n * 2 ^ 1074) (size_of b))
   whole_above e = whole-bits-order false n b false h k e ∙ unfold signed_order in refl
 
-  pub whole_below : negative b ≡ true → order_of (whole_point true n) (point_of b) ≡ flipped (size_order (n * 2 ^ 1074) (size_of b))
-  whole_below e = whole-bits-order true n b true h k e ∙ unfold signed_order in size-swap (size_of b) (n * 2 ^ 1074)
+  pub whole_below : negative b ≡ true → order_of (whole_point true n) (point_of b) ≡ Some (ordering_reverse (size_order (n * 2 ^ 1074) (size_of b)))
+  whole_below e = whole-bits-order true n b true h k e ∙ unfold signed_order in ap Some (size-swap (size_of b) (n * 2 ^ 1074))
 
   -- of unlike signs only the zeros matter
-  pub whole-unlike : (s : Bool) → negative b ≡ not s → order_of (whole_point s n) (point_of b) ≡ signed_order s n (not s) (b % 2 ^ 63)
+  pub whole-unlike : (s : Bool) → negative b ≡ not s → order_of (whole_point s n) (point_of b) ≡ Some (signed_order s n (not s) (b % 2 ^ 63))
   whole-unlike s e =
       whole-bits-order s n b (not s) h k e
-      ∙ ap (signed_order s (n * 2 ^ 1074) (not s)) (size-key b)
-      ∙ unlike-map (λ (m : ℕ). m * 2 ^ 1074) key (zero-mul (2 ^ 1074)) key-zero (λ (m : ℕ) p. mul-pos p (pow_pos 1074)) (some key key-zero key-grows) s n (b % 2 ^ 63)
+      ∙ ap (λ (m : ℕ). Some (signed_order s (n * 2 ^ 1074) (not s) m)) (size-key b)
+      ∙ ap Some (unlike-map (λ (m : ℕ). m * 2 ^ 1074) key (zero-mul (2 ^ 1074)) key-zero (λ (m : ℕ) p. mul-pos p (pow_pos 1074)) (some key key-zero key-grows) s n (b % 2 ^ 63))

@@ -6,9 +6,10 @@ use native.Mathlib.Omega.{arith}
 use lib.Dec.{ltb, eqb}
 use lib.Arith.{lt_of_le-ne}
 use borrow.Author.Tests.{lt-ltb, le-ltb, eq-eqb, ne_eqb, ltb-true, ltb-false, eqb-true, eqb-false}
-use Rattle.numbers.specs.declared.order.Order.{Order}
-use Rattle.numbers.specs.declared.order.Order.TheVariants.{Less, Equal, Greater, Unordered}
-use Rattle.numbers.specs.Order.{size_order, signed_order, flipped}
+use Rattle.std.specs.declared.cmp.Ordering.{Ordering}
+use Rattle.std.specs.declared.cmp.Ordering.TheVariants.{Less, Equal, Greater}
+use Rattle.std.specs.Ordering.{ordering_reverse}
+use Rattle.numbers.specs.Order.{size_order, signed_order}
 
 -- ---- sizes
 
@@ -25,11 +26,10 @@ unfolding size_order
 size-greater a b h = rw (le-ltb a b (omega arith), ne_eqb a b (λ e. omega arith))
 
 -- what an order of two sizes says of them
-abbrev pub Says : Order → ℕ → ℕ → Type 0
+abbrev pub Says : Ordering → ℕ → ℕ → Type 0
 Says Less a b = a < b
 Says Equal a b = a ≡ b
 Says Greater a b = b < a
-Says Unordered a b = ⊥
 
 pub size-says : (a b : ℕ) → Says (size_order a b) a b
 unfolding size_order
@@ -43,16 +43,14 @@ size-says a b = go (ltb a b) (eqb a b) (ltb-true a b) (ltb-false a b) (eqb-true 
 -- ---- with signs
 
 -- what an order of two signed sizes says of them
-abbrev pub SaysSigned : Order → Bool → ℕ → Bool → ℕ → Type 0
+abbrev pub SaysSigned : Ordering → Bool → ℕ → Bool → ℕ → Type 0
 SaysSigned o false a false b = Says o a b
 SaysSigned Less false a true b = ⊥
 SaysSigned Equal false a true b = a + b ≡ 0
 SaysSigned Greater false a true b = 0 < a + b
-SaysSigned Unordered false a true b = ⊥
 SaysSigned Less true a false b = 0 < a + b
 SaysSigned Equal true a false b = a + b ≡ 0
 SaysSigned Greater true a false b = ⊥
-SaysSigned Unordered true a false b = ⊥
 SaysSigned o true a true b = Says o b a
 
 above : (n : ℕ) → (n ≡ 0 → ⊥) → 0 < n
@@ -75,24 +73,20 @@ signed-says true a false b = go (eqb (a + b) 0) (eqb-true (a + b) 0) (eqb-false 
     go false m n = above (a + b) (n refl)
 
 -- the other way round: what is so is answered
-pub signed_is : (o : Order) (s : Bool) (a : ℕ) (t : Bool) (b : ℕ) → SaysSigned o s a t b → signed_order s a t b ≡ o
+pub signed_is : (o : Ordering) (s : Bool) (a : ℕ) (t : Bool) (b : ℕ) → SaysSigned o s a t b → signed_order s a t b ≡ o
 unfolding signed_order
 signed_is Less false a false b h = size_less a b h
 signed_is Equal false a false b h = size-equal a b h
 signed_is Greater false a false b h = size-greater a b h
-signed_is Unordered false a false b h = absurd h
 signed_is Less true a true b h = size_less b a h
 signed_is Equal true a true b h = size-equal b a h
 signed_is Greater true a true b h = size-greater b a h
-signed_is Unordered true a true b h = absurd h
 signed_is Less false a true b h = absurd h
 signed_is Equal false a true b h = rw (eq-eqb (a + b) 0 h)
 signed_is Greater false a true b h = rw (ne_eqb (a + b) 0 (λ e. omega arith))
-signed_is Unordered false a true b h = absurd h
 signed_is Less true a false b h = rw (ne_eqb (a + b) 0 (λ e. omega arith))
 signed_is Equal true a false b h = rw (eq-eqb (a + b) 0 h)
 signed_is Greater true a false b h = absurd h
-signed_is Unordered true a false b h = absurd h
 
 -- ---- unlike signs
 
@@ -103,6 +97,8 @@ unlike-zero true a b e f = signed_is Equal true a false b (omega arith)
 pub unlike-some : (s : Bool) (a b : ℕ) → 0 < a + b → signed_order s a (not s) b ≡ cond s Less Greater
 unlike-some false a b h = signed_is Greater false a true b h
 unlike-some true a b h = signed_is Less true a false b h
+
+pub ruleset unlike = (unlike-zero, unlike-some)
 
 -- ---- sizes under maps that keep 0 and what is above it, and under one that grows
 
@@ -122,11 +118,10 @@ module _ (f : ℕ → ℕ) (f-zero : f 0 ≡ 0) (grows : (a b : ℕ) → a < b �
   size-map : (a b : ℕ) → size_order (f a) (f b) ≡ size_order a b
   size-map a b = go (size_order a b) (size-says a b)
     where
-      go : (o : Order) → Says o a b → size_order (f a) (f b) ≡ o
+      go : (o : Ordering) → Says o a b → size_order (f a) (f b) ≡ o
       go Less h = size_less (f a) (f b) (grows a b h)
       go Equal h = size-equal (f a) (f b) (ap f h)
       go Greater h = size-greater (f a) (f b) (grows b a h)
-      go Unordered h = absurd h
 
   pub some : (n : ℕ) → 0 < n → 0 < f n
   some n h = above-first (f 0) (f n) (grows 0 n h)
@@ -140,11 +135,10 @@ module _ (f : ℕ → ℕ) (f-zero : f 0 ≡ 0) (grows : (a b : ℕ) → a < b �
   signed-map true a false b = unlike-map f f f-zero f-zero some some true a b
   signed-map true a true b = unfold signed_order in size-map b a
 
-pub size-swap : (a b : ℕ) → size_order a b ≡ flipped (size_order b a)
+pub size-swap : (a b : ℕ) → size_order a b ≡ ordering_reverse (size_order b a)
 size-swap a b = go (size_order b a) (size-says b a)
   where
-    go : (o : Order) → Says o b a → size_order a b ≡ flipped o
+    go : (o : Ordering) → Says o b a → size_order a b ≡ ordering_reverse o
     go Less h = size-greater a b h
     go Equal h = size-equal a b (sym h)
     go Greater h = size_less a b h
-    go Unordered h = absurd h

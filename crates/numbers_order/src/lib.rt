@@ -1,15 +1,17 @@
 // Numbers of all three kinds on the exact number line: `compare`, and equality from it.
 // An Int or a Uint is a whole size with a sign; a Double is compared through its bits, as whole numbers. Nothing is rounded.
+// `compare` is no `PartialOrd` of `Number`: its proof rests on numbers_laws, and that on the crate of the type.
 #![tactic(auto)]
 
-ghost use Rattle.std.specs.Prelude.{◌≡◌, not, ◌*◌, ◌^◌};
+ghost use Rattle.std.specs.Prelude.{◌≡◌, false, not, ◌*◌, ◌^◌, nat_abs};
 ghost use Rattle.numbers.specs.Double.{size_of, point_of};
-ghost use Rattle.numbers.specs.Order.{size_order, signed_order, order_of, whole_point, number_point, is_equal, flipped};
+ghost use Rattle.numbers.specs.Order.{size_order, signed_order, order_of, below_zero, whole_point, number_point, is_equal};
 ghost use Rattle.numbers_order.specs.Size.{cut};
 
-use numbers::double::{INFINITY_BITS, SIGN_BIT, to_bits};
+use numbers::double::{INFINITY_BITS, SIGN_BIT};
 use numbers::int::magnitude;
-use numbers::order::{Number, Order};
+use numbers::order::Number;
+use std::cmp::Ordering;
 
 // The weight of the leading digit, which the bits of a normal Double leave out.
 const HIDDEN_DIGIT: u64 = 0x10_0000_0000_0000;
@@ -21,186 +23,167 @@ const ALL_WHOLE: u64 = 1075;
 
 const BEYOND_INTEGERS: u64 = 1087;
 
-fn flip(order: Order) -> Order
-    ensures { result ≡ flipped order }
-{
-    match order {
-        Order::Less => Order::Greater,
-        Order::Equal => Order::Equal,
-        Order::Greater => Order::Less,
-        Order::Unordered => Order::Unordered,
+// A size with a sign: a whole number, or a Double's bits below the sign.
+#[derive(Clone, Copy)]
+struct Signed {
+    below: bool,
+    size: u64,
+}
+
+impl From<i64> for Signed {
+    ghost from_gives = { λ z s. (s.below ≡ below_zero z) × (s.size ≡ nat_abs z) };
+
+    fn from(z: i64) -> Signed {
+        Signed {
+            below: z < 0,
+            size: magnitude(z),
+        }
     }
 }
 
-fn sizes(a: u64, b: u64) -> Order
-    ensures { result ≡ size_order a b }
-{
-    if a < b {
-        Order::Less
-    } else if a == b {
-        Order::Equal
-    } else {
-        Order::Greater
+impl From<u64> for Signed {
+    ghost from_gives = { λ n s. (s.below ≡ false) × (s.size ≡ n) };
+
+    fn from(n: u64) -> Signed {
+        Signed {
+            below: false,
+            size: n,
+        }
     }
 }
 
 // Two sizes of unlike signs, the first below zero or not: two zeros are equal.
-fn across_zero(below: bool, a: u64, b: u64) -> Order
+#[tactic(auto, using(numbers_laws::proofs::SignedOrder::unlike))]
+fn across_zero(below: bool, a: u64, b: u64) -> Ordering
     ensures { result ≡ signed_order below a (not below) b }
 {
-    if a == 0 {
-        if b == 0 {
-            return Order::Equal;
-        }
-    }
-    if below { Order::Less } else { Order::Greater }
-}
-
-// Two sizes with their signs, `left` of the first and `right` of the second.
-fn signed_sizes(left: bool, a: u64, right: bool, b: u64) -> Order
-    ensures { result ≡ signed_order left a right b }
-{
-    if left {
-        if right {
-            sizes(b, a)
-        } else {
-            across_zero(true, a, b)
-        }
+    if a == 0 && b == 0 {
+        Ordering::Equal
+    } else if below {
+        Ordering::Less
     } else {
-        if right {
-            across_zero(false, a, b)
-        } else {
-            sizes(a, b)
-        }
+        Ordering::Greater
     }
 }
 
-// The size of a Double cut to a whole number, and whether that cut anything off; or 2 ^ 64 and above.
-#[derive(Clone, Copy)]
-enum Size {
-    Parts(u64, bool),
-    Huge,
+#[tactic(auto, unfolding(numbers::specs::Order::signed_order, numbers::specs::Order::size_order))]
+fn signed_sizes(left: Signed, right: Signed) -> Ordering
+    ensures { result ≡ signed_order left.below left.size right.below right.size }
+{
+    match (left.below, right.below) {
+        (false, false) => left.size.cmp(&right.size),
+        (true, true) => right.size.cmp(&left.size),
+        _ => across_zero(left.below, left.size, right.size),
+    }
 }
 
-// The size of the Double with these bits, whatever its sign; an infinity is Huge.
-fn size_of(bits: u64) -> Size
+// The size of the Double with these bits, whatever its sign, cut to a whole number, and whether that cut anything off.
+// There is none from 2 ^ 64 on, and of an infinity.
+fn size_of(bits: u64) -> Option<(u64, bool)>
     ensures { result ≡ cut (size_of bits) }
 {
     let exponent = bits % SIGN_BIT / HIDDEN_DIGIT;
     let digits = bits % HIDDEN_DIGIT;
     if exponent == 0 {
-        return Size::Parts(0, digits != 0);
+        return Some((0, digits != 0));
     }
     if exponent < EXPONENT_OF_ONE {
-        return Size::Parts(0, true);
+        return Some((0, true));
     }
     let significand = digits + HIDDEN_DIGIT;
     if exponent < ALL_WHOLE {
         let shift = ALL_WHOLE - exponent;
         let whole = significand >> shift;
-        return Size::Parts(whole, whole << shift != significand);
+        return Some((whole, whole << shift != significand));
     }
     if exponent < BEYOND_INTEGERS {
-        return Size::Parts(significand << (exponent - ALL_WHOLE), false);
+        return Some((significand << (exponent - ALL_WHOLE), false));
     }
-    Size::Huge
+    None
 }
 
 // A whole number against the size of the Double with these bits.
-fn against(whole: u64, bits: u64) -> Order
+fn against(whole: u64, bits: u64) -> Ordering
     ensures { result ≡ size_order (whole * 2 ^ 1074) (size_of bits) }
 {
-    let Size::Parts(part, more) = size_of(bits) else {
-        return Order::Less;
-    };
-    if whole < part {
-        Order::Less
-    } else if part < whole {
-        Order::Greater
-    } else if more {
-        Order::Less
-    } else {
-        Order::Equal
+    match size_of(bits) {
+        Some(parts) => (whole, false).cmp(&parts),
+        None => Ordering::Less,
     }
 }
 
-// A whole number with its sign against a Double.
-fn whole_double(below: bool, size: u64, bits: u64) -> Order
-    ensures { result ≡ order_of (whole_point below size) (point_of bits) }
+// A whole number against a Double.
+fn whole_double(whole: Signed, bits: u64) -> Option<Ordering>
+    ensures { result ≡ order_of (whole_point whole.below whole.size) (point_of bits) }
 {
     let unsigned = bits % SIGN_BIT;
     if INFINITY_BITS < unsigned {
-        return Order::Unordered;
+        return None;
     }
-    if SIGN_BIT <= bits {
-        if below {
-            flip(against(size, bits))
-        } else {
-            across_zero(false, size, unsigned)
-        }
-    } else {
-        if below {
-            across_zero(true, size, unsigned)
-        } else {
-            against(size, bits)
-        }
+    match (whole.below, SIGN_BIT <= bits) {
+        (false, false) => Some(against(whole.size, bits)),
+        (true, true) => Some(against(whole.size, bits).reverse()),
+        (false, true) => Some(across_zero(false, whole.size, unsigned)),
+        (true, false) => Some(across_zero(true, whole.size, unsigned)),
     }
 }
 
 // Two Doubles: without their signs, the larger has the larger bits.
-fn double_double(left: u64, right: u64) -> Order
+fn double_double(left: u64, right: u64) -> Option<Ordering>
     ensures { result ≡ order_of (point_of left) (point_of right) }
 {
     let a = left % SIGN_BIT;
     let b = right % SIGN_BIT;
-    if INFINITY_BITS < a {
-        return Order::Unordered;
+    if INFINITY_BITS < a || INFINITY_BITS < b {
+        return None;
     }
-    if INFINITY_BITS < b {
-        return Order::Unordered;
-    }
-    signed_sizes(SIGN_BIT <= left, a, SIGN_BIT <= right, b)
+    let first = Signed {
+        below: SIGN_BIT <= left,
+        size: a,
+    };
+    let second = Signed {
+        below: SIGN_BIT <= right,
+        size: b,
+    };
+    Some(signed_sizes(first, second))
 }
 
-// A whole number with its sign against a number of any kind.
-fn from_whole(below: bool, size: u64, other: Number) -> Order
-    ensures { result ≡ order_of (whole_point below size) (number_point other) }
+// A whole number against a number of any kind.
+#[tactic(auto, using(numbers_laws::proofs::WholeLaws::kinds))]
+fn from_whole(whole: Signed, other: Number) -> Option<Ordering>
+    ensures { result ≡ order_of (whole_point whole.below whole.size) (number_point other) }
 {
     match other {
-        Number::Int(z) => signed_sizes(below, size, z < 0, magnitude(z)),
-        Number::Uint(n) => signed_sizes(below, size, false, n),
-        Number::Double(d) => whole_double(below, size, to_bits(d)),
+        Number::Int(z) => Some(signed_sizes(whole, Signed::from(z))),
+        Number::Uint(n) => Some(signed_sizes(whole, Signed::from(n))),
+        Number::Double(d) => whole_double(whole, d.to_bits()),
     }
 }
 
 // A Double against a number of any kind.
-fn from_double(bits: u64, other: Number) -> Order
+#[tactic(auto, using(numbers_laws::proofs::WholeLaws::kinds))]
+fn from_double(bits: u64, other: Number) -> Option<Ordering>
     ensures { result ≡ order_of (point_of bits) (number_point other) }
 {
     match other {
-        Number::Int(z) => flip(whole_double(z < 0, magnitude(z), bits)),
-        Number::Uint(n) => flip(whole_double(false, n, bits)),
-        Number::Double(d) => double_double(bits, to_bits(d)),
+        Number::Int(z) => whole_double(Signed::from(z), bits).map(Ordering::reverse),
+        Number::Uint(n) => whole_double(Signed::from(n), bits).map(Ordering::reverse),
+        Number::Double(d) => double_double(bits, d.to_bits()),
     }
 }
 
-pub fn compare(a: Number, b: Number) -> Order
+pub fn compare(a: Number, b: Number) -> Option<Ordering>
     ensures { result ≡ order_of (number_point a) (number_point b) }
 {
     match a {
-        Number::Int(z) => from_whole(z < 0, magnitude(z), b),
-        Number::Uint(n) => from_whole(false, n, b),
-        Number::Double(d) => from_double(to_bits(d), b),
+        Number::Int(z) => from_whole(Signed::from(z), b),
+        Number::Uint(n) => from_whole(Signed::from(n), b),
+        Number::Double(d) => from_double(d.to_bits(), b),
     }
 }
 
 pub fn equal(a: Number, b: Number) -> bool
     ensures { result ≡ is_equal (order_of (number_point a) (number_point b)) }
 {
-    match compare(a, b) {
-        Order::Less => false,
-        Order::Equal => true,
-        Order::Greater => false,
-        Order::Unordered => false,
-    }
+    compare(a, b) == Some(Ordering::Equal)
 }

@@ -15,6 +15,7 @@ pub fn read_full<R: Read>(input: &mut R, room: &mut [u8]) -> io::Result<usize>
     ensures end { IfOk result (λ n. n < length room.new → IsAtEnd (R.remaining input.new)) }
 {
     let mut done = 0;
+    // no iterator steps by what a read gives, and `read_exact` leaves open how much came before the end
     while done < room.len() {
         let count = input.read(&mut room[done..])?;
         if count == 0 {

@@ -1,4 +1,2 @@
--- The laws that functions' proofs cite: memory filled place by place (`Filling`); memory tested place by place, in parts and by the answer
--- (`Testing`).
-pub mod Filling
+-- The laws that functions' proofs cite: memory filled, and tested in parts (`Testing`).
 pub mod Testing

@@ -1,91 +1,67 @@
--- Lent memory tested: place by place, in the parts that the counts bound, by the answer. Assumes nothing.
-use Prim.Native.Nat.{ℕ, ◌+◌, ◌-◌, ◌≤◌, ◌<◌, min}
-use mathlib.Core.Path.{◌≡◌, refl, sym, ap, ◌∙◌}
-use mathlib.Core.Bool.{Bool, true, false, ◌&&◌}
-use mathlib.Core.List.{List}
-use native.Mathlib.Numerals.{add-one}
-use native.Mathlib.Omega.{arith}
-use lib.Dec.{ltb}
-use lib.ListN.{length, get_or, take, drop, length-drop, drop_of_length-le}
-use lib.Seq.{drop-cons, take_all}
-use borrow.Author.Tests.{eq-eqb, ne_eqb, ltb-true, ltb-false}
-use Rattle.rooms.specs.declared.value.Value.{Value}
-use Rattle.machine.specs.declared.outcome.Used.{Used}
-use Rattle.machine.specs.declared.outcome.Error.{Error}
-use Rattle.machine.specs.declared.outcome.Limit.{Limit}
-use Rattle.answer.specs.declared.Answer.{Answer}
+-- Lent memory filled and tested: every element one and the same, in the parts that the counts bound. Assumes nothing.
+use Rattle.std.proofs.Common.{◌≡◌, refl, sym, ap, ◌∙◌, ℕ, zero, suc, ◌-◌, ◌<◌, min, Bool, true, false, ◌&&◌, IsTrue, ◌↔◌, List, [], ◌∷◌, length, take, drop, length-drop, replicate, eqb, slice_index_or, arith}
+use Rattle.std.specs.List.{EachIndex}
+use Rattle.std.proofs.lemmas.List.{drop_min, take_min}
+use lib.Seq.{take_all}
+use borrow.Author.Tests.{eq-eqb}
 use Rattle.program_memory.specs.BeforeRun.{all_are}
-use Rattle.program_memory.specs.AfterRun.{as_lent, cleared, kept}
 
--- ---- the test
--- what is left from the place on decides
-pub record AllFrom (x : ℕ) (l : List ℕ) (i : ℕ) : Type 0 where
-  pub within : i ≤ length l
-  pub all : all_are x (drop i l) ≡ all_are x l
+all_of_it : (x n : ℕ) → all_are x (replicate n x) ≡ true
+unfolding all_are
+all_of_it x zero = refl
+all_of_it x (suc n) = rw (eq-eqb x x refl) (all_of_it x n)
 
-pub all_start : (x : ℕ) (l : List ℕ) → AllFrom x l 0
-all_start x l = record { within = omega arith; all = refl }
+pub filled : (x n : ℕ) {l : List ℕ} → l ≡ replicate n x → all_are x l ≡ true
+filled x n e = ap (all_are x) e ∙ all_of_it x n
 
-module _ {x : ℕ} {l : List ℕ} {i : ℕ} (a : AllFrom x l i) where
-  pub all-ended : length l ≤ i → true ≡ all_are x l
-  unfolding all_are
-  all-ended h = rw (drop_of_length-le l h) at a.all
+-- what a test by index says of a list
+abbrev pub Each : ℕ → List ℕ → Type 0
+Each x l = EachIndex l (λ k. IsTrue (eqb (slice_index_or l k x) x))
 
-  pub other-here : i < length l → (get_or l i 0 ≡ x → ⊥) → false ≡ all_are x l
-  unfolding all_are
-  other-here h n = rw (drop-cons l i 0, ne_eqb _ _ n) at a.all
+each_first : (x y : ℕ) (l : List ℕ) → Each x (y ∷ l) → eqb y x ≡ true
+each_first x y l h = h 0 (omega arith)
 
-  pub same_here : i < length l → get_or l i 0 ≡ x → AllFrom x l (i + 1)
-  unfolding all_are
-  same_here h s = record {
-    within = omega arith;
-    all = rw add-one (rw (drop-cons l i 0, eq-eqb _ _ s) at a.all);
-  }
+each_other : (x y : ℕ) (l : List ℕ) → Each x (y ∷ l) → Each x l
+each_other x y l h = λ k m. h (suc k) (omega arith)
 
--- ---- parts, which a count cut to the length bounds
-pub front : (n : ℕ) {m : ℕ} (l : List ℕ) → m ≡ min n (length l) → take m l ≡ take n l
-front n {m} l e = ap (λ k. take k l) e ∙ go (ltb n (length l)) refl
-  where
-    go : (b : Bool) → ltb n (length l) ≡ b → take (min n (length l)) l ≡ take n l
-    go true t = ap (λ k. take k l) (within (ltb-true n (length l) t))
-      where
-        within : n < length l → min n (length l) ≡ n
-        within h = omega arith
-    go false t = take_all _ l (whole (ltb-false n (length l) t)) ∙ sym (take_all n l (ltb-false n (length l) t))
-      where
-        whole : length l ≤ n → length l ≤ min n (length l)
-        whole h = omega arith
+all_each : (x : ℕ) (l : List ℕ) → Each x l → all_are x l ≡ true
+unfolding all_are
+all_each x [] h = refl
+all_each x (y ∷ l) h = rw (each_first x y l h) (all_each x l (each_other x y l h))
 
-pub behind : (n : ℕ) {m : ℕ} (l : List ℕ) → m ≡ min n (length l) → take (length l - m) (drop m l) ≡ drop n l
-behind n {m} l e = take_all (length l - m) (drop m l) (omega (arith, length-drop m l)) ∙ ap (λ k. drop k l) e ∙ go (ltb n (length l)) refl
-  where
-    go : (b : Bool) → ltb n (length l) ≡ b → drop (min n (length l)) l ≡ drop n l
-    go true t = ap (λ k. drop k l) (within (ltb-true n (length l) t))
-      where
-        within : n < length l → min n (length l) ≡ n
-        within h = omega arith
-    go false t = drop_of_length-le l (whole (ltb-false n (length l) t)) ∙ sym (drop_of_length-le l (ltb-false n (length l) t))
-      where
-        whole : length l ≤ n → length l ≤ min n (length l)
-        whole h = omega arith
+and_true : (a b : Bool) → (a && b) ≡ true → (a ≡ true) × (b ≡ true)
+and_true true b e = (refl, e)
+and_true false b e = cc
 
--- ---- two tests, the second only where the first says yes
+each_more : (x y : ℕ) (l : List ℕ) → eqb y x ≡ true → Each x l → (k : ℕ) → k < length (y ∷ l) → eqb (slice_index_or (y ∷ l) k x) x ≡ true
+each_more x y l e h zero m = e
+each_more x y l e h (suc k) m = h k (omega arith)
+
+each_all : (x : ℕ) (l : List ℕ) → all_are x l ≡ true → Each x l
+unfolding all_are
+each_all x [] h = λ k m. absurd (omega arith)
+each_all x (y ∷ l) h = let parts = and_true (eqb y x) (all_are x l) h in each_more x y l parts.0 (each_all x l parts.1)
+
+same_truth : (a b : Bool) → (a ≡ true → b ≡ true) → (b ≡ true → a ≡ true) → a ≡ b
+same_truth true b f g = sym (f refl)
+same_truth false true f g = g refl
+same_truth false false f g = refl
+
+said : {r : Bool} (x : ℕ) (l : List ℕ) → IsTrue r ↔ Each x l → r ≡ all_are x l
+said {r} x l s = same_truth r (all_are x l) (λ t. all_each x l (s.0 t)) (λ t. s.1 (each_all x l t))
+
+-- the two parts, which a count cut to the length bounds
+pub below : {r : Bool} (x n : ℕ) {m : ℕ} (l : List ℕ) → m ≡ min n (length l) → IsTrue r ↔ Each x (take m l) → r ≡ all_are x (take n l)
+below x n {m} l e s = said x (take m l) s ∙ ap (λ k. all_are x (take k l)) e ∙ ap (all_are x) (take_min n l)
+
+pub above : {r : Bool} (x n : ℕ) {m : ℕ} (l : List ℕ) → m ≡ min n (length l) → IsTrue r ↔ Each x (take (length l - m) (drop m l)) → r ≡ all_are x (drop n l)
+above x n {m} l e s =
+    said x (take (length l - m) (drop m l)) s
+    ∙ ap (all_are x) (take_all (length l - m) (drop m l) (omega (arith, length-drop m l)) ∙ ap (λ k. drop k l) e ∙ drop_min n l)
+
+-- two tests, the second only where the first says yes
 pub both : {r s a b : Bool} → r ≡ a → r ≡ true → s ≡ b → s ≡ (a && b)
 both {b = b} e t f = f ∙ ap (λ x. x && b) (sym t ∙ e)
 
-pub not_first : {r a : Bool} (b : Bool) → r ≡ a → r ≡ false → false ≡ (a && b)
-not_first b e t = ap (λ x. x && b) (sym t ∙ e)
-
--- ---- by the answer
-module _ (words text : List ℕ) {r : Bool} {x : Answer} where
-  pub kept-refused : (n p : ℕ) → x ≡ Answer.Refused n p → r ≡ as_lent words text (record { steps = 0; cells = 0; bytes = 0 }) → r ≡ kept words text x
-  kept-refused n p h e = e ∙ ap (kept words text) (sym h)
-
-  pub kept-value : (v : Value) (u : Used) → x ≡ Answer.Value v u → r ≡ as_lent words text u → r ≡ kept words text x
-  kept-value v u h e = e ∙ ap (kept words text) (sym h)
-
-  pub kept-error : (o : Error) (p : ℕ) (u : Used) → x ≡ Answer.Error o p u → r ≡ (as_lent words text u && cleared words text u) → r ≡ kept words text x
-  kept-error o p u h e = e ∙ ap (kept words text) (sym h)
-
-  pub kept-exhausted : (o : Limit) (u : Used) → x ≡ Answer.Exhausted o u → r ≡ (as_lent words text u && cleared words text u) → r ≡ kept words text x
-  kept-exhausted o u h e = e ∙ ap (kept words text) (sym h)
+pub first_not : {r a : Bool} (b : Bool) → r ≡ a → r ≡ false → r ≡ (a && b)
+first_not b e t = t ∙ ap (λ x. x && b) (sym t ∙ e)

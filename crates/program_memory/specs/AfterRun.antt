@@ -14,7 +14,7 @@ cleared words text used = all_are 0 (take (used.cells * 2) words) && all_are 0 (
 
 -- a refusal changes nothing; a value leaves what it needs; an error and exhaustion leave zeros
 abbrev pub kept : List ℕ → List ℕ → Answer → Bool
-kept words text (Answer.Refused number place) = all_are lent_word words && all_are lent_byte text
+kept words text (Answer.Refused f) = all_are lent_word words && all_are lent_byte text
 kept words text (Answer.Value v used) = as_lent words text used
 kept words text (Answer.Error e place used) = as_lent words text used && cleared words text used
 kept words text (Answer.Exhausted x used) = as_lent words text used && cleared words text used

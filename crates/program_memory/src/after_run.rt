@@ -1,36 +1,16 @@
 // Whether lent memory is as it must be after an evaluation, if it was filled before.
-ghost use Rattle.std.specs.Prelude.{◌≡◌, ◌&&◌};
-ghost use Rattle.program_memory.specs.BeforeRun.{all_are};
+ghost use Rattle.std.specs.Prelude.{◌≡◌, ◌&&◌, ◌↔◌, IsTrue, EachIndex, slice_index_or};
 ghost use Rattle.program_memory.specs.AfterRun.{as_lent, cleared, kept};
 
 use crate::before_run::{BYTE, WORD, bytes_of, words_of};
 use answer::Answer;
 use machine::outcome::Used;
 
-fn words_are(cells: &[u64], word: u64) -> bool
-    ensures { result ≡ all_are word cells.now }
+// Whether each element is this one.
+fn all_are<T: PartialEq + Copy>(all: &[T], one: T) -> bool
+    ensures { IsTrue result ↔ EachIndex all.now (λ k. IsTrue (T.eq (slice_index_or all.now k one) one)) }
 {
-    let mut at = 0;
-    while at < cells.len() {
-        if cells[at] != word {
-            return false;
-        }
-        at += 1;
-    }
-    true
-}
-
-fn bytes_are(text: &[u8], byte: u8) -> bool
-    ensures { result ≡ all_are byte text.now }
-{
-    let mut at = 0;
-    while at < text.len() {
-        if text[at] != byte {
-            return false;
-        }
-        at += 1;
-    }
-    true
+    all.iter().all(|element| *element == one)
 }
 
 // Above the counts.
@@ -39,10 +19,7 @@ fn is_as_lent(cells: &[u64], text: &[u8], used: Used) -> bool
 {
     let words = words_of(cells, used.cells);
     let bytes = bytes_of(text, used.bytes);
-    if words_are(&cells[words..], WORD) {
-        return bytes_are(&text[bytes..], BYTE);
-    }
-    false
+    all_are(&cells[words..], WORD) && all_are(&text[bytes..], BYTE)
 }
 
 // Below the counts.
@@ -51,20 +28,14 @@ fn is_cleared(cells: &[u64], text: &[u8], used: Used) -> bool
 {
     let words = words_of(cells, used.cells);
     let bytes = bytes_of(text, used.bytes);
-    if words_are(&cells[..words], 0) {
-        return bytes_are(&text[..bytes], 0);
-    }
-    false
+    all_are(&cells[..words], 0) && all_are(&text[..bytes], 0)
 }
 
 // After an error or exhaustion.
 fn is_ended(cells: &[u64], text: &[u8], used: Used) -> bool
     ensures { result ≡ (as_lent cells.now text.now used && cleared cells.now text.now used) }
 {
-    if is_as_lent(cells, text, used) {
-        return is_cleared(cells, text, used);
-    }
-    false
+    is_as_lent(cells, text, used) && is_cleared(cells, text, used)
 }
 
 // Unchanged above the counts, and zero below them unless there is a value. A refusal counts nothing.
@@ -72,7 +43,7 @@ pub fn is_kept(cells: &[u64], text: &[u8], answer: Answer) -> bool
     ensures { result ≡ kept cells.now text.now answer }
 {
     match answer {
-        Answer::Refused(_, _) => is_as_lent(
+        Answer::Refused(_) => is_as_lent(
             cells,
             text,
             Used {

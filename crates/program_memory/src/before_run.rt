@@ -12,8 +12,7 @@ pub fn words_of(cells: &[u64], count: usize) -> usize
     ensures value { result ≡ min (count * 2) (length cells.now) }
     ensures prefix_len { IsPrefixLen result cells.now }
 {
-    let most = cells.len();
-    if most / 2 < count { most } else { count * 2 }
+    count.saturating_mul(2).min(cells.len())
 }
 
 // `count` bytes, or all bytes if there are fewer.
@@ -21,34 +20,13 @@ pub fn bytes_of(text: &[u8], count: usize) -> usize
     ensures value { result ≡ min count (length text.now) }
     ensures prefix_len { IsPrefixLen result text.now }
 {
-    let most = text.len();
-    if most < count { most } else { count }
-}
-
-fn fill_words(cells: &mut [u64])
-    ensures { all_are lent_word cells.new ≡ true }
-{
-    let mut at = 0;
-    while at < cells.len() {
-        cells[at] = WORD;
-        at += 1;
-    }
-}
-
-fn fill_bytes(text: &mut [u8])
-    ensures { all_are lent_byte text.new ≡ true }
-{
-    let mut at = 0;
-    while at < text.len() {
-        text[at] = BYTE;
-        at += 1;
-    }
+    count.min(text.len())
 }
 
 // All of it.
 pub fn fill(cells: &mut [u64], text: &mut [u8])
     ensures { (all_are lent_word cells.new ≡ true) × (all_are lent_byte text.new ≡ true) }
 {
-    fill_words(cells);
-    fill_bytes(text);
+    cells.fill(WORD);
+    text.fill(BYTE);
 }

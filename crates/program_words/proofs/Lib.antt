@@ -1,6 +1,8 @@
--- The laws that functions' proofs cite: places (`Places`), numbers (`Numerals`), bytes (`Pairs`), pieces (`Parts`) and words (`Halves`).
+-- The laws that functions' proofs cite: places (`Places`), numbers (`Numerals`), bytes (`Pairs`), one piece (`Parts`), pieces (`Pieces`) and
+-- words (`Words`).
 pub mod Places
 pub mod Numerals
 pub mod Pairs
 pub mod Parts
-pub mod Halves
+pub mod Pieces
+pub mod Words

@@ -1,96 +1,64 @@
 -- Hexadecimal digits, read two at a time. Assumes nothing.
-use Prim.Native.Nat.{ℕ, suc, ◌+◌, ◌-◌, ◌*◌, ◌≤◌, ◌<◌}
-use mathlib.Core.Path.{◌≡◌, refl, sym, ap, ◌∙◌, subst}
-use mathlib.Core.Bool.{Bool, true, false, cond, ◌&&◌}
-use mathlib.Core.List.{List, [], ◌∷◌}
-use native.Mathlib.Numerals.{add-one, add-two}
-use native.Mathlib.Omega.{arith}
-use lib.Dec.{ltb}
-use lib.ListN.{length, get_or, drop, length-drop}
-use lib.Seq.{drop-cons}
-use Rattle.std.proofs.Common.{length-take-le}
-use borrow.Author.Tests.{lt-ltb, ltb-true}
+use Rattle.std.proofs.Common.{◌≡◌, refl, sym, ap, subst, ◌∙◌, ℕ, ◌+◌, ◌-◌, ◌≤◌, ◌<◌, Option, Some, None, List, [], ◌∷◌, ◌++◌, length, get_or, length-take-le, arith}
 use Rattle.std.specs.Counts.{IsPrefixLen}
 use Rattle.line_pieces.specs.Page.{Page, put, puts}
-use Rattle.line_pieces.proofs.Putting.{puts_one, puts_none, kept-length, puts-within}
-use Rattle.program_words.specs.Hexadecimal.{digit_of, bytes_of}
+use Rattle.line_pieces.proofs.Putting.{puts_none, puts-within, kept-length}
+use Rattle.program_words.specs.Hexadecimal.{digit_of, joined, in_front, bytes_of}
 use Rattle.program_words.proofs.Numerals.{inside, outside}
 
 -- ---- a digit
 
-abbrev Digit : ℕ → ℕ → Type 0
-Digit x r = (r ≡ digit_of x) × (r ≤ 16)
-
-pub digit-ten : (x : ℕ) → 48 ≤ x → x ≤ 57 → Digit x (x - 48)
+pub digit_ten : (x : ℕ) → 48 ≤ x → x ≤ 57 → Some (x - 48) ≡ digit_of x
 unfolding digit_of
-digit-ten x h k = (rw (inside 48 57 x h k), omega arith)
+digit_ten x h k = rw (inside 48 57 x h k)
 
-pub digit-lower : (x : ℕ) → 97 ≤ x → x ≤ 102 → Digit x (x - 97 + 10)
+pub digit_lower : (x : ℕ) → 97 ≤ x → x ≤ 102 → Some (x - 97 + 10) ≡ digit_of x
 unfolding digit_of
-digit-lower x h k = (rw (outside 48 57 x (λ a b. omega arith), inside 97 102 x h k), omega arith)
+digit_lower x h k = rw (outside 48 57 x (λ a b. omega arith), inside 97 102 x h k)
 
-pub digit-upper : (x : ℕ) → 65 ≤ x → x ≤ 70 → Digit x (x - 65 + 10)
+pub digit_upper : (x : ℕ) → 65 ≤ x → x ≤ 70 → Some (x - 65 + 10) ≡ digit_of x
 unfolding digit_of
-digit-upper x h k = (rw (outside 48 57 x (λ a b. omega arith), outside 97 102 x (λ a b. omega arith), inside 65 70 x h k), omega arith)
+digit_upper x h k = rw (outside 48 57 x (λ a b. omega arith), outside 97 102 x (λ a b. omega arith), inside 65 70 x h k)
 
-pub no_digit : (x : ℕ) → (48 ≤ x → x ≤ 57 → ⊥) → (97 ≤ x → x ≤ 102 → ⊥) → (65 ≤ x → x ≤ 70 → ⊥) → Digit x 16
+pub no_digit : (x : ℕ) → (48 ≤ x → x ≤ 57 → ⊥) → (97 ≤ x → x ≤ 102 → ⊥) → (65 ≤ x → x ≤ 70 → ⊥) → None ≡ digit_of x
 unfolding digit_of
-no_digit x m n o = (rw (outside 48 57 x m, outside 97 102 x n, outside 65 70 x o), omega arith)
+no_digit x m n o = rw (outside 48 57 x m, outside 97 102 x n, outside 65 70 x o)
 
--- ---- two digits a turn
+-- ---- two digits a turn: s is what is left of the word before the turn, t behind its pair
 
-too_few : (l : List ℕ) → length l ≤ 1 → bytes_of l ≡ []
+too_few : (s : List ℕ) → length s < 2 → bytes_of s ≡ []
 unfolding bytes_of
 too_few [] h = refl
 too_few (x ∷ []) h = refl
-too_few (x ∷ y ∷ l) h = absurd (omega arith)
+too_few (x ∷ y ∷ s) h = absurd (omega arith)
 
-a_pair : (h l : ℕ) (rest : List ℕ) {x y : ℕ} → x ≡ digit_of h → y ≡ digit_of l → x < 16 → y < 16 → bytes_of (h ∷ l ∷ rest) ≡ (x * 16 + y) ∷ bytes_of rest
+a_pair : (pair t : List ℕ) → length pair ≡ 2 → bytes_of (pair ++ t) ≡ in_front (joined (digit_of (get_or pair 0 0)) (digit_of (get_or pair 1 0))) (bytes_of t)
 unfolding bytes_of
-a_pair h l rest {x} {y} e f j k = rw (← e, ← f, lt-ltb x 16 j, lt-ltb y 16 k)
+a_pair [] t h = absurd (omega arith)
+a_pair (x ∷ []) t h = absurd (omega arith)
+a_pair (x ∷ y ∷ []) t h = refl
+a_pair (x ∷ y ∷ z ∷ rest) t h = absurd (omega arith)
 
-no-pair : (h l : ℕ) (rest : List ℕ) → (digit_of h < 16 → digit_of l < 16 → ⊥) → bytes_of (h ∷ l ∷ rest) ≡ []
-unfolding bytes_of
-no-pair h l rest n = go (ltb (digit_of h) 16) (ltb (digit_of l) 16) refl refl
-  where
-    go : (s t : Bool) → ltb (digit_of h) 16 ≡ s → ltb (digit_of l) 16 ≡ t → cond (s && t) ((digit_of h * 16 + digit_of l) ∷ bytes_of rest) [] ≡ []
-    go true true e f = absurd (n (ltb-true _ _ e) (ltb-true _ _ f))
-    go true false e f = refl
-    go false t e f = refl
+nothing_put : (s : List ℕ) {q r : Page} → bytes_of s ≡ [] → puts (bytes_of s) q ≡ r → q ≡ r
+nothing_put s {q} e f = sym (puts_none q) ∙ ap (λ l. puts l q) (sym e) ∙ f
 
-put-pair : {s rest : List ℕ} {b : ℕ} (q : Page) {o : Page} → s ≡ b ∷ rest → o ≡ put b q → puts rest o ≡ puts s q
-unfolding puts
-put-pair {s} {rest} q e g = ap (puts rest) g ∙ ap (λ t. puts t q) (sym e)
+pub pairs_over : (s : List ℕ) {q r : Page} → length s < 2 → puts (bytes_of s) q ≡ r → q ≡ r
+pairs_over s h f = nothing_put s (too_few s h) f
 
--- what is left from the place on is still to be put
-pub record Paired (w : List ℕ) (p : Page) (i : ℕ) (q : Page) : Type 0 where
-  pub within : i ≤ length w
-  pub long : length q.1 ≡ length p.1
-  pub same : puts (bytes_of (drop i w)) q ≡ puts (bytes_of w) p
+module _ (s pair t : List ℕ) {byte : Option ℕ} (e : s ≡ pair ++ t) (h : length pair ≡ 2) (f : byte ≡ joined (digit_of (get_or pair 0 0)) (digit_of (get_or pair 1 0))) where
+  this_pair : bytes_of s ≡ in_front byte (bytes_of t)
+  this_pair = ap bytes_of e ∙ a_pair pair t h ∙ ap (λ o. in_front o (bytes_of t)) (sym f)
 
-pub pair-start : (w : List ℕ) (p : Page) → Paired w p 0 p
-pair-start w p = record { within = omega arith; long = refl; same = refl }
+  pub no_pair : {q r : Page} → byte ≡ None → puts (bytes_of s) q ≡ r → q ≡ r
+  no_pair n g = nothing_put s (this_pair ∙ ap (λ o. in_front o (bytes_of t)) n) g
 
-module _ {w : List ℕ} {p q : Page} {i : ℕ} (r : Paired w p i q) where
-  two-left : i + 1 < length w → drop i w ≡ get_or w i 0 ∷ get_or w (i + 1) 0 ∷ drop (i + 2) w
-  two-left h = drop-cons w i 0 (omega arith) ∙ rw (add-one i, add-two i) (ap (λ s. get_or w i 0 ∷ s) (drop-cons w (suc i) 0 (omega arith)))
-
-  pub pair_end : length w - i ≤ 1 → q ≡ puts (bytes_of w) p
-  pair_end h = sym (puts_none q) ∙ ap (λ s. puts s q) (sym (too_few (drop i w) (omega (arith, length-drop i w)))) ∙ r.same
-
-  -- a pair with a byte that is no digit ends it
-  pub pair-none : i + 1 < length w → (digit_of (get_or w i 0) < 16 → digit_of (get_or w (i + 1) 0) < 16 → ⊥) → q ≡ puts (bytes_of w) p
-  pair-none h n = sym (puts_none q) ∙ ap (λ s. puts s q) (sym (ap bytes_of (two-left h) ∙ no-pair _ _ _ n)) ∙ r.same
-
-  pub pair-on : {o : Page} {x y : ℕ} → i + 1 < length w → x ≡ digit_of (get_or w i 0) → y ≡ digit_of (get_or w (i + 1) 0) → x < 16 → y < 16 → o ≡ put (x * 16 + y) q → Paired w p (i + 2) o
-  pair-on {o} {x} {y} h e f j k g = record {
-    within = omega arith;
-    long = kept-length ((x * 16 + y) ∷ []) q o (g ∙ sym (puts_one (x * 16 + y) q)) ∙ r.long;
-    same = put-pair q (ap bytes_of (two-left h) ∙ a_pair _ _ _ e f j k) g ∙ r.same;
-  }
+  pub pair_put : {b : ℕ} (q : Page) {o r : Page} → byte ≡ Some b → o ≡ put b q → puts (bytes_of s) q ≡ r → puts (bytes_of t) o ≡ r
+  unfolding puts
+  pair_put q n g k = ap (puts (bytes_of t)) g ∙ ap (λ l. puts l q) (sym (this_pair ∙ ap (λ o. in_front o (bytes_of t)) n)) ∙ k
 
 -- ---- all of it, from the start of the memory
-pub counted : (s out : List ℕ) {r : ℕ} {after : List ℕ} → ◌≡◌ {A = Page} (r, after) (puts s (0, out)) → (◌≡◌ {A = Page} (r, after) (puts s (0, out))) × IsPrefixLen r after
-counted s out {r} {after} e =
-    let h = subst (λ (q : Page). q.0 ≤ length q.1) (sym e) (puts-within s (0, out) (omega arith)) in
-    (e, (h, sym (length-take-le r after h)))
+pub counted : (s out : List ℕ) {r : ℕ} {after : List ℕ} → ◌≡◌ {A = Page} (r, after) (puts s (0, out)) → (x : List ℕ) → length x ≡ length out → IsPrefixLen r x
+counted s out {r} {after} e x h =
+    let within = subst (λ (q : Page). q.0 ≤ length q.1) (sym e) (puts-within s (0, out) (omega arith)) in
+    let fits : r ≤ length x = omega (arith, within, h, kept-length s (0, out) (r, after) e) in
+    (fits, sym (length-take-le r x fits))

@@ -1,22 +1,33 @@
 -- Bytes in hexadecimal digits, two a byte, and words of bytes.
-use Rattle.std.specs.Prelude.{ℕ, zero, suc, ◌+◌, ◌-◌, ◌*◌, cond, ◌&&◌, List, [], ◌∷◌, ◌++◌, leb, ltb, eqb, take, drop, get_or}
+use Rattle.std.specs.Prelude.{ℕ, zero, suc, ◌+◌, ◌-◌, ◌*◌, cond, ◌&&◌, Option, Some, None, List, [], ◌∷◌, ◌++◌, leb, eqb, take, drop, get_or}
+use Rattle.std.specs.Option.{unwrap_or}
 use Prim.Native.Char.{code}
 use Rattle.program_words.specs.Place.{place_of}
 use Rattle.program_words.specs.Decimal.{is_digit, number_of}
-use Rattle.program_words.specs.declared.decimal.Number.{Number}
 
--- in either case; 16 where the byte is no digit
-unfoldable pub digit_of : ℕ → ℕ
+-- in either case
+unfoldable pub digit_of : ℕ → Option ℕ
 digit_of x =
-    cond (is_digit x) (x - code "0")
-    (cond (leb (code "a") x && leb x (code "f")) (x - code "a" + 10)
-    (cond (leb (code "A") x && leb x (code "F")) (x - code "A" + 10) 16))
+    cond (is_digit x) (Some (x - code "0"))
+    (cond (leb (code "a") x && leb x (code "f")) (Some (x - code "a" + 10))
+    (cond (leb (code "A") x && leb x (code "F")) (Some (x - code "A" + 10)) None))
+
+-- the byte that two digits spell, a high one and a low one
+abbrev pub joined : Option ℕ → Option ℕ → Option ℕ
+joined (Some h) (Some l) = Some (h * 16 + l)
+joined (Some h) None = None
+joined None low = None
+
+-- a byte in front of the others; where there is none, nothing
+abbrev pub in_front : Option ℕ → List ℕ → List ℕ
+in_front (Some b) rest = b ∷ rest
+in_front None rest = []
 
 -- up to the first that is no digit
 unfoldable pub bytes_of : List ℕ → List ℕ
 bytes_of [] = []
 bytes_of (h ∷ []) = []
-bytes_of (h ∷ l ∷ rest) = cond (ltb (digit_of h) 16 && ltb (digit_of l) 16) ((digit_of h * 16 + digit_of l) ∷ bytes_of rest) []
+bytes_of (h ∷ l ∷ rest) = in_front (joined (digit_of h) (digit_of l)) (bytes_of rest)
 
 -- ---- pieces: `DIGITS`, or `DIGITS*COUNT` for as many times
 
@@ -25,9 +36,8 @@ repeated zero s = []
 repeated (suc n) s = s ++ repeated n s
 
 -- a count that is no number counts as 0
-abbrev pub count_of : Number → ℕ
-count_of (Number.Is n) = n
-count_of Number.No = 0
+abbrev pub count_of : Option ℕ → ℕ
+count_of count = unwrap_or count 0
 
 -- what stands from the `*` on
 unfoldable pub times_of : List ℕ → ℕ

@@ -3,45 +3,27 @@ ghost use Rattle.std.specs.Prelude.{◌≡◌};
 ghost use Rattle.program_words.specs.Decimal.{number_of};
 ghost use Rattle.program_words.specs.Decimal.{longer as Decimal·longer};
 
-// The number, or that the word spells none.
-#[derive(Clone, Copy)]
-pub enum Number {
-    Is(usize),
-    No,
-}
-
-const MOST: usize = 0xFFFF_FFFF_FFFF_FFFF;
-
 // One digit more; a number that grows too large stays the largest.
 fn longer(number: usize, digit: u8) -> usize
     ensures { result ≡ Decimal·longer number digit }
 {
-    let more = digit as usize;
-    if (MOST - more) / 10 < number {
-        return MOST;
-    }
-    number * 10 + more
+    number.saturating_mul(10).saturating_add(digit as usize)
 }
 
 // A word of decimal digits, at least one.
-pub fn number_of(word: &[u8]) -> Number
+#[tactic(auto, using(crate::proofs::Numerals::number_none, crate::proofs::Numerals::number_some), unfolding(crate::specs::Decimal::number_from))]
+pub fn number_of(word: &[u8]) -> Option<usize>
     ensures { result ≡ number_of word.now }
 {
-    if word.len() == 0 {
-        return Number::No;
+    if word.is_empty() {
+        return None;
     }
     let mut number = 0;
-    let mut at = 0;
-    while at < word.len() {
-        let digit = word[at];
-        if digit < b'0' {
-            return Number::No;
+    for byte in word {
+        if !byte.is_ascii_digit() {
+            return None;
         }
-        if b'9' < digit {
-            return Number::No;
-        }
-        number = longer(number, digit - b'0');
-        at += 1;
+        number = longer(number, byte - b'0');
     }
-    Number::Is(number)
+    Some(number)
 }

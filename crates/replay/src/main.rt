@@ -3,12 +3,10 @@
 
 ghost use Rattle.std.specs.Prelude.{◌≡◌, length};
 
-use crate::commands::answer_line;
-use crate::said::bad;
+use crate::commands::{answer_line, bad};
 use line_answers::LONGEST_LINE;
-use line_pieces::put_word;
-use program_words::find;
-use replay_lines::Bench;
+use line_pieces::Writer;
+use replay_lines::{Bench, Memory};
 use std::io;
 use std::io::Read;
 
@@ -34,235 +32,108 @@ const CELLS_AT_FIRST: usize = 4096;
 
 const BYTES_AT_FIRST: usize = 16384;
 
-const MOST: usize = 0xFFFF_FFFF_FFFF_FFFF;
-
-fn chunk_room() -> [u8; CHUNK]
-    ensures { 65536 ≡ length result }
+// A function of its own, so that no proof writes the room out element by element.
+fn room<T: Copy, const N: usize>(zero: T) -> [T; N]
+    ensures { length result ≡ N }
 {
-    [0; CHUNK]
+    [zero; N]
 }
 
-fn line_room() -> [u8; LINE]
-    ensures { 524288 ≡ length result }
-{
-    [0; LINE]
-}
-
-fn spelled_room() -> [u8; SPELLED]
-    ensures { 262144 ≡ length result }
-{
-    [0; SPELLED]
-}
-
-fn cell_room() -> [u64; WORDS]
-    ensures { 16384 ≡ length result }
-{
-    [0; WORDS]
-}
-
-fn text_room() -> [u8; BYTES]
-    ensures { 65536 ≡ length result }
-{
-    [0; BYTES]
-}
-
-fn answer_room() -> [u8; LONGEST_LINE]
-    ensures { 1000128 ≡ length result }
-{
-    [0; LONGEST_LINE]
-}
-
-// Kept between two parts of the input: how much of the next line was read, and what the lines before left.
-#[derive(Clone, Copy)]
-struct State {
-    length: usize,
-    bench: Bench,
-}
-
-fn at_first() -> State {
-    State {
-        length: 0,
-        bench: Bench {
-            lines: 0,
-            cells: CELLS_AT_FIRST,
-            bytes: BYTES_AT_FIRST,
-            bindings: bindings::empty(),
-        },
-    }
-}
-
-fn one_more(count: usize) -> usize {
-    if count < MOST { count + 1 } else { count }
-}
-
-fn counted(bench: Bench) -> Bench {
-    let bindings = bench.bindings;
-    Bench {
-        lines: one_more(bench.lines),
-        cells: bench.cells,
-        bytes: bench.bytes,
-        bindings,
-    }
-}
-
-// The line is there up to its end.
+// The line is there up to its end: it is answered, and the next one begins.
 fn take_line(
     rt: &impl Print,
-    line: &[u8],
-    literal: &mut [u8],
-    table: &mut [u8],
-    binding_cells: &mut [u64],
-    binding_text: &mut [u8],
-    cells: &mut [u64],
-    text: &mut [u8],
-    out: &mut [u8],
-    state: State,
-) -> io::Result<State> {
-    let length = state.length;
-    let before = counted(state.bench);
-    if line.len() <= length {
-        let bench = bad(rt, before)?;
-        return Ok(State { length: 0, bench });
+    line: &mut Writer,
+    memory: &mut Memory,
+    bench: &mut Bench,
+) -> io::Result<()> {
+    bench.lines = bench.lines.saturating_add(1);
+    let length = line.at;
+    line.at = 0;
+    if line.out.len() <= length {
+        return bad(rt, bench.lines);
     }
-    let bench = answer_line(
-        rt,
-        &line[..length],
-        literal,
-        table,
-        binding_cells,
-        binding_text,
-        cells,
-        text,
-        out,
-        before,
-    )?;
-    Ok(State { length: 0, bench })
+    answer_line(rt, &line.out[..length], memory, bench)
 }
 
-// A part of a line behind what is there of it, as far as it fits.
-fn with_part(line: &mut [u8], part: &[u8], state: State) -> State {
-    let bench = state.bench;
-    State {
-        length: put_word(line, state.length, part),
-        bench,
-    }
-}
-
-// A part of the input: every line that ends in it is answered.
+// A part of the input: every line that ends in it is answered. A line is kept as far as it fits.
 fn take_chunk(
     rt: &impl Print,
     chunk: &[u8],
-    line: &mut [u8],
-    literal: &mut [u8],
-    table: &mut [u8],
-    binding_cells: &mut [u64],
-    binding_text: &mut [u8],
-    cells: &mut [u64],
-    text: &mut [u8],
-    out: &mut [u8],
-    before: State,
-) -> io::Result<State> {
-    let mut state = before;
-    let mut from = 0;
-    while from < chunk.len() {
-        let end = find(chunk, from, b'\n');
-        state = with_part(line, &chunk[from..end], state);
-        if end == chunk.len() {
-            return Ok(state);
+    line: &mut Writer,
+    memory: &mut Memory,
+    bench: &mut Bench,
+) -> io::Result<()> {
+    for part in chunk.split_inclusive(|byte| *byte == b'\n') {
+        match part {
+            [part @ .., b'\n'] => {
+                line.put_word(part);
+                take_line(rt, line, memory, bench)?;
+            }
+            _ => line.put_word(part),
         }
-        state = take_line(
-            rt,
-            line,
-            literal,
-            table,
-            binding_cells,
-            binding_text,
-            cells,
-            text,
-            out,
-            state,
-        )?;
-        from = end + 1;
     }
-    Ok(state)
+    Ok(())
 }
 
-// The whole input. A proved loop has to end, but nothing says that the input ends, so the loop counts down from a number that no run uses up.
+// The whole input. A proved loop has to end, but nothing says that the input ends, so the loop counts to a number that no run reaches.
 fn take_all(
     input: &mut impl Read,
     rt: &impl Print,
     chunk: &mut [u8],
-    line: &mut [u8],
-    literal: &mut [u8],
-    table: &mut [u8],
-    binding_cells: &mut [u64],
-    binding_text: &mut [u8],
-    cells: &mut [u64],
-    text: &mut [u8],
-    out: &mut [u8],
-) -> io::Result<State> {
-    let mut state = at_first();
-    let mut turns = MOST;
-    while 0 < turns {
+    line: &mut Writer,
+    memory: &mut Memory,
+    bench: &mut Bench,
+) -> io::Result<()> {
+    for _ in 0..usize::MAX {
         let count = input.read(chunk)?;
         if count == 0 {
-            return Ok(state);
+            return Ok(());
         }
-        state = take_chunk(
-            rt,
-            &chunk[..count],
-            line,
-            literal,
-            table,
-            binding_cells,
-            binding_text,
-            cells,
-            text,
-            out,
-            state,
-        )?;
-        turns -= 1;
+        take_chunk(rt, &chunk[..count], line, memory, bench)?;
     }
-    Ok(state)
+    Ok(())
 }
 
 fn main(rt: HostRuntime) -> io::Result<()> {
-    let mut chunk = chunk_room();
-    let mut line = line_room();
-    let mut literal = spelled_room();
-    let mut table = spelled_room();
-    let mut binding_cells = cell_room();
-    let mut binding_text = text_room();
-    let mut cells = cell_room();
-    let mut text = text_room();
-    let mut out = answer_room();
-    let state = take_all(
+    let mut chunk = room::<u8, CHUNK>(0);
+    let mut line = room::<u8, LINE>(0);
+    let mut literal = room::<u8, SPELLED>(0);
+    let mut table = room::<u8, SPELLED>(0);
+    let mut binding_cells = room::<u64, WORDS>(0);
+    let mut binding_text = room::<u8, BYTES>(0);
+    let mut cells = room::<u64, WORDS>(0);
+    let mut text = room::<u8, BYTES>(0);
+    let mut out = room::<u8, LONGEST_LINE>(0);
+    let mut line = Writer {
+        out: &mut line,
+        at: 0,
+    };
+    let mut memory = Memory {
+        literal: &mut literal,
+        table: &mut table,
+        binding_cells: &mut binding_cells,
+        binding_text: &mut binding_text,
+        cells: &mut cells,
+        text: &mut text,
+        out: &mut out,
+    };
+    let mut bench = Bench {
+        lines: 0,
+        cells: CELLS_AT_FIRST,
+        bytes: BYTES_AT_FIRST,
+        bindings: bindings::empty(),
+    };
+    take_all(
         &mut rt.stdin(),
         &rt,
         &mut chunk,
         &mut line,
-        &mut literal,
-        &mut table,
-        &mut binding_cells,
-        &mut binding_text,
-        &mut cells,
-        &mut text,
-        &mut out,
+        &mut memory,
+        &mut bench,
     )?;
     // a last line without an end
-    if 0 < state.length {
-        take_line(
-            &rt,
-            &line,
-            &mut literal,
-            &mut table,
-            &mut binding_cells,
-            &mut binding_text,
-            &mut cells,
-            &mut text,
-            &mut out,
-            state,
-        )?;
+    if 0 < line.at {
+        take_line(&rt, &mut line, &mut memory, &mut bench)?;
     }
     Ok(())
 }

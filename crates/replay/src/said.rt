@@ -1,45 +1,23 @@
-// What is written of a line: words, numbers, what became of a binding, and that the line is none.
-use bindings::admission::Answer;
-use replay_lines::{Bench, Done, Said};
+// Why a line is not answered, and what is written of a binding.
+use meaning::refusal::Refusal;
 use std::io;
 
-pub fn say(rt: &impl Print, words: &[u8]) -> io::Result<()> {
-    rt.write_all(words)
+// The line is none that the program knows, or a write failed.
+#[derive(Drop)]
+pub enum Fault {
+    Bad,
+    Io(io::Error),
 }
 
-fn say_number(rt: &impl Print, number: usize) -> io::Result<()> {
-    print!(rt; "{number}")
-}
-
-// The line at hand is none that the program knows.
-pub fn bad(rt: &impl Print, bench: Bench) -> io::Result<Bench> {
-    say(rt, b"bad line ")?;
-    say_number(rt, bench.lines)?;
-    say(rt, b"\n")?;
-    Ok(bench)
-}
-
-fn say_brought(rt: &impl Print, answer: Answer) -> io::Result<()> {
-    match answer {
-        Answer::Done => say(rt, b"ok\n"),
-        Answer::Refused(number, place) => {
-            say_number(rt, number as usize)?;
-            say(rt, b" ")?;
-            say_number(rt, place)?;
-            say(rt, b"\n")
-        }
+impl From<io::Error> for Fault {
+    fn from(error: io::Error) -> Fault {
+        Fault::Io(error)
     }
 }
 
-pub fn tell(rt: &impl Print, done: Done) -> io::Result<Bench> {
-    let bench = done.bench;
-    let said = done.said;
-    match said {
-        Said::Nothing => Ok(bench),
-        Said::Brought(answer) => {
-            say_brought(rt, answer)?;
-            Ok(bench)
-        }
-        Said::Bad => bad(rt, bench),
+pub fn say_brought(rt: &impl Print, answer: Result<(), Refusal>) -> io::Result<()> {
+    match answer {
+        Ok(()) => println!(rt; "ok"),
+        Err(refusal) => println!(rt; "{} {}", refusal.reason.number(), refusal.place),
     }
 }

@@ -1,27 +1,19 @@
 // Which command a line's first word is.
-use text::bytes::equal;
 
-#[derive(Clone, Copy)]
+#[derive(Clone, Copy, PartialEq, Eq)]
 pub enum Command {
     Room,
     Bind,
     Empty,
     Eval,
-    Other,
 }
 
-pub fn command_of(word: &[u8]) -> Command {
-    if equal(word, b"eval") {
-        return Command::Eval;
+pub fn command_of(word: &[u8]) -> Option<Command> {
+    match word {
+        b"room" => Some(Command::Room),
+        b"bind" => Some(Command::Bind),
+        b"empty" => Some(Command::Empty),
+        b"eval" => Some(Command::Eval),
+        _ => None,
     }
-    if equal(word, b"bind") {
-        return Command::Bind;
-    }
-    if equal(word, b"empty") {
-        return Command::Empty;
-    }
-    if equal(word, b"room") {
-        return Command::Room;
-    }
-    Command::Other
 }

@@ -13,12 +13,13 @@ use Rattle.numbers.specs.declared.double.Double.TheVariants as Bits
 use Rattle.numbers.specs.Double.{double_of, Proper}
 use Rattle.numbers.proofs.DoubleLaws.{proper, double-back}
 use Rattle.rooms.specs.declared.value.Value.{Value}
-use Rattle.rooms.specs.declared.places.TextPlace.{TextPlace}
-use Rattle.rooms.specs.declared.places.CellPlace.{CellPlace}
 use Rattle.rooms.specs.Value.{double_value}
 use Rattle.rooms.specs.Cells.{signed_of, text_place, cell_place, bare_of, text_of, container_of, value_of, cell_of, has_cell, cell_in, written_in, settled}
 use Rattle.rooms.proofs.Words.{signed_below, signed_above}
 use Rattle.rooms.proofs.CellLaws.{Small, small-back, written-words}
+use Rattle.std.specs.Prelude.{Option, None, Some}
+use Rattle.rooms.specs.declared.value.Span.{Span}
+use Rattle.rooms.specs.declared.value.Row.{Row}
 
 -- a value that words give: its numbers lie within their fields, and a Double is in its one spelling
 abbrev Read : Value → Type 0
@@ -40,13 +41,13 @@ double-read : (d : Double) → Proper d → Read (double_value d)
 double-read (Bits.Plain x) p = (tt, ap double_value (double-back (Bits.Plain x) p))
 double-read (Bits.Nan b) p = (tt, ap double_value (double-back (Bits.Nan b) p))
 
-abbrev TextIn : TextPlace → Type 0
-TextIn (TextPlace.At s a n) = (a < 2 ^ 16) × (n < 2 ^ 16)
-TextIn TextPlace.Nowhere = Unit {0}
+abbrev TextIn : Option Span → Type 0
+TextIn (Some sp) = (sp.first < 2 ^ 16) × (sp.length < 2 ^ 16)
+TextIn None = Unit {0}
 
-abbrev CellsIn : CellPlace → Type 0
-CellsIn (CellPlace.At s a n) = (a < 2 ^ 16) × (n < 2 ^ 16)
-CellsIn CellPlace.Nowhere = Unit {0}
+abbrev CellsIn : Option Row → Type 0
+CellsIn (Some ro) = (ro.first < 2 ^ 16) × (ro.length < 2 ^ 16)
+CellsIn None = Unit {0}
 
 small : (a : ℕ) → ltb 65535 a ≡ false → a < 2 ^ 16
 small a e = omega (arith, ltb-false 65535 a e)
@@ -68,22 +69,22 @@ cells-in s a n =
     (λ q. branch CellsIn (eqb s 0) _ _ (λ _. (small a p, small n q))
     (λ _. branch CellsIn (eqb s 1) _ _ (λ _. (small a p, small n q)) (λ _. tt))))
 
-text-read : (k d : ℕ) (p : TextPlace) → TextIn p → Read (text_of k d p)
+text-read : (k d : ℕ) (p : Option Span) → TextIn p → Read (text_of k d p)
 unfolding text_of
-text-read k d (TextPlace.At s a n) h = branch Read (eqb d 0) _ _ (λ _. branch Read (eqb k 5) _ _ (λ _. (h, refl)) (λ _. (h, refl))) (λ _. (tt, refl))
-text-read k d TextPlace.Nowhere h = (tt, refl)
+text-read k d (Some sp) h = branch Read (eqb d 0) _ _ (λ _. branch Read (eqb k 5) _ _ (λ _. (h, refl)) (λ _. (h, refl))) (λ _. (tt, refl))
+text-read k d None h = (tt, refl)
 
-container-read : (k d : ℕ) (p : CellPlace) → CellsIn p → Read (container_of k d p)
+container-read : (k d : ℕ) (p : Option Row) → CellsIn p → Read (container_of k d p)
 unfolding container_of
-container-read k d (CellPlace.At s a n) h =
+container-read k d (Some ro) h =
     branch Read (ltb 255 d) _ _ (λ _. (tt, refl))
     (λ e. branch Read (eqb k 12) _ _ (λ _. ((deep e, h.0, h.1), refl))
     (λ _. branch Read (eqb k 13) _ _ (λ _. ((deep e, h.0, h.1), refl))
-    (λ _. branch Read (eqb n 0) _ _ (λ _. ((deep e, h.0), refl)) (λ _. (tt, refl)))))
+    (λ _. branch Read (eqb ro.length 0) _ _ (λ _. ((deep e, h.0), refl)) (λ _. (tt, refl)))))
   where
     deep : ltb 255 d ≡ false → d < 2 ^ 8
     deep e = omega (arith, ltb-false 255 d e)
-container-read k d CellPlace.Nowhere h = (tt, refl)
+container-read k d None h = (tt, refl)
 
 bare-read : (k x : ℕ) → Read (bare_of k x)
 unfolding bare_of

@@ -15,10 +15,10 @@ use Rattle.rooms.specs.declared.value.TextSpace.{TextSpace}
 use Rattle.rooms.specs.declared.value.TextSpace.TheVariants as Text
 use Rattle.rooms.specs.declared.value.CellSpace.{CellSpace}
 use Rattle.rooms.specs.declared.value.CellSpace.TheVariants as Cells
-use Rattle.rooms.specs.declared.places.TextPlace.TheVariants as TextPlace
-use Rattle.rooms.specs.declared.places.CellPlace.TheVariants as CellPlace
 use Rattle.rooms.specs.Cells.{text_number, cell_number, packed, head_of, payload_of, text_place, cell_place, bare_of, text_of, container_of, value_of, cell_of, has_cell, cell_in, written_in, Fits, settled}
 use Rattle.rooms.proofs.Words.{signed_back, text-small, cell-small}
+use Rattle.std.specs.Prelude.{Some}
+use Rattle.rooms.specs.Spans.{span, row}
 
 -- the fields of a head that was packed
 unpacked : (k s d n x : ℕ) → k < 256 → s < 256 → d < 256 → cell_of (packed k s d n) x ≡ value_of (packed k s d n) k s d n x
@@ -37,13 +37,13 @@ unpacked k s d n x a b c = λ i. value_of (packed k s d n) (kind i) (space i) (n
     size : packed k s d n / 16777216 ≡ n
     size = omega arith
 
-text-place : (s : TextSpace) (a n : ℕ) → a < 65536 → n < 65536 → text_place (text_number s) a n ≡ TextPlace.At s a n
+text-place : (s : TextSpace) (a n : ℕ) → a < 65536 → n < 65536 → text_place (text_number s) a n ≡ Some (span s a n)
 unfolding text_place
 text-place Text.Literal a n p q = simp (le-ltb 65535 a (omega arith), le-ltb 65535 n (omega arith))
 text-place Text.Binding a n p q = simp (le-ltb 65535 a (omega arith), le-ltb 65535 n (omega arith))
 text-place Text.Evaluation a n p q = simp (le-ltb 65535 a (omega arith), le-ltb 65535 n (omega arith))
 
-cell-place : (s : CellSpace) (a n : ℕ) → a < 65536 → n < 65536 → cell_place (cell_number s) a n ≡ CellPlace.At s a n
+cell-place : (s : CellSpace) (a n : ℕ) → a < 65536 → n < 65536 → cell_place (cell_number s) a n ≡ Some (row s a n)
 unfolding cell_place
 cell-place Cells.Binding a n p q = simp (le-ltb 65535 a (omega arith), le-ltb 65535 n (omega arith))
 cell-place Cells.Evaluation a n p q = simp (le-ltb 65535 a (omega arith), le-ltb 65535 n (omega arith))
@@ -56,10 +56,10 @@ Small (Value.Int z) = mag z < 2 ^ 63
 Small (Value.Uint n) = Unit {0}
 Small (Value.Double x) = Unit {0}
 Small (Value.Nan b) = Unit {0}
-Small (Value.String s a n) = (a < 2 ^ 16) × (n < 2 ^ 16)
-Small (Value.Bytes s a n) = (a < 2 ^ 16) × (n < 2 ^ 16)
-Small (Value.List d s a n) = (d < 2 ^ 8) × (a < 2 ^ 16) × (n < 2 ^ 16)
-Small (Value.Map d s a n) = (d < 2 ^ 8) × (a < 2 ^ 16) × (n < 2 ^ 16)
+Small (Value.String sp) = (sp.first < 2 ^ 16) × (sp.length < 2 ^ 16)
+Small (Value.Bytes sp) = (sp.first < 2 ^ 16) × (sp.length < 2 ^ 16)
+Small (Value.List d ro) = (d < 2 ^ 8) × (ro.first < 2 ^ 16) × (ro.length < 2 ^ 16)
+Small (Value.Map d ro) = (d < 2 ^ 8) × (ro.first < 2 ^ 16) × (ro.length < 2 ^ 16)
 Small Value.OptionalNone = Unit {0}
 Small (Value.OptionalOf d s a) = (d < 2 ^ 8) × (a < 2 ^ 16)
 Small Value.Absent = Unit {0}
@@ -73,10 +73,10 @@ small-back (Value.Int z) f = ap Value.Int (signed_back z f)
 small-back (Value.Uint n) f = refl
 small-back (Value.Double x) f = refl
 small-back (Value.Nan b) f = refl
-small-back (Value.String s a n) f = unpacked 5 (text_number s) 0 n a (omega arith) (text-small s) (omega arith) ∙ ap (text_of 5 0) (text-place s a n f.0 f.1)
-small-back (Value.Bytes s a n) f = unpacked 6 (text_number s) 0 n a (omega arith) (text-small s) (omega arith) ∙ ap (text_of 6 0) (text-place s a n f.0 f.1)
-small-back (Value.List d s a n) f = unpacked 12 (cell_number s) d n a (omega arith) (cell-small s) f.0 ∙ ap (container_of 12 d) (cell-place s a n f.1 f.2) ∙ simp (le-ltb 255 d (omega (arith, f.0)))
-small-back (Value.Map d s a n) f = unpacked 13 (cell_number s) d n a (omega arith) (cell-small s) f.0 ∙ ap (container_of 13 d) (cell-place s a n f.1 f.2) ∙ simp (le-ltb 255 d (omega (arith, f.0)))
+small-back (Value.String sp) f = unpacked 5 (text_number sp.space) 0 sp.length sp.first (omega arith) (text-small sp.space) (omega arith) ∙ ap (text_of 5 0) (text-place sp.space sp.first sp.length f.0 f.1)
+small-back (Value.Bytes sp) f = unpacked 6 (text_number sp.space) 0 sp.length sp.first (omega arith) (text-small sp.space) (omega arith) ∙ ap (text_of 6 0) (text-place sp.space sp.first sp.length f.0 f.1)
+small-back (Value.List d ro) f = unpacked 12 (cell_number ro.space) d ro.length ro.first (omega arith) (cell-small ro.space) f.0 ∙ ap (container_of 12 d) (cell-place ro.space ro.first ro.length f.1 f.2) ∙ simp (le-ltb 255 d (omega (arith, f.0)))
+small-back (Value.Map d ro) f = unpacked 13 (cell_number ro.space) d ro.length ro.first (omega arith) (cell-small ro.space) f.0 ∙ ap (container_of 13 d) (cell-place ro.space ro.first ro.length f.1 f.2) ∙ simp (le-ltb 255 d (omega (arith, f.0)))
 small-back Value.OptionalNone f = refl
 small-back (Value.OptionalOf d s a) f = unpacked 15 (cell_number s) d 0 a (omega arith) (cell-small s) f.0 ∙ ap (container_of 15 d) (cell-place s a 0 f.1 (omega arith)) ∙ simp (le-ltb 255 d (omega (arith, f.0)))
 small-back Value.Absent f = refl
@@ -88,10 +88,10 @@ fits-small (Value.Int z) f = f
 fits-small (Value.Uint n) f = tt
 fits-small (Value.Double x) f = tt
 fits-small (Value.Nan b) f = tt
-fits-small (Value.String s a n) f = f
-fits-small (Value.Bytes s a n) f = f
-fits-small (Value.List d s a n) f = f
-fits-small (Value.Map d s a n) f = f
+fits-small (Value.String sp) f = f
+fits-small (Value.Bytes sp) f = f
+fits-small (Value.List d ro) f = f
+fits-small (Value.Map d ro) f = f
 fits-small Value.OptionalNone f = tt
 fits-small (Value.OptionalOf d s a) f = f
 fits-small Value.Absent f = tt

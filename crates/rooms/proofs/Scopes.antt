@@ -3,7 +3,7 @@
 use Prim.Native.Nat.{ℕ, zero, suc, ◌<◌, ◌≤◌}
 use mathlib.Core.Path.{◌≡◌, refl, sym, ap, ◌∙◌, subst}
 use mathlib.Core.Bool.{Bool, true, false, cond}
-use mathlib.Core.Option.{Option, none, some}
+use Rattle.std.specs.Prelude.{Option, None, Some}
 use mathlib.Core.Logic.{◌≢◌}
 use mathlib.Core.List.{List, [], ◌∷◌, map}
 use native.Mathlib.Omega.{arith}
@@ -76,7 +76,7 @@ pub scope-stored : (s : Scopes.Scope) (L : Alive) (r : Rooms) (m : Scope) (n : �
 unfolding store
 scope-stored s L r m n v x h g stands = record { long = length-set m.slots n (record { value = x }) ∙ stands.long; each = λ k. one k (eqb k n) refl }
   where
-    one : (k : ℕ) (b : Bool) → eqb k n ≡ b → StandsSlot (cond b (some v) (s k)) L r (slot_of (stored m n x) k)
+    one : (k : ℕ) (b : Bool) → eqb k n ≡ b → StandsSlot (cond b (Some v) (s k)) L r (slot_of (stored m n x) k)
     one k true e = subst (λ y. Holds v L r y) (sym (ap (slot_of (stored m n x)) (eqb-true k n e) ∙ stored_same m n x (omega (arith, h, stands.long)))) g
     one k false e = subst (λ y. StandsSlot (s k) L r y) (sym (stored_other m n k x (eqb-false k n e))) (stands.each k)
 
@@ -85,5 +85,5 @@ pub scope-frame : (L M : Alive) (r q : Rooms) → Agrees L M r q → (s : Scopes
 scope-frame L M r q g s m stands = record { long = stands.long; each = λ n. one (s n) (slot_of m n) (stands.each n) }
   where
     one : (o : Option Meaning.Value) (x : Value) → StandsSlot o L r x → StandsSlot o M q x
-    one none x h = h
-    one (some v) x h = holds_frame L M r q g v x h
+    one None x h = h
+    one (Some v) x h = holds_frame L M r q g v x h

@@ -1,6 +1,6 @@
 -- A value as two words, a head and a payload, and a cell of a list of words.
 -- In order: numbers and spaces as words; a value's words; the value of two words; a cell read and written.
-use Rattle.std.specs.Prelude.{ℕ, ◌+◌, ◌-◌, ◌*◌, ◌/◌, ◌%◌, ◌^◌, ◌<◌, List, Bool, true, false, cond, ltb, eqb, T, ℤ, pos, negsuc, length, get_or, set}
+use Rattle.std.specs.Prelude.{ℕ, Option, None, Some, ◌+◌, ◌-◌, ◌*◌, ◌/◌, ◌%◌, ◌^◌, ◌<◌, List, Bool, true, false, cond, ltb, eqb, T, ℤ, pos, negsuc, length, get_or, set}
 use Rattle.std.specs.Float.{binary64}
 use Rattle.std.specs.Float.Ieee.{fits}
 use Rattle.std.specs.Int.Signed.{mag}
@@ -11,9 +11,10 @@ use Rattle.rooms.specs.declared.value.TextSpace.{TextSpace}
 use Rattle.rooms.specs.declared.value.TextSpace.TheVariants as Text
 use Rattle.rooms.specs.declared.value.CellSpace.{CellSpace}
 use Rattle.rooms.specs.declared.value.CellSpace.TheVariants as Cells
-use Rattle.rooms.specs.declared.places.TextPlace.{TextPlace}
-use Rattle.rooms.specs.declared.places.CellPlace.{CellPlace}
+use Rattle.rooms.specs.declared.value.Span.{Span}
+use Rattle.rooms.specs.declared.value.Row.{Row}
 use Rattle.rooms.specs.Value.{double_value}
+use Rattle.rooms.specs.Spans.{span, row}
 
 -- ---- numbers and spaces
 
@@ -52,10 +53,10 @@ head_of (Value.Int z) = 2
 head_of (Value.Uint n) = 3
 head_of (Value.Double x) = 4
 head_of (Value.Nan b) = 4
-head_of (Value.String s a n) = packed 5 (text_number s) 0 n
-head_of (Value.Bytes s a n) = packed 6 (text_number s) 0 n
-head_of (Value.List d s a n) = packed 12 (cell_number s) d n
-head_of (Value.Map d s a n) = packed 13 (cell_number s) d n
+head_of (Value.String sp) = packed 5 (text_number sp.space) 0 sp.length
+head_of (Value.Bytes sp) = packed 6 (text_number sp.space) 0 sp.length
+head_of (Value.List d ro) = packed 12 (cell_number ro.space) d ro.length
+head_of (Value.Map d ro) = packed 13 (cell_number ro.space) d ro.length
 head_of Value.OptionalNone = 14
 head_of (Value.OptionalOf d s a) = packed 15 (cell_number s) d 0
 head_of Value.Absent = 16
@@ -67,10 +68,10 @@ payload_of (Value.Int z) = word_of z
 payload_of (Value.Uint n) = n
 payload_of (Value.Double x) = bits_of (Plain x)
 payload_of (Value.Nan b) = b
-payload_of (Value.String s a n) = a
-payload_of (Value.Bytes s a n) = a
-payload_of (Value.List d s a n) = a
-payload_of (Value.Map d s a n) = a
+payload_of (Value.String sp) = sp.first
+payload_of (Value.Bytes sp) = sp.first
+payload_of (Value.List d ro) = ro.first
+payload_of (Value.Map d ro) = ro.first
 payload_of Value.OptionalNone = 0
 payload_of (Value.OptionalOf d s a) = a
 payload_of Value.Absent = 0
@@ -83,10 +84,10 @@ Fits (Value.Int z) = mag z < 2 ^ 63
 Fits (Value.Uint n) = n < 2 ^ 64
 Fits (Value.Double x) = T (fits binary64 x)
 Fits (Value.Nan b) = b < 2 ^ 64
-Fits (Value.String s a n) = (a < 2 ^ 16) × (n < 2 ^ 16)
-Fits (Value.Bytes s a n) = (a < 2 ^ 16) × (n < 2 ^ 16)
-Fits (Value.List d s a n) = (d < 2 ^ 8) × (a < 2 ^ 16) × (n < 2 ^ 16)
-Fits (Value.Map d s a n) = (d < 2 ^ 8) × (a < 2 ^ 16) × (n < 2 ^ 16)
+Fits (Value.String sp) = (sp.first < 2 ^ 16) × (sp.length < 2 ^ 16)
+Fits (Value.Bytes sp) = (sp.first < 2 ^ 16) × (sp.length < 2 ^ 16)
+Fits (Value.List d ro) = (d < 2 ^ 8) × (ro.first < 2 ^ 16) × (ro.length < 2 ^ 16)
+Fits (Value.Map d ro) = (d < 2 ^ 8) × (ro.first < 2 ^ 16) × (ro.length < 2 ^ 16)
 Fits Value.OptionalNone = Unit {0}
 Fits (Value.OptionalOf d s a) = (d < 2 ^ 8) × (a < 2 ^ 16)
 Fits Value.Absent = Unit {0}
@@ -99,30 +100,30 @@ settled (Value.Int z) = Value.Int z
 settled (Value.Uint n) = Value.Uint n
 settled (Value.Double x) = double_value (double_of (bits_of (Plain x)))
 settled (Value.Nan b) = double_value (double_of b)
-settled (Value.String s a n) = Value.String s a n
-settled (Value.Bytes s a n) = Value.Bytes s a n
-settled (Value.List d s a n) = Value.List d s a n
-settled (Value.Map d s a n) = Value.Map d s a n
+settled (Value.String sp) = Value.String sp
+settled (Value.Bytes sp) = Value.Bytes sp
+settled (Value.List d ro) = Value.List d ro
+settled (Value.Map d ro) = Value.Map d ro
 settled Value.OptionalNone = Value.OptionalNone
 settled (Value.OptionalOf d s a) = Value.OptionalOf d s a
 settled Value.Absent = Value.Absent
 
 -- ---- the value of two words
 
-unfoldable pub text_place : (space first length : ℕ) → TextPlace
+unfoldable pub text_place : (space first length : ℕ) → Option Span
 text_place s a n =
-    cond (ltb 65535 a) TextPlace.Nowhere
-    (cond (ltb 65535 n) TextPlace.Nowhere
-    (cond (eqb s 0) (TextPlace.At Text.Literal a n)
-    (cond (eqb s 1) (TextPlace.At Text.Binding a n)
-    (cond (eqb s 2) (TextPlace.At Text.Evaluation a n) TextPlace.Nowhere))))
+    cond (ltb 65535 a) None
+    (cond (ltb 65535 n) None
+    (cond (eqb s 0) (Some (span Text.Literal a n))
+    (cond (eqb s 1) (Some (span Text.Binding a n))
+    (cond (eqb s 2) (Some (span Text.Evaluation a n)) None))))
 
-unfoldable pub cell_place : (space first length : ℕ) → CellPlace
+unfoldable pub cell_place : (space first length : ℕ) → Option Row
 cell_place s a n =
-    cond (ltb 65535 a) CellPlace.Nowhere
-    (cond (ltb 65535 n) CellPlace.Nowhere
-    (cond (eqb s 0) (CellPlace.At Cells.Binding a n)
-    (cond (eqb s 1) (CellPlace.At Cells.Evaluation a n) CellPlace.Nowhere)))
+    cond (ltb 65535 a) None
+    (cond (ltb 65535 n) None
+    (cond (eqb s 0) (Some (row Cells.Binding a n))
+    (cond (eqb s 1) (Some (row Cells.Evaluation a n)) None)))
 
 -- where a payload is one of few
 abbrev pub only : ℕ → Value → ℕ → Value
@@ -137,17 +138,17 @@ bare_of k x =
     (cond (eqb k 4) (double_value (double_of x))
     (cond (eqb k 14) (only 0 Value.OptionalNone x) Value.Absent)))))
 
-unfoldable pub text_of : (kind nesting : ℕ) → TextPlace → Value
-text_of k d (TextPlace.At s a n) = cond (eqb d 0) (cond (eqb k 5) (Value.String s a n) (Value.Bytes s a n)) Value.Absent
-text_of k d TextPlace.Nowhere = Value.Absent
+unfoldable pub text_of : (kind nesting : ℕ) → Option Span → Value
+text_of k d (Some sp) = cond (eqb d 0) (cond (eqb k 5) (Value.String sp) (Value.Bytes sp)) Value.Absent
+text_of k d None = Value.Absent
 
-unfoldable pub container_of : (kind nesting : ℕ) → CellPlace → Value
-container_of k d (CellPlace.At s a n) =
+unfoldable pub container_of : (kind nesting : ℕ) → Option Row → Value
+container_of k d (Some ro) =
     cond (ltb 255 d) Value.Absent
-    (cond (eqb k 12) (Value.List d s a n)
-    (cond (eqb k 13) (Value.Map d s a n)
-    (cond (eqb n 0) (Value.OptionalOf d s a) Value.Absent)))
-container_of k d CellPlace.Nowhere = Value.Absent
+    (cond (eqb k 12) (Value.List d ro)
+    (cond (eqb k 13) (Value.Map d ro)
+    (cond (eqb ro.length 0) (Value.OptionalOf d ro.space ro.first) Value.Absent)))
+container_of k d None = Value.Absent
 
 -- a head's fields with a payload
 unfoldable pub value_of : (head kind space nesting length payload : ℕ) → Value

@@ -1,6 +1,5 @@
 -- A scope of the code: 128 slots, each with a value or absent. Its slots read and stored, and what a scope stands for.
-use Rattle.std.specs.Prelude.{ℕ, ◌≡◌, length, get_or, set, replicate}
-use Rattle.std.proofs.Math.Option.{Option, none, some}
+use Rattle.std.specs.Prelude.{ℕ, ◌≡◌, length, get_or, set, replicate, Option, None, Some}
 use Rattle.meaning.specs.Limits.{names}
 use Rattle.meaning.specs.Value as Meaning
 use Rattle.meaning.specs.Comprehension as Scopes
@@ -25,8 +24,8 @@ stored s n v = record { slots = set s.slots n (record { value = v }) }
 -- ---- what a scope stands for
 
 abbrev pub StandsSlot : Option Meaning.Value → Alive → Rooms → Value → Type 0
-StandsSlot none L r m = m ≡ Value.Absent
-StandsSlot (some v) L r m = Holds v L r m
+StandsSlot None L r m = m ≡ Value.Absent
+StandsSlot (Some v) L r m = Holds v L r m
 
 -- each name has in m what it has in s
 pub record StandsScope (s : Scopes.Scope) (L : Alive) (r : Rooms) (m : Scope) : Type 0 where

@@ -13,6 +13,7 @@ use Rattle.rooms.specs.declared.value.CellSpace.{CellSpace}
 use Rattle.rooms.specs.Value.{double_value}
 use Rattle.rooms.specs.Cells.{Fits}
 use Rattle.rooms.specs.Rooms.{Rooms, cell_at, span_in}
+use Rattle.rooms.specs.Spans.{span, row}
 
 -- which cells, and how many bytes of the evaluation's text
 pub record Alive : Type 1 where
@@ -36,14 +37,14 @@ StandsScalar (bool b) L r m = m ≡ Value.Bool b
 StandsScalar (int z) L r m = m ≡ Value.Int z
 StandsScalar (uint n) L r m = m ≡ Value.Uint n
 StandsScalar (double d) L r m = (x : Double) × (m ≡ double_value x) × (bits_of x ≡ d)
-StandsScalar (string s) L r m = (space : TextSpace) × (a : ℕ) × (m ≡ Value.String space a (length s)) × TextAt s L r space a
-StandsScalar (bytes s) L r m = (space : TextSpace) × (a : ℕ) × (m ≡ Value.Bytes space a (length s)) × TextAt s L r space a
+StandsScalar (string s) L r m = (space : TextSpace) × (a : ℕ) × (m ≡ Value.String (span space a (length s))) × TextAt s L r space a
+StandsScalar (bytes s) L r m = (space : TextSpace) × (a : ℕ) × (m ≡ Value.Bytes (span space a (length s))) × TextAt s L r space a
 
 unfoldable mutual
   pub Stands : Meaning.Value → Alive → Rooms → Value → Type 0
   Stands (scalar x) L r m = StandsScalar x L r m
-  Stands (list vs) L r m = (space : CellSpace) × (a : ℕ) × (m ≡ Value.List (suc (nesting_in vs)) space a (count vs)) × StandsCells vs L r space a
-  Stands (map es) L r m = (space : CellSpace) × (a : ℕ) × (m ≡ Value.Map (suc (nesting_over es)) space a (count_entries es)) × StandsEntries es L r space a
+  Stands (list vs) L r m = (space : CellSpace) × (a : ℕ) × (m ≡ Value.List (suc (nesting_in vs)) (row space a (count vs))) × StandsCells vs L r space a
+  Stands (map es) L r m = (space : CellSpace) × (a : ℕ) × (m ≡ Value.Map (suc (nesting_over es)) (row space a (count_entries es))) × StandsEntries es L r space a
   Stands optional_none L r m = m ≡ Value.OptionalNone
   Stands (optional_of v) L r m = (space : CellSpace) × (a : ℕ) × (m ≡ Value.OptionalOf (suc (nesting v)) space a) × L.cells space a × Stands v L r (cell_at r space a)
 

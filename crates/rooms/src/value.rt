@@ -1,5 +1,5 @@
 // A value as the evaluator has it: a scalar by itself, text and containers by where they lie.
-ghost use Rattle.std.specs.Prelude.{◌≡◌, max};
+ghost use Rattle.std.specs.Prelude.{◌≡◌};
 ghost use Rattle.rooms.specs.Value.{nesting_of, parts_of, double_value, plain_of, is_key};
 ghost use Rattle.numbers.specs.Double.{double_of};
 
@@ -7,7 +7,7 @@ use numbers::double::Double;
 use numbers::order::Number;
 
 // The spaces that text lies in: a table's literals, what bindings brought, what the run made.
-#[derive(Clone, Copy)]
+#[derive(Clone, Copy, PartialEq, Eq)]
 pub enum TextSpace {
     Literal,
     Binding,
@@ -15,10 +15,26 @@ pub enum TextSpace {
 }
 
 // The spaces that cells lie in.
-#[derive(Clone, Copy)]
+#[derive(Clone, Copy, PartialEq, Eq)]
 pub enum CellSpace {
     Binding,
     Evaluation,
+}
+
+// Bytes one after the other: their space, the first of them, how many.
+#[derive(Clone, Copy, PartialEq, Eq)]
+pub struct Span {
+    pub space: TextSpace,
+    pub first: u16,
+    pub length: u16,
+}
+
+// Cells one after the other, or entries, which are two cells each.
+#[derive(Clone, Copy, PartialEq, Eq)]
+pub struct Row {
+    pub space: CellSpace,
+    pub first: u16,
+    pub length: u16,
 }
 
 #[derive(Clone, Copy)]
@@ -31,13 +47,13 @@ pub enum Value {
     Double(f64),
     // The bits of a NaN.
     Nan(u64),
-    // Where the text lies: space, first byte, length.
-    String(TextSpace, u16, u16),
-    Bytes(TextSpace, u16, u16),
-    // Nesting; then where the elements lie: space, first cell, length.
-    List(u8, CellSpace, u16, u16),
+    // Where the text lies.
+    String(Span),
+    Bytes(Span),
+    // Nesting; then where the elements lie.
+    List(u8, Row),
     // The same; an entry is two cells, its key and its value.
-    Map(u8, CellSpace, u16, u16),
+    Map(u8, Row),
     OptionalNone,
     // Nesting; then where the part lies: space, cell.
     OptionalOf(u8, CellSpace, u16),
@@ -48,9 +64,9 @@ pub enum Value {
 // What a value is made of.
 #[derive(Clone, Copy)]
 pub enum Parts {
-    // Where they lie: space, first cell, length.
-    Elements(CellSpace, u16, u16),
-    Entries(CellSpace, u16, u16),
+    // Where they lie.
+    Elements(Row),
+    Entries(Row),
     Present(CellSpace, u16),
     Nothing,
 }
@@ -62,26 +78,19 @@ pub fn nesting_of(value: Value) -> u8
     ensures { result ≡ nesting_of value }
 {
     match value {
-        Value::List(nesting, _, _, _) => nesting,
-        Value::Map(nesting, _, _, _) => nesting,
+        Value::List(nesting, _) => nesting,
+        Value::Map(nesting, _) => nesting,
         Value::OptionalOf(nesting, _, _) => nesting,
         _ => 0,
     }
-}
-
-// The greater of two nestings.
-pub fn deeper(one: u8, other: u8) -> u8
-    ensures { result ≡ max one other }
-{
-    if one < other { other } else { one }
 }
 
 pub fn parts_of(value: Value) -> Parts
     ensures { result ≡ parts_of value }
 {
     match value {
-        Value::List(_, space, first, length) => Parts::Elements(space, first, length),
-        Value::Map(_, space, first, length) => Parts::Entries(space, first, length),
+        Value::List(_, row) => Parts::Elements(row),
+        Value::Map(_, row) => Parts::Entries(row),
         Value::OptionalOf(_, space, cell) => Parts::Present(space, cell),
         _ => Parts::Nothing,
     }
@@ -91,7 +100,7 @@ pub fn parts_of(value: Value) -> Parts
 pub fn double_value(bits: u64) -> Value
     ensures { result ≡ double_value (double_of bits) }
 {
-    match numbers::double::from_bits(bits) {
+    match Double::from_bits(bits) {
         Double::Plain(float) => Value::Double(float),
         Double::Nan(pattern) => Value::Nan(pattern),
     }
@@ -103,9 +112,9 @@ pub enum Plain {
     Null,
     Bool(bool),
     Number(Number),
-    // Where the text lies: space, first byte, length.
-    String(TextSpace, u16, u16),
-    Bytes(TextSpace, u16, u16),
+    // Where the text lies.
+    String(Span),
+    Bytes(Span),
     OptionalNone,
     Other,
 }
@@ -120,8 +129,8 @@ pub fn plain_of(value: Value) -> Plain
         Value::Uint(number) => Plain::Number(Number::Uint(number)),
         Value::Double(float) => Plain::Number(Number::Double(Double::Plain(float))),
         Value::Nan(pattern) => Plain::Number(Number::Double(Double::Nan(pattern))),
-        Value::String(space, first, length) => Plain::String(space, first, length),
-        Value::Bytes(space, first, length) => Plain::Bytes(space, first, length),
+        Value::String(span) => Plain::String(span),
+        Value::Bytes(span) => Plain::Bytes(span),
         Value::OptionalNone => Plain::OptionalNone,
         _ => Plain::Other,
     }
@@ -131,19 +140,8 @@ pub fn plain_of(value: Value) -> Plain
 pub fn is_key(value: Value) -> bool
     ensures { result ≡ is_key value }
 {
-    match value {
-        Value::Null => false,
-        Value::Bool(_) => true,
-        Value::Int(_) => true,
-        Value::Uint(_) => true,
-        Value::Double(_) => false,
-        Value::Nan(_) => false,
-        Value::String(_, _, _) => true,
-        Value::Bytes(_, _, _) => false,
-        Value::List(_, _, _, _) => false,
-        Value::Map(_, _, _, _) => false,
-        Value::OptionalNone => false,
-        Value::OptionalOf(_, _, _) => false,
-        Value::Absent => false,
-    }
+    matches!(
+        value,
+        Value::Bool(_) | Value::Int(_) | Value::Uint(_) | Value::String(_)
+    )
 }

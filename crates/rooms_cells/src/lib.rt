@@ -7,12 +7,14 @@ pub mod packing;
 
 ghost use Rattle.std.specs.Prelude.{◌≡◌};
 ghost use Rattle.rooms.specs.Cells.{cell_of, cell_in, written_in};
-ghost use Rattle.rooms.specs.Rooms.{words_of};
+ghost use Rattle.rooms.specs.Rooms.{cell_at, with_words};
+ghost use Rattle.rooms.specs.Memory.{rooms_seen, Changes};
 
 use crate::packing::{
     BYTES, LENGTH_UNIT, LIST, MAP, NESTING_UNIT, OPTIONAL_OF, SPACE_UNIT, STRING, bare_value,
     container, head_of, payload_of, text_value,
 };
+use rooms::memory::{Lent, View};
 use rooms::value::{CellSpace, Value};
 
 fn value_of(head: u64, payload: u64) -> Value
@@ -64,11 +66,18 @@ pub fn write_cell(words: &mut [u64], index: usize, value: Value)
 }
 
 // Cell `index` of a space.
-pub fn cell_at(binding_cells: &[u64], cells: &[u64], space: CellSpace, index: usize) -> Value
-    ensures { result ≡ cell_in (words_of binding_cells.now cells.now space) index }
+pub fn cell_at(view: &View, space: CellSpace, index: usize) -> Value
+    ensures { result ≡ cell_at (rooms_seen view.now) space index }
 {
     match space {
-        CellSpace::Binding => read_cell(binding_cells, index),
-        CellSpace::Evaluation => read_cell(cells, index),
+        CellSpace::Binding => read_cell(view.binding_cells, index),
+        CellSpace::Evaluation => read_cell(view.cells, index),
     }
+}
+
+// A value in cell `index` of the evaluation's, where there is one.
+pub fn store(lent: &mut Lent, index: usize, value: Value)
+    ensures { Changes lent.old lent.new (λ r. with_words r (written_in r.cells index value)) }
+{
+    write_cell(lent.cells, index, value);
 }

@@ -2,8 +2,8 @@
 ghost use Rattle.std.specs.Prelude.{◌≡◌, ◌<◌};
 ghost use Rattle.rooms.specs.Cells.{signed_of, word_of, text_number, cell_number, bit_of, packed, head_of, payload_of, text_place, cell_place, bare_of, text_of, container_of};
 
-use rooms::places::{CellPlace, TextPlace};
-use rooms::value::{CellSpace, TextSpace, Value};
+use numbers::double::Double;
+use rooms::value::{CellSpace, Row, Span, TextSpace, Value};
 
 // The kinds, numbered as in a table; what no table spells has numbers of its own.
 const NULL: u64 = 0;
@@ -48,21 +48,13 @@ const ALL_ONES: u64 = 0xFFFF_FFFF_FFFF_FFFF;
 fn word_of(number: i64) -> u64
     ensures { result ≡ word_of number }
 {
-    if number < 0 {
-        ALL_ONES - ((-(number + 1)) as u64)
-    } else {
-        number as u64
-    }
+    number.cast_unsigned()
 }
 
 fn signed_of(word: u64) -> i64
     ensures { result ≡ signed_of word }
 {
-    if word < SIGN_BIT {
-        word as i64
-    } else {
-        -((ALL_ONES - word) as i64) - 1
-    }
+    word.cast_signed()
 }
 
 // The number of a text space in a cell, and where a value is shown as words.
@@ -102,20 +94,14 @@ pub fn head_of(value: Value) -> u64
         Value::Uint(_) => UINT,
         Value::Double(_) => DOUBLE,
         Value::Nan(_) => DOUBLE,
-        Value::String(space, _, length) => head(STRING, text_number(space), 0, length),
-        Value::Bytes(space, _, length) => head(BYTES, text_number(space), 0, length),
-        Value::List(nesting, space, _, length) => head(LIST, cell_number(space), nesting, length),
-        Value::Map(nesting, space, _, length) => head(MAP, cell_number(space), nesting, length),
+        Value::String(span) => head(STRING, text_number(span.space), 0, span.length),
+        Value::Bytes(span) => head(BYTES, text_number(span.space), 0, span.length),
+        Value::List(nesting, row) => head(LIST, cell_number(row.space), nesting, row.length),
+        Value::Map(nesting, row) => head(MAP, cell_number(row.space), nesting, row.length),
         Value::OptionalNone => OPTIONAL_NONE,
         Value::OptionalOf(nesting, space, _) => head(OPTIONAL_OF, cell_number(space), nesting, 0),
         Value::Absent => ABSENT,
     }
-}
-
-fn bit(truth: bool) -> u64
-    ensures { result ≡ bit_of truth }
-{
-    if truth { 1 } else { 0 }
 }
 
 pub fn payload_of(value: Value) -> u64
@@ -123,55 +109,73 @@ pub fn payload_of(value: Value) -> u64
 {
     match value {
         Value::Null => 0,
-        Value::Bool(truth) => bit(truth),
+        Value::Bool(truth) => u64::from(truth),
         Value::Int(number) => word_of(number),
         Value::Uint(number) => number,
-        Value::Double(float) => numbers::double::to_bits(numbers::double::Double::Plain(float)),
+        Value::Double(float) => Double::Plain(float).to_bits(),
         Value::Nan(bits) => bits,
-        Value::String(_, first, _) => first as u64,
-        Value::Bytes(_, first, _) => first as u64,
-        Value::List(_, _, first, _) => first as u64,
-        Value::Map(_, _, first, _) => first as u64,
+        Value::String(span) => span.first as u64,
+        Value::Bytes(span) => span.first as u64,
+        Value::List(_, row) => row.first as u64,
+        Value::Map(_, row) => row.first as u64,
         Value::OptionalNone => 0,
         Value::OptionalOf(_, _, cell) => cell as u64,
         Value::Absent => 0,
     }
 }
 
-fn text_place(space: u64, first: u64, length: u64) -> TextPlace
+// Where a text lies, if the fields of a head and a payload say it.
+fn text_place(space: u64, first: u64, length: u64) -> Option<Span>
     ensures { result ≡ text_place space first length }
 {
     if WIDEST < first {
-        return TextPlace::Nowhere;
+        return None;
     }
     if WIDEST < length {
-        return TextPlace::Nowhere;
+        return None;
     }
-    let from = first as u16;
-    let count = length as u16;
     match space {
-        0 => TextPlace::At(TextSpace::Literal, from, count),
-        1 => TextPlace::At(TextSpace::Binding, from, count),
-        2 => TextPlace::At(TextSpace::Evaluation, from, count),
-        _ => TextPlace::Nowhere,
+        0 => Some(Span {
+            space: TextSpace::Literal,
+            first: first as u16,
+            length: length as u16,
+        }),
+        1 => Some(Span {
+            space: TextSpace::Binding,
+            first: first as u16,
+            length: length as u16,
+        }),
+        2 => Some(Span {
+            space: TextSpace::Evaluation,
+            first: first as u16,
+            length: length as u16,
+        }),
+        _ => None,
     }
 }
 
-fn cell_place(space: u64, first: u64, length: u64) -> CellPlace
+// Where cells lie, if they say it.
+fn cell_place(space: u64, first: u64, length: u64) -> Option<Row>
     ensures { result ≡ cell_place space first length }
 {
     if WIDEST < first {
-        return CellPlace::Nowhere;
+        return None;
     }
     if WIDEST < length {
-        return CellPlace::Nowhere;
+        return None;
     }
-    let from = first as u16;
-    let count = length as u16;
     match space {
-        0 => CellPlace::At(CellSpace::Binding, from, count),
-        1 => CellPlace::At(CellSpace::Evaluation, from, count),
-        _ => CellPlace::Nowhere,
+        0 => Some(Row {
+            space: CellSpace::Binding,
+            first: first as u16,
+            length: length as u16,
+        }),
+        1 => Some(Row {
+            space: CellSpace::Evaluation,
+            first: first as u16,
+            length: length as u16,
+        }),
+        _ => None,
     }
 }
 
@@ -203,22 +207,22 @@ pub fn bare_value(kind: u64, payload: u64) -> Value
 pub fn text_value(kind: u64, space: u64, nesting: u64, first: u64, length: u64) -> Value
     ensures { result ≡ text_of kind nesting (text_place space first length) }
 {
-    let TextPlace::At(home, from, count) = text_place(space, first, length) else {
+    let Some(span) = text_place(space, first, length) else {
         return Value::Absent;
     };
     if nesting != 0 {
         return Value::Absent;
     }
     match kind {
-        STRING => Value::String(home, from, count),
-        _ => Value::Bytes(home, from, count),
+        STRING => Value::String(span),
+        _ => Value::Bytes(span),
     }
 }
 
 pub fn container(kind: u64, space: u64, nesting: u64, first: u64, length: u64) -> Value
     ensures { result ≡ container_of kind nesting (cell_place space first length) }
 {
-    let CellPlace::At(home, from, count) = cell_place(space, first, length) else {
+    let Some(row) = cell_place(space, first, length) else {
         return Value::Absent;
     };
     if 255 < nesting {
@@ -226,10 +230,10 @@ pub fn container(kind: u64, space: u64, nesting: u64, first: u64, length: u64) -
     }
     let deep = nesting as u8;
     match kind {
-        LIST => Value::List(deep, home, from, count),
-        MAP => Value::Map(deep, home, from, count),
-        _ => match count {
-            0 => Value::OptionalOf(deep, home, from),
+        LIST => Value::List(deep, row),
+        MAP => Value::Map(deep, row),
+        _ => match row.length {
+            0 => Value::OptionalOf(deep, row.space, row.first),
             _ => Value::Absent,
         },
     }

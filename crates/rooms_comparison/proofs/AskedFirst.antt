@@ -1,4 +1,4 @@
--- Pairs that are asked for before all others: what decides them at once says what is seen of them. Assumes nothing.
+-- Pairs that need no number line and no order: what decides them at once says what is seen of them. Assumes nothing.
 use mathlib.Core.Path.{◌≡◌, refl, sym, ap, ◌∙◌}
 use mathlib.Core.Bool.{Bool, true, false}
 use mathlib.Core.List.{List}
@@ -11,8 +11,9 @@ use mir.ValLaws.{to_z-of_z}
 use borrow.Author.Tests.{eq-eqb, eqb-true}
 use Rattle.text.specs.Bytes.{equal_of}
 use Rattle.text.proofs.BytesLaws.{equal-decides}
-use Rattle.meaning.specs.Value.{int, string, int_key, string_key, key_scalar}
+use Rattle.meaning.specs.Value.{int, string, bytes, int_key, string_key, key_scalar}
 use Rattle.meaning.specs.Comparison.{scalar_equal}
+use Rattle.rooms_comparison.proofs.ScalarLaws.{string-same, bytes_same}
 use Rattle.rooms_comparison.proofs.KeyMatches.{found-matches, matches-found}
 
 one_truth : (p q : Bool) → (p ≡ true → q ≡ true) → (q ≡ true → p ≡ true) → p ≡ q
@@ -35,3 +36,6 @@ text_same s t =
     one_truth (equal_of s t) (scalar_equal (string s) (string t))
     (λ e. matches-found (string_key s) (string_key t) ((equal-decides s t).0 e))
     (λ e. (equal-decides s t).1 (found-matches (string_key s) (string_key t) e))
+
+pub bytes_equal : (s t : List ℕ) → equal_of s t ≡ scalar_equal (bytes s) (bytes t)
+bytes_equal s t = text_same s t ∙ sym (string-same s t) ∙ bytes_same s t

@@ -22,8 +22,8 @@ abbrev pub class_of : Plain → ℕ
 class_of Plain.Null = 0
 class_of (Plain.Bool x) = 1
 class_of (Plain.Number n) = 2
-class_of (Plain.String s a n) = 3
-class_of (Plain.Bytes s a n) = 4
+class_of (Plain.String sp) = 3
+class_of (Plain.Bytes sp) = 4
 class_of Plain.OptionalNone = 5
 class_of Plain.Other = 6
 
@@ -31,8 +31,8 @@ tag-class : (p : Plain) → tag_of PlainType.the_type p ≡ class_of p
 tag-class Plain.Null = refl
 tag-class (Plain.Bool x) = refl
 tag-class (Plain.Number n) = refl
-tag-class (Plain.String s a n) = refl
-tag-class (Plain.Bytes s a n) = refl
+tag-class (Plain.String sp) = refl
+tag-class (Plain.Bytes sp) = refl
 tag-class Plain.OptionalNone = refl
 tag-class Plain.Other = refl
 
@@ -61,8 +61,8 @@ module _ (l b t : List ℕ) where
   unlike-seen x Plain.Null e = apart x null e
   unlike-seen x (Plain.Bool y) e = apart x (bool y) e
   unlike-seen x (Plain.Number n) e = apart-number x n e
-  unlike-seen x (Plain.String s a n) e = apart x (string (part (text_of l b t s) a n)) e
-  unlike-seen x (Plain.Bytes s a n) e = apart x (bytes (part (text_of l b t s) a n)) e
+  unlike-seen x (Plain.String sp) e = apart x (string (part (text_of l b t sp.space) sp.first sp.length)) e
+  unlike-seen x (Plain.Bytes sp) e = apart x (bytes (part (text_of l b t sp.space) sp.first sp.length)) e
   unlike-seen x Plain.OptionalNone e = refl
   unlike-seen x Plain.Other e = refl
 
@@ -70,8 +70,8 @@ module _ (l b t : List ℕ) where
   none-unlike-seen Plain.Null e = refl
   none-unlike-seen (Plain.Bool y) e = refl
   none-unlike-seen (Plain.Number n) e = refl
-  none-unlike-seen (Plain.String s a n) e = refl
-  none-unlike-seen (Plain.Bytes s a n) e = refl
+  none-unlike-seen (Plain.String sp) e = refl
+  none-unlike-seen (Plain.Bytes sp) e = refl
   none-unlike-seen Plain.OptionalNone e = absurd (true≢false e)
   none-unlike-seen Plain.Other e = refl
 

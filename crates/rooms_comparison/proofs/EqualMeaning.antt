@@ -2,7 +2,7 @@
 -- exactly where the count would pass the limit. Assumes nothing.
 use Prim.Native.Nat.{ℕ, zero, suc, ◌+◌, ◌<◌}
 use mathlib.Core.Path.{◌≡◌, refl, sym, ◌∙◌, ap, ap₂, subst, fun_ext}
-use mathlib.Core.Option.{Option, none, some}
+use Rattle.std.specs.Prelude.{Option, None, Some}
 use mathlib.Core.Bool.{Bool, true, false, cond}
 use native.Mathlib.Omega.{arith}
 use lib.Dec.{eqb, ltb, eqb→eq, T}
@@ -26,6 +26,7 @@ use Rattle.rooms_comparison.specs.Equality.{pair, decided, and_then, where_found
 use Rattle.rooms_comparison.specs.Finds.{FoundIs, Finds}
 use Rattle.rooms_comparison.proofs.Charges.{pays-add, pays-found, both-paid, either-paid, tick-paid}
 use Rattle.rooms_comparison.proofs.SeenMeaning.{scalar-tally, none-tally, scalar-seen, scalar-parts, seen-stands}
+use Rattle.rooms.specs.Spans.{row}
 
 -- ---- the look-up
 
@@ -40,7 +41,7 @@ module _ (L : Alive) (r : Rooms) (limit : ℕ) where
       tested : same_seen (seen_in r m) (seen_in r (cell_at r space a)) ≡ scalar_equal x (key_scalar key)
       tested = ap₂ same_seen (scalar-seen L r x m h) (scalar-seen L r (key_scalar key) (cell_at r space a) i.1)
 
-      go : (b : Bool) → Finds L r space limit (suc k) (find x es) (find_in limit r m space (suc (suc a)) (count_entries es) (suc k)) → same_seen (seen_in r m) (seen_in r (cell_at r space a)) ≡ b → Finds L r space limit k (tick (cond b (0, some v) (find x es))) (pair_found (ltb k limit) k (cond (same_seen (seen_in r m) (seen_in r (cell_at r space a))) (Found.At (suc a) (suc k)) (find_in limit r m space (suc (suc a)) (count_entries es) (suc k))))
+      go : (b : Bool) → Finds L r space limit (suc k) (find x es) (find_in limit r m space (suc (suc a)) (count_entries es) (suc k)) → same_seen (seen_in r m) (seen_in r (cell_at r space a)) ≡ b → Finds L r space limit k (tick (cond b (0, Some v) (find x es))) (pair_found (ltb k limit) k (cond (same_seen (seen_in r m) (seen_in r (cell_at r space a))) (Found.At (suc a) (suc k)) (find_in limit r m space (suc (suc a)) (count_entries es) (suc k))))
       go true ih e = ((λ j. Found.At (suc a) j), (suc a, refl, i.2, i.3), ap (λ c. pair_found (ltb k limit) k (cond c (Found.At (suc a) (suc k)) (find_in limit r m space (suc (suc a)) (count_entries es) (suc k)))) e)
       go false ih e = (ih.0, ih.1, ap (λ c. pair_found (ltb k limit) k (cond c (Found.At (suc a) (suc k)) (find_in limit r m space (suc (suc a)) (count_entries es) (suc k)))) e ∙ ap (pair_found (ltb k limit) k) ih.2)
 
@@ -111,8 +112,8 @@ module _ (L : Alive) (r : Rooms) (limit : ℕ) where
   entry-paid k t space p v rest g h s = ap (λ z. where_found z g) h.2 ∙ pays-found g limit k t.0 h.0 ∙ go t.1 h.1
     where
       go : (o : Option Meaning.Value) → FoundIs L r space o h.0 → pays limit k t.0 (λ j. where_found (h.0 j) g) ≡ paid limit k (both (both (t.0, true) (against (λ w. equal v w) o)) rest)
-      go none e = ap (λ f. pays limit k t.0 (λ j. where_found (f j) g)) e ∙ paid-after k t.0 (Comparison.decided false) ∙ ap (paid limit k) (sym (both-after t.0 (Comparison.decided false) rest))
-      go (some w) e = ap (λ f. pays limit k t.0 (λ j. where_found (f j) g)) e.1 ∙ ap (pays limit k t.0) (fun_ext (s w e.0 e.3)) ∙ paid-after k t.0 (both (equal v w) rest) ∙ ap (paid limit k) (sym (both-after t.0 (equal v w) rest))
+      go None e = ap (λ f. pays limit k t.0 (λ j. where_found (f j) g)) e ∙ paid-after k t.0 (Comparison.decided false) ∙ ap (paid limit k) (sym (both-after t.0 (Comparison.decided false) rest))
+      go (Some w) e = ap (λ f. pays limit k t.0 (λ j. where_found (f j) g)) e.1 ∙ ap (pays limit k t.0) (fun_ext (s w e.0 e.3)) ∙ paid-after k t.0 (both (equal v w) rest) ∙ ap (paid limit k) (sym (both-after t.0 (equal v w) rest))
 
   -- values without parts
   plain-paid : (x y : Value) (w : Meaning.Value) (z : Meaning.Scalar) (k : ℕ) → StandsScalar z L r x → Stands w L r y → decided (same_seen (seen_in r x) (seen_in r y)) (suc k) ≡ paid limit (suc k) (against (λ u. Comparison.decided (scalar_equal z u)) (scalar_of w))
@@ -156,9 +157,9 @@ module _ (L : Alive) (r : Rooms) (limit : ℕ) where
     equal-ok (scalar z) w zero x y k d h i = absurd (omega arith)
     equal-ok (scalar z) w (suc n) x y k d h i = begun n x y k Parts.Nothing _ (scalar-parts L r z x h) (plain-paid x y w z k h i)
     equal-ok (list vs) w zero x y k d h i = absurd (omega arith)
-    equal-ok (list vs) w (suc n) x y k d h i = begun n x y k (Parts.Elements h.0 h.1 (count vs)) _ (ap parts_of h.2) (lists-paid (λ v' w' j. equal_in n limit r v' w' j) vs h.0 h.1 (suc k) w y i (λ ws t b e g. elements-ok vs ws n h.0 h.1 t b (suc k) (deeper-list vs n d) e h.3 g))
+    equal-ok (list vs) w (suc n) x y k d h i = begun n x y k (Parts.Elements (row h.0 h.1 (count vs))) _ (ap parts_of h.2) (lists-paid (λ v' w' j. equal_in n limit r v' w' j) vs h.0 h.1 (suc k) w y i (λ ws t b e g. elements-ok vs ws n h.0 h.1 t b (suc k) (deeper-list vs n d) e h.3 g))
     equal-ok (map es) w zero x y k d h i = absurd (omega arith)
-    equal-ok (map es) w (suc n) x y k d h i = begun n x y k (Parts.Entries h.0 h.1 (count_entries es)) _ (ap parts_of h.2) (maps-paid (λ v' w' j. equal_in n limit r v' w' j) es h.0 h.1 (suc k) w y i (λ fs t b g. entries-ok es fs n h.0 h.1 t b (suc k) (deeper-map es n d) h.3 g))
+    equal-ok (map es) w (suc n) x y k d h i = begun n x y k (Parts.Entries (row h.0 h.1 (count_entries es))) _ (ap parts_of h.2) (maps-paid (λ v' w' j. equal_in n limit r v' w' j) es h.0 h.1 (suc k) w y i (λ fs t b g. entries-ok es fs n h.0 h.1 t b (suc k) (deeper-map es n d) h.3 g))
     equal-ok optional_none w zero x y k d h i = absurd (omega arith)
     equal-ok optional_none w (suc n) x y k d h i = begun n x y k Parts.Nothing _ (ap parts_of h) (none-paid x y w k h i)
     equal-ok (optional_of v) w zero x y k d h i = absurd (omega arith)

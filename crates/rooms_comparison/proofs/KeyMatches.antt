@@ -1,50 +1,50 @@
 -- When a look-up finds a key: by kind and value, or an Int and a Uint by one number. Assumes nothing.
 use Prim.Native.Nat.{ℕ}
 use mathlib.Core.Path.{◌≡◌, refl, sym, ap, ◌∙◌}
-use mathlib.Core.Bool.{Bool, true, false, not, cond, true≢false}
+use mathlib.Core.Bool.{Bool, true, false, true≢false, beq}
 use lib.Dec.{eqb}
 use lib.IntN.{ℤ, nat_abs}
-use Rattle.numbers.specs.declared.order.Order.{Order}
+use Rattle.std.specs.Prelude.{Option, None, Some}
+use Rattle.std.specs.declared.cmp.Ordering.{Ordering}
 use Rattle.numbers.specs.declared.order.Number.TheVariants as Number
 use Rattle.numbers.specs.Order.{order_of, is_equal, flipped, below_zero, whole_point, int_point, uint_point}
 use Rattle.numbers_laws.proofs.OrderLaws.{order-swap}
 use Rattle.numbers_laws.proofs.SignedOrder.{signed_is}
 use Rattle.numbers_laws.proofs.WholeLaws.{whole-order, int-uint-equal, int-uint-only, int-only, uint-only}
-use Rattle.text.specs.declared.bytes.TextOrder.{TextOrder}
 use Rattle.text.specs.Bytes as Bytes
 use Rattle.text.proofs.BytesLaws.{order-equal}
 use Rattle.meaning.specs.Value.{Scalar, int, uint, bool, string, Key, int_key, uint_key, bool_key, string_key, key_scalar}
-use Rattle.meaning.specs.Comparison.{rank, text_order, scalar_equal}
+use Rattle.meaning.specs.Comparison.{rank, scalar_equal}
 use Rattle.rooms_comparison.specs.Matches.{Matches}
 use Rattle.rooms_comparison.proofs.ScalarLaws.{apart, number_same, bool_same, string-same}
 
 never : (x y : Scalar) → eqb (rank x).class (rank y).class ≡ false → scalar_equal x y ≡ true → ⊥
 never x y e h = true≢false (sym h ∙ sym (apart x y e))
 
-itself : (s : Bool) (a : ℕ) → order_of (whole_point s a) (whole_point s a) ≡ Order.Equal
-itself true a = whole-order true a true a ∙ signed_is Order.Equal true a true a refl
-itself false a = whole-order false a false a ∙ signed_is Order.Equal false a false a refl
+itself : (s : Bool) (a : ℕ) → order_of (whole_point s a) (whole_point s a) ≡ Some Ordering.Equal
+itself true a = whole-order true a true a ∙ ap Some (signed_is Ordering.Equal true a true a refl)
+itself false a = whole-order false a false a ∙ ap Some (signed_is Ordering.Equal false a false a refl)
 
 -- which side is which does not matter
 turned : (n : ℕ) (z : ℤ) → is_equal (order_of (uint_point n) (int_point z)) ≡ is_equal (order_of (int_point z) (uint_point n))
 turned n z = ap is_equal (order-swap (uint_point n) (int_point z)) ∙ either_way (order_of (int_point z) (uint_point n))
   where
-    either_way : (o : Order) → is_equal (flipped o) ≡ is_equal o
-    either_way Order.Less = refl
-    either_way Order.Equal = refl
-    either_way Order.Greater = refl
-    either_way Order.Unordered = refl
+    either_way : (o : Option Ordering) → is_equal (flipped o) ≡ is_equal o
+    either_way None = refl
+    either_way (Some Ordering.Less) = refl
+    either_way (Some Ordering.Equal) = refl
+    either_way (Some Ordering.Greater) = refl
 
-bools : (a b : Bool) → cond a b (not b) ≡ true → a ≡ b
-bools true b e = sym e
+bools : (a b : Bool) → beq a b ≡ true → a ≡ b
+bools true true e = refl
+bools true false e = sym e
 bools false true e = e
 bools false false e = refl
 
-is-equal : (o : TextOrder) → is_equal (text_order o) ≡ true → o ≡ TextOrder.Equal
-unfolding text_order
-is-equal TextOrder.Less e = absurd (true≢false (sym e))
-is-equal TextOrder.Equal e = refl
-is-equal TextOrder.Greater e = absurd (true≢false (sym e))
+is-equal : (o : Ordering) → is_equal (Some o) ≡ true → o ≡ Ordering.Equal
+is-equal Ordering.Less e = absurd (true≢false (sym e))
+is-equal Ordering.Equal e = refl
+is-equal Ordering.Greater e = absurd (true≢false (sym e))
 
 -- Only a key that matches is found.
 pub found-matches : (j k : Key) → scalar_equal (key_scalar j) (key_scalar k) ≡ true → Matches j k
@@ -68,7 +68,7 @@ found-matches (string_key s) (string_key t) h = (order-equal s t).0 (is-equal (B
 
 -- Every key that matches is.
 pub matches-found : (j k : Key) → Matches j k → scalar_equal (key_scalar j) (key_scalar k) ≡ true
-unfolding key_scalar text_order
+unfolding key_scalar
 matches-found (int_key y) (int_key z) h = sym (number_same (Number.Int y) (Number.Int z)) ∙ ap (λ x. is_equal (order_of (int_point x) (int_point z))) h ∙ ap is_equal (itself (below_zero z) (nat_abs z))
 matches-found (int_key z) (uint_key n) h = sym (number_same (Number.Int z) (Number.Uint n)) ∙ ap (λ y. is_equal (order_of (int_point y) (uint_point n))) h ∙ ap is_equal (int-uint-equal n)
 matches-found (int_key z) (bool_key b) h = absurd h
@@ -79,13 +79,13 @@ matches-found (uint_key n) (bool_key b) h = absurd h
 matches-found (uint_key n) (string_key s) h = absurd h
 matches-found (bool_key b) (int_key z) h = absurd h
 matches-found (bool_key b) (uint_key n) h = absurd h
-matches-found (bool_key a) (bool_key b) h = sym (bool_same a b) ∙ ap (λ c. cond c b (not b)) h ∙ same b
+matches-found (bool_key a) (bool_key b) h = sym (bool_same a b) ∙ ap (λ c. beq c b) h ∙ same b
   where
-    same : (b : Bool) → cond b b (not b) ≡ true
+    same : (b : Bool) → beq b b ≡ true
     same true = refl
     same false = refl
 matches-found (bool_key b) (string_key s) h = absurd h
 matches-found (string_key s) (int_key z) h = absurd h
 matches-found (string_key s) (uint_key n) h = absurd h
 matches-found (string_key s) (bool_key b) h = absurd h
-matches-found (string_key s) (string_key t) h = sym (string-same s t) ∙ ap (λ o. is_equal (text_order o)) ((order-equal s t).1 h) ∙ refl
+matches-found (string_key s) (string_key t) h = sym (string-same s t) ∙ ap (λ o. is_equal (Some o)) ((order-equal s t).1 h) ∙ refl

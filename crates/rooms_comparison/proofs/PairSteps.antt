@@ -14,6 +14,7 @@ use Rattle.rooms.specs.Value.{parts_of}
 use Rattle.rooms.specs.Rooms.{Rooms, cell_at}
 use Rattle.rooms_comparison.specs.Seen.{same_seen, seen_in}
 use Rattle.rooms_comparison.specs.Equality.{pair, decided, Compare, elements_equal, entries_equal, elements_against, entries_against, present_against, parts_equal, equal_in}
+use Rattle.rooms.specs.Spans.{row}
 
 one_more : (n : ℕ) → (n ≡ 0 → ⊥) → n ≡ suc (n - 1)
 one_more n h = omega arith
@@ -38,32 +39,32 @@ module _ (d limit : ℕ) (r : Rooms) (x y : Value) (k : ℕ) where
   opened h l = begun h ∙ (λ i. pair (lt-ltb k limit l i) k (parts_equal inner limit r x y (parts_of x) (sym (add-one k) i)))
 
   -- two lists
-  module _ (h : d ≡ 0 → ⊥) (l : k < limit) (s : CellSpace) (a n : ℕ) (e : parts_of x ≡ Parts.Elements s a n) where
+  module _ (h : d ≡ 0 → ⊥) (l : k < limit) (s : CellSpace) (a n : ℕ) (e : parts_of x ≡ Parts.Elements (row s a n)) where
     lists : (q : Parts) → parts_of y ≡ q → equal_in d limit r x y k ≡ elements_against inner r s a n q (k + 1)
     lists q g = opened h l ∙ ap (λ p. parts_equal inner limit r x y p (k + 1)) e ∙ ap (λ p. elements_against inner r s a n p (k + 1)) g
 
     pub lists-unlike : (q : Parts) → parts_of y ≡ q → elements_against inner r s a n q (k + 1) ≡ Pairs.Unlike (k + 1) → Pairs.Unlike (k + 1) ≡ equal_in d limit r x y k
     lists-unlike q g w = sym (lists q g ∙ w)
 
-    pub lists-uneven : (t : CellSpace) (b m : ℕ) → parts_of y ≡ Parts.Elements t b m → (n ≡ m → ⊥) → Pairs.Unlike (k + 1) ≡ equal_in d limit r x y k
-    lists-uneven t b m g w = lists-unlike (Parts.Elements t b m) g (rw (ne_eqb n m w) refl)
+    pub lists-uneven : (t : CellSpace) (b m : ℕ) → parts_of y ≡ Parts.Elements (row t b m) → (n ≡ m → ⊥) → Pairs.Unlike (k + 1) ≡ equal_in d limit r x y k
+    lists-uneven t b m g w = lists-unlike (Parts.Elements (row t b m)) g (rw (ne_eqb n m w) refl)
 
-    pub lists-even : (t : CellSpace) (b m : ℕ) (p : Pairs) → parts_of y ≡ Parts.Elements t b m → n ≡ m → p ≡ elements_equal inner r s a t b n (k + 1) → p ≡ equal_in d limit r x y k
-    lists-even t b m p g w z = z ∙ sym (lists (Parts.Elements t b m) g ∙ rw (eq-eqb n m w) refl)
+    pub lists-even : (t : CellSpace) (b m : ℕ) (p : Pairs) → parts_of y ≡ Parts.Elements (row t b m) → n ≡ m → p ≡ elements_equal inner r s a t b n (k + 1) → p ≡ equal_in d limit r x y k
+    lists-even t b m p g w z = z ∙ sym (lists (Parts.Elements (row t b m)) g ∙ rw (eq-eqb n m w) refl)
 
   -- two maps
-  module _ (h : d ≡ 0 → ⊥) (l : k < limit) (s : CellSpace) (a n : ℕ) (e : parts_of x ≡ Parts.Entries s a n) where
+  module _ (h : d ≡ 0 → ⊥) (l : k < limit) (s : CellSpace) (a n : ℕ) (e : parts_of x ≡ Parts.Entries (row s a n)) where
     maps : (q : Parts) → parts_of y ≡ q → equal_in d limit r x y k ≡ entries_against inner limit r s a n q (k + 1)
     maps q g = opened h l ∙ ap (λ p. parts_equal inner limit r x y p (k + 1)) e ∙ ap (λ p. entries_against inner limit r s a n p (k + 1)) g
 
     pub maps-unlike : (q : Parts) → parts_of y ≡ q → entries_against inner limit r s a n q (k + 1) ≡ Pairs.Unlike (k + 1) → Pairs.Unlike (k + 1) ≡ equal_in d limit r x y k
     maps-unlike q g w = sym (maps q g ∙ w)
 
-    pub maps-uneven : (t : CellSpace) (b m : ℕ) → parts_of y ≡ Parts.Entries t b m → (n ≡ m → ⊥) → Pairs.Unlike (k + 1) ≡ equal_in d limit r x y k
-    maps-uneven t b m g w = maps-unlike (Parts.Entries t b m) g (rw (ne_eqb n m w) refl)
+    pub maps-uneven : (t : CellSpace) (b m : ℕ) → parts_of y ≡ Parts.Entries (row t b m) → (n ≡ m → ⊥) → Pairs.Unlike (k + 1) ≡ equal_in d limit r x y k
+    maps-uneven t b m g w = maps-unlike (Parts.Entries (row t b m)) g (rw (ne_eqb n m w) refl)
 
-    pub maps-even : (t : CellSpace) (b m : ℕ) (p : Pairs) → parts_of y ≡ Parts.Entries t b m → n ≡ m → p ≡ entries_equal inner limit r s a t b n n (k + 1) → p ≡ equal_in d limit r x y k
-    maps-even t b m p g w z = z ∙ ap (λ i. entries_equal inner limit r s a t b i n (k + 1)) w ∙ sym (maps (Parts.Entries t b m) g ∙ rw (eq-eqb n m w) refl)
+    pub maps-even : (t : CellSpace) (b m : ℕ) (p : Pairs) → parts_of y ≡ Parts.Entries (row t b m) → n ≡ m → p ≡ entries_equal inner limit r s a t b n n (k + 1) → p ≡ equal_in d limit r x y k
+    maps-even t b m p g w z = z ∙ ap (λ i. entries_equal inner limit r s a t b i n (k + 1)) w ∙ sym (maps (Parts.Entries (row t b m)) g ∙ rw (eq-eqb n m w) refl)
 
   -- two present Optionals
   module _ (h : d ≡ 0 → ⊥) (l : k < limit) (s : CellSpace) (a : ℕ) (e : parts_of x ≡ Parts.Present s a) where

@@ -1,26 +1,26 @@
 -- Equality of scalars, as the code decides it, is the definition's. Assumes nothing.
 use Prim.Native.Nat.{ℕ}
 use mathlib.Core.Path.{◌≡◌, refl, sym, ap}
-use mathlib.Core.Bool.{Bool, true, false, not, cond}
+use mathlib.Core.Bool.{Bool, true, false, beq}
 use mathlib.Core.List.{List}
 use native.Mathlib.Omega.{arith}
 use lib.Dec.{eqb}
-use Rattle.numbers.specs.declared.order.Order.{Order}
+use Rattle.std.specs.Prelude.{Option, None, Some}
+use Rattle.std.specs.declared.cmp.Ordering.{Ordering}
 use Rattle.numbers.specs.declared.order.Number.{Number}
 use Rattle.numbers.specs.Order.{order_of, is_equal, number_point}
 use Rattle.numbers_laws.proofs.WholeLaws.{int-uint-equal, uint-less, uint-greater}
-use Rattle.text.specs.declared.bytes.TextOrder.TheVariants as TextOrder
 use Rattle.text.specs.Bytes as Bytes
 use Rattle.meaning.specs.Value.{Scalar, null, bool, string, bytes}
-use Rattle.meaning.specs.Comparison.{rank, text_order, then_text, rank_order, same_class, scalar_equal}
+use Rattle.meaning.specs.Comparison.{rank, then_text, rank_order, same_class, scalar_equal}
 use Rattle.rooms_comparison.specs.Seen.{number_scalar}
 
-pub then_equal : (o : Order) → then_text o TextOrder.Equal ≡ o
-unfolding then_text text_order
-then_equal Order.Less = refl
-then_equal Order.Equal = refl
-then_equal Order.Greater = refl
-then_equal Order.Unordered = refl
+pub then_equal : (o : Option Ordering) → then_text o Ordering.Equal ≡ o
+unfolding then_text
+then_equal None = refl
+then_equal (Some Ordering.Less) = refl
+then_equal (Some Ordering.Equal) = refl
+then_equal (Some Ordering.Greater) = refl
 
 pub number_same : (x y : Number) → is_equal (order_of (number_point x) (number_point y)) ≡ scalar_equal (number_scalar x) (number_scalar y)
 unfolding scalar_equal same_class rank_order rank Bytes.order_of
@@ -52,20 +52,20 @@ pub apart-number : (x : Scalar) (y : Number) → eqb (rank x).class 2 ≡ false 
 apart-number x y e = apart x (number_scalar y) (rw (number-class y) e)
 
 pub null-same : true ≡ scalar_equal null null
-unfolding scalar_equal same_class rank_order rank Bytes.order_of then_text text_order
+unfolding scalar_equal same_class rank_order rank Bytes.order_of then_text
 null-same = rw (int-uint-equal 0) refl
 
-pub bool_same : (x y : Bool) → cond x y (not y) ≡ scalar_equal (bool x) (bool y)
-unfolding scalar_equal same_class rank_order rank Bytes.order_of then_text text_order
+pub bool_same : (x y : Bool) → beq x y ≡ scalar_equal (bool x) (bool y)
+unfolding scalar_equal same_class rank_order rank Bytes.order_of then_text
 bool_same true true = rw (int-uint-equal 1) refl
 bool_same true false = rw (uint-greater 1 0 (omega arith)) refl
 bool_same false true = rw (uint-less 0 1 (omega arith)) refl
 bool_same false false = rw (int-uint-equal 0) refl
 
-pub string-same : (s t : List ℕ) → is_equal (text_order (Bytes.order_of s t)) ≡ scalar_equal (string s) (string t)
+pub string-same : (s t : List ℕ) → is_equal (Some (Bytes.order_of s t)) ≡ scalar_equal (string s) (string t)
 unfolding scalar_equal same_class rank_order rank then_text
 string-same s t = rw (int-uint-equal 0) refl
 
-pub bytes_same : (s t : List ℕ) → is_equal (text_order (Bytes.order_of s t)) ≡ scalar_equal (bytes s) (bytes t)
+pub bytes_same : (s t : List ℕ) → is_equal (Some (Bytes.order_of s t)) ≡ scalar_equal (bytes s) (bytes t)
 unfolding scalar_equal same_class rank_order rank then_text
 bytes_same s t = rw (int-uint-equal 0) refl

@@ -50,27 +50,27 @@ entries_equal f limit r s a t b m (suc n) k =
     (λ c j. and_then (f (cell_at r s (suc a)) (cell_at r t c) j) (λ i. entries_equal f limit r s (suc (suc a)) t b m n i))
 
 abbrev pub elements_against : Compare → Rooms → CellSpace → ℕ → ℕ → Parts → ℕ → Pairs
-elements_against f r s a n (Parts.Elements t b m) k = cond (eqb n m) (elements_equal f r s a t b n k) (Pairs.Unlike k)
-elements_against f r s a n (Parts.Entries t b m) k = Pairs.Unlike k
+elements_against f r s a n (Parts.Elements ro) k = cond (eqb n ro.length) (elements_equal f r s a ro.space ro.first n k) (Pairs.Unlike k)
+elements_against f r s a n (Parts.Entries ro) k = Pairs.Unlike k
 elements_against f r s a n (Parts.Present t b) k = Pairs.Unlike k
 elements_against f r s a n Parts.Nothing k = Pairs.Unlike k
 
 abbrev pub entries_against : Compare → ℕ → Rooms → CellSpace → ℕ → ℕ → Parts → ℕ → Pairs
-entries_against f limit r s a n (Parts.Elements t b m) k = Pairs.Unlike k
-entries_against f limit r s a n (Parts.Entries t b m) k = cond (eqb n m) (entries_equal f limit r s a t b m n k) (Pairs.Unlike k)
+entries_against f limit r s a n (Parts.Elements ro) k = Pairs.Unlike k
+entries_against f limit r s a n (Parts.Entries ro) k = cond (eqb n ro.length) (entries_equal f limit r s a ro.space ro.first ro.length n k) (Pairs.Unlike k)
 entries_against f limit r s a n (Parts.Present t b) k = Pairs.Unlike k
 entries_against f limit r s a n Parts.Nothing k = Pairs.Unlike k
 
 abbrev pub present_against : Compare → Rooms → CellSpace → ℕ → Parts → ℕ → Pairs
-present_against f r s a (Parts.Elements t b m) k = Pairs.Unlike k
-present_against f r s a (Parts.Entries t b m) k = Pairs.Unlike k
+present_against f r s a (Parts.Elements ro) k = Pairs.Unlike k
+present_against f r s a (Parts.Entries ro) k = Pairs.Unlike k
 present_against f r s a (Parts.Present t b) k = f (cell_at r s a) (cell_at r t b) k
 present_against f r s a Parts.Nothing k = Pairs.Unlike k
 
 -- by what the left value is made of
 abbrev pub parts_equal : Compare → ℕ → Rooms → Value → Value → Parts → ℕ → Pairs
-parts_equal f limit r x y (Parts.Elements s a n) k = elements_against f r s a n (parts_of y) k
-parts_equal f limit r x y (Parts.Entries s a n) k = entries_against f limit r s a n (parts_of y) k
+parts_equal f limit r x y (Parts.Elements ro) k = elements_against f r ro.space ro.first ro.length (parts_of y) k
+parts_equal f limit r x y (Parts.Entries ro) k = entries_against f limit r ro.space ro.first ro.length (parts_of y) k
 parts_equal f limit r x y (Parts.Present s a) k = present_against f r s a (parts_of y) k
 parts_equal f limit r x y Parts.Nothing k = decided (same_seen (seen_in r x) (seen_in r y)) k
 

@@ -1,6 +1,5 @@
 -- What the look-up of a key in rooms must answer, by what the definition's look-up finds.
-use Rattle.std.specs.Prelude.{ℕ, ◌≡◌}
-use Rattle.std.proofs.Math.Option.{Option, none, some}
+use Rattle.std.specs.Prelude.{ℕ, ◌≡◌, Option, None, Some}
 use Rattle.meaning.specs.Value as Meaning
 use Rattle.meaning.specs.Comparison.{Tally}
 use Rattle.rooms.specs.declared.value.CellSpace.{CellSpace}
@@ -11,8 +10,8 @@ use Rattle.rooms_comparison.specs.Equality.{pays_found}
 
 -- what a look-up that ends answers: no entry, or the cell where the value of the entry found lies
 abbrev pub FoundIs : Alive → Rooms → CellSpace → Option Meaning.Value → (ℕ → Found) → Type 0
-FoundIs L r space none f = f ≡ (λ j. Found.Missing j)
-FoundIs L r space (some v) f = (c : ℕ) × (f ≡ (λ j. Found.At c j)) × L.cells space c × Stands v L r (cell_at r space c)
+FoundIs L r space None f = f ≡ (λ j. Found.Missing j)
+FoundIs L r space (Some v) f = (c : ℕ) × (f ≡ (λ j. Found.At c j)) × L.cells space c × Stands v L r (cell_at r space c)
 
 -- the answer of a look-up that begins at count k, where the definition finds t .1 after t.0 pairs
 abbrev pub Finds : Alive → Rooms → CellSpace → (limit k : ℕ) → Tally (Option Meaning.Value) → Found → Type 0

@@ -25,10 +25,13 @@ abbrev pub seen_of : List ℕ → List ℕ → List ℕ → Plain → Seen
 seen_of l b t Plain.Null = seen_scalar null
 seen_of l b t (Plain.Bool x) = seen_scalar (bool x)
 seen_of l b t (Plain.Number n) = seen_scalar (number_scalar n)
-seen_of l b t (Plain.String s a n) = seen_scalar (string (part (text_of l b t s) a n))
-seen_of l b t (Plain.Bytes s a n) = seen_scalar (bytes (part (text_of l b t s) a n))
+seen_of l b t (Plain.String sp) = seen_scalar (string (part (text_of l b t sp.space) sp.first sp.length))
+seen_of l b t (Plain.Bytes sp) = seen_scalar (bytes (part (text_of l b t sp.space) sp.first sp.length))
 seen_of l b t Plain.OptionalNone = seen_none
 seen_of l b t Plain.Other = seen_other
+
+abbrev pub seen_plain : Rooms → Plain → Seen
+seen_plain r p = seen_of r.literal r.binding_text r.text p
 
 abbrev pub same_seen : Seen → Seen → Bool
 same_seen (seen_scalar x) (seen_scalar y) = scalar_equal x y

@@ -1,56 +1,38 @@
 // The order of two values of one kind, numbers being of one kind.
-ghost use Rattle.std.specs.Prelude.{◌≡◌, List, ℕ};
+ghost use Rattle.std.specs.Prelude.{◌≡◌};
+ghost use Rattle.rooms.specs.Rooms.{Rooms};
 ghost use Rattle.meaning.specs.Value.{bool, string, bytes};
-ghost use Rattle.meaning.specs.Comparison.{text_order};
 ghost use Rattle.rooms.specs.Value.{plain_of};
-ghost use Rattle.rooms.specs.Rooms.{part, text_of};
-ghost use Rattle.rooms_comparison.specs.Seen.{seen_scalar, number_scalar, seen_of};
-ghost use Rattle.rooms_comparison.specs.Order.{bool_order, order_seen, compared_of};
+ghost use Rattle.rooms.specs.Memory.{rooms_seen, spanned};
+ghost use Rattle.rooms_comparison.specs.Seen.{seen_scalar, number_scalar, seen_plain};
+ghost use Rattle.rooms_comparison.specs.Order.{order_seen, compared_of};
 
-use numbers::order::{Number, Order};
-use rooms::value::{Plain, TextSpace, Value, plain_of};
+use numbers::order::Number;
+use rooms::memory::View;
+use rooms::value::{Plain, Span, Value, plain_of};
 use rooms_text::parts_compare;
-use text::bytes::TextOrder;
+use std::cmp::Ordering;
 
-// How two values stand, or that they have no order.
+// How two values of one kind stand, in no order where one of two numbers is NaN; or that they are of two kinds, or have no order.
+// (An Option in an Option would not say which of the two is none.)
 #[derive(Clone, Copy)]
 pub enum Compared {
-    Is(Order),
+    Is(Option<Ordering>),
     Unlike,
 }
 
-fn text_order(order: TextOrder) -> Order
-    ensures { result ≡ text_order order }
-{
-    match order {
-        TextOrder::Less => Order::Less,
-        TextOrder::Equal => Order::Equal,
-        TextOrder::Greater => Order::Greater,
-    }
-}
-
 // False comes before true.
-fn bool_order(left: bool, right: bool) -> Order
-    ensures { result ≡ bool_order left right }
-{
-    if left {
-        if right { Order::Equal } else { Order::Greater }
-    } else {
-        if right { Order::Less } else { Order::Equal }
-    }
-}
-
 fn compare_bool(left: bool, other: Plain) -> Compared
-    ensures { (l b t : List ℕ) → result ≡ compared_of (order_seen (seen_scalar (bool left)) (seen_of l b t other)) }
+    ensures { (r : Rooms) → result ≡ compared_of (order_seen (seen_scalar (bool left)) (seen_plain r other)) }
 {
     let Plain::Bool(right) = other else {
         return Compared::Unlike;
     };
-    Compared::Is(bool_order(left, right))
+    Compared::Is(Some(left.cmp(&right)))
 }
 
 fn compare_number(left: Number, other: Plain) -> Compared
-    ensures { (l b t : List ℕ) → result ≡ compared_of (order_seen (seen_scalar (number_scalar left)) (seen_of l b t other)) }
+    ensures { (r : Rooms) → result ≡ compared_of (order_seen (seen_scalar (number_scalar left)) (seen_plain r other)) }
 {
     let Plain::Number(right) = other else {
         return Compared::Unlike;
@@ -58,69 +40,27 @@ fn compare_number(left: Number, other: Plain) -> Compared
     Compared::Is(numbers_order::compare(left, right))
 }
 
-fn compare_string(
-    literal: &[u8],
-    binding_text: &[u8],
-    text: &[u8],
-    space: TextSpace,
-    first: u16,
-    length: u16,
-    other: Plain,
-) -> Compared
-    ensures { result ≡ compared_of (order_seen (seen_scalar (string (part (text_of literal.now binding_text.now text.now space) first length))) (seen_of literal.now binding_text.now text.now other)) }
+fn compare_string(view: &View, span: Span, other: Plain) -> Compared
+    ensures { result ≡ compared_of (order_seen (seen_scalar (string (spanned (rooms_seen view.now) span))) (seen_plain (rooms_seen view.now) other)) }
 {
-    let Plain::String(there, from, count) = other else {
+    let Plain::String(second) = other else {
         return Compared::Unlike;
     };
-    Compared::Is(text_order(parts_compare(
-        literal,
-        binding_text,
-        text,
-        space,
-        first,
-        length,
-        there,
-        from,
-        count,
-    )))
+    Compared::Is(Some(parts_compare(view, span, second)))
 }
 
-fn compare_bytes(
-    literal: &[u8],
-    binding_text: &[u8],
-    text: &[u8],
-    space: TextSpace,
-    first: u16,
-    length: u16,
-    other: Plain,
-) -> Compared
-    ensures { result ≡ compared_of (order_seen (seen_scalar (bytes (part (text_of literal.now binding_text.now text.now space) first length))) (seen_of literal.now binding_text.now text.now other)) }
+fn compare_bytes(view: &View, span: Span, other: Plain) -> Compared
+    ensures { result ≡ compared_of (order_seen (seen_scalar (bytes (spanned (rooms_seen view.now) span))) (seen_plain (rooms_seen view.now) other)) }
 {
-    let Plain::Bytes(there, from, count) = other else {
+    let Plain::Bytes(second) = other else {
         return Compared::Unlike;
     };
-    Compared::Is(text_order(parts_compare(
-        literal,
-        binding_text,
-        text,
-        space,
-        first,
-        length,
-        there,
-        from,
-        count,
-    )))
+    Compared::Is(Some(parts_compare(view, span, second)))
 }
 
 // The order of two values of one kind, numbers being of one kind.
-pub fn compare(
-    literal: &[u8],
-    binding_text: &[u8],
-    text: &[u8],
-    first: Value,
-    second: Value,
-) -> Compared
-    ensures { result ≡ compared_of (order_seen (seen_of literal.now binding_text.now text.now (plain_of first)) (seen_of literal.now binding_text.now text.now (plain_of second))) }
+pub fn compare(view: &View, first: Value, second: Value) -> Compared
+    ensures { result ≡ compared_of (order_seen (seen_plain (rooms_seen view.now) (plain_of first)) (seen_plain (rooms_seen view.now) (plain_of second))) }
 {
     let left = plain_of(first);
     let right = plain_of(second);
@@ -128,12 +68,8 @@ pub fn compare(
         Plain::Null => Compared::Unlike,
         Plain::Bool(value) => compare_bool(value, right),
         Plain::Number(number) => compare_number(number, right),
-        Plain::String(space, at, length) => {
-            compare_string(literal, binding_text, text, space, at, length, right)
-        }
-        Plain::Bytes(space, at, length) => {
-            compare_bytes(literal, binding_text, text, space, at, length, right)
-        }
+        Plain::String(span) => compare_string(view, span, right),
+        Plain::Bytes(span) => compare_bytes(view, span, right),
         Plain::OptionalNone => Compared::Unlike,
         Plain::Other => Compared::Unlike,
     }

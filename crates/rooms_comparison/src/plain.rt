@@ -1,47 +1,40 @@
 // Equality of two values without parts, by what is seen of them without looking into cells.
-ghost use Rattle.std.specs.Prelude.{◌≡◌, List, ℕ};
-ghost use Rattle.numbers.specs.Order.{is_equal};
+ghost use Rattle.std.specs.Prelude.{◌≡◌};
+ghost use Rattle.rooms.specs.Rooms.{Rooms};
 ghost use Rattle.meaning.specs.Value.{null, bool, string, bytes};
-ghost use Rattle.meaning.specs.Comparison.{text_order};
 ghost use Rattle.rooms.specs.Value.{plain_of};
-ghost use Rattle.rooms.specs.Rooms.{part, text_of};
-ghost use Rattle.rooms_comparison.specs.Seen.{seen_scalar, seen_none, number_scalar, seen_of, same_seen};
+ghost use Rattle.rooms.specs.Memory.{rooms_seen, spanned};
+ghost use Rattle.rooms_comparison.specs.Seen.{seen_scalar, seen_none, number_scalar, seen_plain, same_seen};
 
 use numbers::order::Number;
-use rooms::value::{Plain, TextSpace, Value, plain_of};
-use rooms_text::{parts_compare, parts_equal};
-use text::bytes::TextOrder;
+use rooms::memory::View;
+use rooms::value::{Plain, Span, Value, plain_of};
+use rooms_text::parts_equal;
 
 fn same_null(other: Plain) -> bool
-    ensures { (l b t : List ℕ) → result ≡ same_seen (seen_scalar null) (seen_of l b t other) }
+    ensures { (r : Rooms) → result ≡ same_seen (seen_scalar null) (seen_plain r other) }
 {
-    match other {
-        Plain::Null => true,
-        _ => false,
-    }
+    matches!(other, Plain::Null)
 }
 
 fn same_none(other: Plain) -> bool
-    ensures { (l b t : List ℕ) → result ≡ same_seen seen_none (seen_of l b t other) }
+    ensures { (r : Rooms) → result ≡ same_seen seen_none (seen_plain r other) }
 {
-    match other {
-        Plain::OptionalNone => true,
-        _ => false,
-    }
+    matches!(other, Plain::OptionalNone)
 }
 
 fn same_bool(left: bool, other: Plain) -> bool
-    ensures { (l b t : List ℕ) → result ≡ same_seen (seen_scalar (bool left)) (seen_of l b t other) }
+    ensures { (r : Rooms) → result ≡ same_seen (seen_scalar (bool left)) (seen_plain r other) }
 {
     let Plain::Bool(right) = other else {
         return false;
     };
-    if left { right } else { !right }
+    left == right
 }
 
 // Numbers of all kinds are equal where they are the same point of the exact line.
 fn same_number(left: Number, other: Plain) -> bool
-    ensures { (l b t : List ℕ) → result ≡ same_seen (seen_scalar (number_scalar left)) (seen_of l b t other) }
+    ensures { (r : Rooms) → result ≡ same_seen (seen_scalar (number_scalar left)) (seen_plain r other) }
 {
     let Plain::Number(right) = other else {
         return false;
@@ -49,79 +42,27 @@ fn same_number(left: Number, other: Plain) -> bool
     numbers_order::equal(left, right)
 }
 
-fn same_text(order: TextOrder) -> bool
-    ensures { result ≡ is_equal (text_order order) }
+fn same_string(view: &View, span: Span, other: Plain) -> bool
+    ensures { result ≡ same_seen (seen_scalar (string (spanned (rooms_seen view.now) span))) (seen_plain (rooms_seen view.now) other) }
 {
-    match order {
-        TextOrder::Less => false,
-        TextOrder::Equal => true,
-        TextOrder::Greater => false,
-    }
-}
-
-fn same_string(
-    literal: &[u8],
-    binding_text: &[u8],
-    text: &[u8],
-    space: TextSpace,
-    first: u16,
-    length: u16,
-    other: Plain,
-) -> bool
-    ensures { result ≡ same_seen (seen_scalar (string (part (text_of literal.now binding_text.now text.now space) first length))) (seen_of literal.now binding_text.now text.now other) }
-{
-    let Plain::String(there, from, count) = other else {
+    let Plain::String(second) = other else {
         return false;
     };
-    same_text(parts_compare(
-        literal,
-        binding_text,
-        text,
-        space,
-        first,
-        length,
-        there,
-        from,
-        count,
-    ))
+    parts_equal(view, span, second)
 }
 
-fn same_bytes(
-    literal: &[u8],
-    binding_text: &[u8],
-    text: &[u8],
-    space: TextSpace,
-    first: u16,
-    length: u16,
-    other: Plain,
-) -> bool
-    ensures { result ≡ same_seen (seen_scalar (bytes (part (text_of literal.now binding_text.now text.now space) first length))) (seen_of literal.now binding_text.now text.now other) }
+fn same_bytes(view: &View, span: Span, other: Plain) -> bool
+    ensures { result ≡ same_seen (seen_scalar (bytes (spanned (rooms_seen view.now) span))) (seen_plain (rooms_seen view.now) other) }
 {
-    let Plain::Bytes(there, from, count) = other else {
+    let Plain::Bytes(second) = other else {
         return false;
     };
-    same_text(parts_compare(
-        literal,
-        binding_text,
-        text,
-        space,
-        first,
-        length,
-        there,
-        from,
-        count,
-    ))
+    parts_equal(view, span, second)
 }
 
 // Whether two values without parts are equal, by the kind of the first.
-fn equal_by_kind(
-    literal: &[u8],
-    binding_text: &[u8],
-    text: &[u8],
-    first: Value,
-    second: Value,
-) -> bool
-    ensures { result ≡ same_seen (seen_of literal.now binding_text.now text.now (plain_of first)) (seen_of literal.now binding_text.now text.now (plain_of second)) }
+fn equal_by_kind(view: &View, first: Value, second: Value) -> bool
+    ensures { result ≡ same_seen (seen_plain (rooms_seen view.now) (plain_of first)) (seen_plain (rooms_seen view.now) (plain_of second)) }
 {
     let left = plain_of(first);
     let right = plain_of(second);
@@ -129,59 +70,33 @@ fn equal_by_kind(
         Plain::Null => same_null(right),
         Plain::Bool(value) => same_bool(value, right),
         Plain::Number(number) => same_number(number, right),
-        Plain::String(space, at, length) => {
-            same_string(literal, binding_text, text, space, at, length, right)
-        }
-        Plain::Bytes(space, at, length) => {
-            same_bytes(literal, binding_text, text, space, at, length, right)
-        }
+        Plain::String(span) => same_string(view, span, right),
+        Plain::Bytes(span) => same_bytes(view, span, right),
         Plain::OptionalNone => same_none(right),
         Plain::Other => false,
     }
 }
 
-// Whether two values without parts are equal. Two Strings, which most keys are, are asked for first: they need no order.
-pub fn key_equal(
-    literal: &[u8],
-    binding_text: &[u8],
-    text: &[u8],
-    first: Value,
-    second: Value,
-) -> bool
-    ensures { result ≡ same_seen (seen_of literal.now binding_text.now text.now (plain_of first)) (seen_of literal.now binding_text.now text.now (plain_of second)) }
+// Whether two values without parts are equal. Two Strings, which most keys are, are asked for first.
+pub fn key_equal(view: &View, first: Value, second: Value) -> bool
+    ensures { result ≡ same_seen (seen_plain (rooms_seen view.now) (plain_of first)) (seen_plain (rooms_seen view.now) (plain_of second)) }
 {
-    if let Value::String(space, at, length) = first {
-        if let Value::String(there, from, count) = second {
-            return parts_equal(
-                literal,
-                binding_text,
-                text,
-                space,
-                at,
-                length,
-                there,
-                from,
-                count,
-            );
+    if let Value::String(span) = first {
+        if let Value::String(other) = second {
+            return parts_equal(view, span, other);
         }
     }
-    equal_by_kind(literal, binding_text, text, first, second)
+    equal_by_kind(view, first, second)
 }
 
 // The same; two Ints are asked for first: they need no number line.
-pub fn plain_equal(
-    literal: &[u8],
-    binding_text: &[u8],
-    text: &[u8],
-    first: Value,
-    second: Value,
-) -> bool
-    ensures { result ≡ same_seen (seen_of literal.now binding_text.now text.now (plain_of first)) (seen_of literal.now binding_text.now text.now (plain_of second)) }
+pub fn plain_equal(view: &View, first: Value, second: Value) -> bool
+    ensures { result ≡ same_seen (seen_plain (rooms_seen view.now) (plain_of first)) (seen_plain (rooms_seen view.now) (plain_of second)) }
 {
     if let Value::Int(one) = first {
         if let Value::Int(other) = second {
             return one == other;
         }
     }
-    key_equal(literal, binding_text, text, first, second)
+    key_equal(view, first, second)
 }

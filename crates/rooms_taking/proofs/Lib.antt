@@ -6,3 +6,5 @@ pub mod Copied
 pub mod Pasted
 pub mod Zeroed
 pub mod OneSlice
+pub mod CopySteps
+pub mod Cleared

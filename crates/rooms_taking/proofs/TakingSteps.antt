@@ -5,13 +5,14 @@ use mathlib.Core.List.{List, [], ◌∷◌}
 use native.Mathlib.Omega.{arith}
 use native.Mathlib.Numerals.{add-one}
 use lib.ListN.{length, get_or, set}
-use borrow.Author.Tests.{le-leb, lt-leb}
+use borrow.Author.Tests.{le-leb, lt-leb, leb-true, leb-false}
 use Rattle.rooms.specs.declared.value.CellSpace.{CellSpace}
 use Rattle.rooms.specs.declared.value.TextSpace.{TextSpace}
-use Rattle.rooms_taking.specs.declared.Taken.TheVariants as Taken
 use Rattle.rooms.specs.Cells.{cell_in, written_in}
 use Rattle.rooms.specs.Rooms.{words_of, text_of}
 use Rattle.rooms_taking.specs.Taking.{cell_room, taken_of, zeroed, cells_taken, cells_cleared, bytes_cleared, copied, pasted}
+use Rattle.std.specs.Prelude.{Option, None, Some, leb, cond}
+use mathlib.Core.Bool.{Bool, true, false}
 
 one_more : (n : ℕ) → 0 < n → n ≡ suc (n - 1)
 one_more n h = omega arith
@@ -19,25 +20,34 @@ one_more n h = omega arith
 no_more : (n : ℕ) → n ≤ 0 → n ≡ 0
 no_more n h = omega arith
 
-pub zero-on : (w : List ℕ) (a n : ℕ) → 0 < n → zeroed (set w a 0) (a + 1) (n - 1) ≡ zeroed w a n
-unfolding zeroed
-zero-on w a n h = (λ i. zeroed (set w a 0) (add-one a i) (n - 1)) ∙ ap (λ m. zeroed w a m) (sym (one_more n h))
-
-pub zero-none : (w : List ℕ) (a n : ℕ) → n ≤ 0 → w ≡ zeroed w a n
-unfolding zeroed
-zero-none w a n h = ap (λ m. zeroed w a m) (sym (no_more n h))
-
-pub taken-over : (room used count : ℕ) → room < used → Taken.Full ≡ taken_of room used count
+pub taken-over : (room used count : ℕ) → room < used → None ≡ taken_of room used count
 unfolding taken_of
 taken-over room used count h = rw (lt-leb (used + count) room (omega arith)) refl
 
-pub taken-full : (room used count : ℕ) → used ≤ room → room - used < count → Taken.Full ≡ taken_of room used count
+pub taken-full : (room used count : ℕ) → used ≤ room → room - used < count → None ≡ taken_of room used count
 unfolding taken_of
 taken-full room used count h l = rw (lt-leb (used + count) room (omega arith)) refl
 
-pub taken-to : (room used count : ℕ) → used ≤ room → count ≤ room - used → Taken.To (used + count) ≡ taken_of room used count
+pub taken-to : (room used count : ℕ) → used ≤ room → count ≤ room - used → Some (used + count) ≡ taken_of room used count
 unfolding taken_of
 taken-to room used count h l = rw (le-leb (used + count) room (omega arith)) refl
+
+-- what was taken fits the room
+pub taken-in : (room used count t : ℕ) → taken_of room used count ≡ Some t → (t ≡ used + count) × (used + count ≤ room)
+unfolding taken_of
+taken-in room used count t e = go (leb (used + count) room) refl e
+  where
+    go : (b : Bool) → leb (used + count) room ≡ b → ◌≡◌ {A = Option ℕ} (cond b (Some (used + count)) None) (Some t) → (t ≡ used + count) × (used + count ≤ room)
+    go true l f = (cc, leb-true (used + count) room l)
+    go false l f = absurd (cc)
+
+pub taken-none : (room used count : ℕ) → taken_of room used count ≡ None → room < used + count
+unfolding taken_of
+taken-none room used count e = go (leb (used + count) room) refl e
+  where
+    go : (b : Bool) → leb (used + count) room ≡ b → ◌≡◌ {A = Option ℕ} (cond b (Some (used + count)) None) None → room < used + count
+    go true l f = absurd (cc)
+    go false l f = leb-false (used + count) room l
 
 pub cells-kept : (w : List ℕ) (used count : ℕ) → cell_room w < used + count → w ≡ cells_taken w used count
 unfolding cells_taken

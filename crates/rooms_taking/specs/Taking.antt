@@ -2,10 +2,10 @@
 use Rattle.std.specs.Prelude.{ℕ, zero, suc, ◌+◌, ◌*◌, ◌/◌, min, List, cond, leb, length, get_or, set}
 use Rattle.meaning.specs.Limits.{most_cells, most_bytes}
 use Rattle.rooms.specs.declared.value.CellSpace.{CellSpace}
-use Rattle.rooms_taking.specs.declared.Taken.{Taken}
 use Rattle.rooms.specs.Cells.{cell_in, written_in}
 use Rattle.rooms.specs.declared.value.TextSpace.{TextSpace}
 use Rattle.rooms.specs.Rooms.{words_of, text_of}
+use Rattle.std.specs.Prelude.{Option, None, Some}
 
 -- what is lent, up to the limits
 abbrev pub cell_room : List ℕ → ℕ
@@ -14,8 +14,8 @@ cell_room w = min (length w / 2) most_cells
 abbrev pub text_room : List ℕ → ℕ
 text_room t = min (length t) most_bytes
 
-unfoldable pub taken_of : (room used count : ℕ) → Taken
-taken_of room used count = cond (leb (used + count) room) (Taken.To (used + count)) Taken.Full
+unfoldable pub taken_of : (room used count : ℕ) → Option ℕ
+taken_of room used count = cond (leb (used + count) room) (Some (used + count)) None
 
 -- n of a list's elements from a on become 0
 unfoldable pub zeroed : List ℕ → (a n : ℕ) → List ℕ

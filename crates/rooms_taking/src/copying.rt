@@ -1,33 +1,23 @@
 // Parts of a value are copied to where room was taken for them.
 ghost use Rattle.std.specs.Prelude.{◌≡◌, cond, ◌<◌, ◌^◌, length, get_or, set};
 ghost use Rattle.rooms.specs.declared.value.TextSpace.TheVariants.{Literal};
-ghost use Rattle.rooms.specs.Rooms.{text_of};
+ghost use Rattle.rooms.specs.Rooms.{text_of, with_words, with_text};
+ghost use Rattle.rooms.specs.Memory.{Changes};
 ghost use Rattle.rooms_taking.specs.Taking.{copied, pasted};
 
-use rooms::value::{CellSpace, TextSpace};
-use rooms_cells::{cell_at, write_cell};
+use rooms::memory::Lent;
+use rooms::value::{Row, Span, TextSpace};
+use rooms_cells::{cell_at, store};
 
-// Cells of a space are copied, one after the other, to the evaluation's cells from `to` on.
-pub fn copy_cells(
-    binding_cells: &[u64],
-    cells: &mut [u64],
-    space: CellSpace,
-    first: u16,
-    length: u16,
-    to: usize,
-)
+// Cells of a row are copied, one after the other, to the evaluation's cells from `to` on.
+pub fn copy_cells(lent: &mut Lent, row: Row, to: usize)
     requires { to < 2 ^ 48 }
-    ensures { cells.new ≡ copied binding_cells.now space cells.old first to length }
+    ensures { Changes lent.old lent.new (λ r. with_words r (copied r.binding_cells row.space r.cells row.first to row.length)) }
 {
-    let mut at = first as usize;
-    let mut place = to;
-    let mut left = length as usize;
-    while 0 < left {
-        let value = cell_at(binding_cells, cells, space, at);
-        write_cell(cells, place, value);
-        at += 1;
-        place += 1;
-        left -= 1;
+    let from = row.first as usize;
+    for done in 0..row.length as usize {
+        let value = cell_at(&lent.view(), row.space, from + done);
+        store(lent, to + done, value);
     }
 }
 
@@ -68,20 +58,13 @@ fn copy_each(
 )
     ensures { text.new ≡ pasted literal.now binding_text.now space text.old first to length }
 {
-    let mut at = first as usize;
-    let mut place = to as usize;
-    let mut left = length as usize;
-    while 0 < left {
-        let byte = byte_at(literal, binding_text, text, space, at);
-        put_byte(text, place, byte);
-        at += 1;
-        place += 1;
-        left -= 1;
+    for done in 0..length as usize {
+        let byte = byte_at(literal, binding_text, text, space, first as usize + done);
+        put_byte(text, to as usize + done, byte);
     }
 }
 
-// Bytes of another slice are copied; all of them are there and have room. There is no test between two bytes, so the compiler copies many at
-// once.
+// Bytes of another slice are copied at once, if all of them are there and have room.
 fn copied_whole(from: &[u8], text: &mut [u8], first: u16, length: u16, to: u16) -> bool
     ensures { text.new ≡ cond result (pasted from.now from.now Literal text.old first to length)
         text.old }
@@ -95,11 +78,7 @@ fn copied_whole(from: &[u8], text: &mut [u8], first: u16, length: u16, to: u16) 
     if text.len() < place + count {
         return false;
     }
-    let mut done = 0;
-    while done < count {
-        text[place + done] = from[start + done];
-        done += 1;
-    }
+    text[place..place + count].copy_from_slice(&from[start..start + count]);
     true
 }
 
@@ -122,8 +101,8 @@ fn copied_at_once(
     }
 }
 
-// Bytes of a space are copied, one after the other, to the evaluation's text from `to` on.
-pub fn copy_text(
+// Bytes of a space are copied, one after the other, to a text from `to` on.
+pub fn paste(
     literal: &[u8],
     binding_text: &[u8],
     text: &mut [u8],
@@ -138,4 +117,20 @@ pub fn copy_text(
         return;
     }
     copy_each(literal, binding_text, text, space, first, length, to);
+}
+
+// The bytes of a span are copied, one after the other, to the evaluation's text from `to` on.
+pub fn copy_text(lent: &mut Lent, span: Span, to: u16)
+    ensures { Changes lent.old lent.new (λ r. with_text r (pasted r.literal r.binding_text span.space r.text span.first to span.length)) }
+{
+    let text = &mut *lent.text;
+    paste(
+        lent.literal,
+        lent.binding_text,
+        text,
+        span.space,
+        span.first,
+        span.length,
+        to,
+    );
 }

@@ -2,7 +2,8 @@
 use Prim.Native.Nat.{ℕ, zero, suc, ◌+◌, ◌≤◌, ◌<◌}
 use mathlib.Core.Path.{◌≡◌, refl, sym, ap, ◌∙◌, subst}
 use mathlib.Core.Bool.{Bool, true, false, cond}
-use mathlib.Core.Option.{Option, none, some, bind}
+use Rattle.std.specs.Prelude.{Option, None, Some}
+use Rattle.meaning.specs.Options.{bind}
 use native.Mathlib.Omega.{arith}
 use lib.Dec.{ltb}
 use lib.IntN.{pos, negsuc}
@@ -23,7 +24,6 @@ use Rattle.rooms.specs.Value.{double_value}
 use Rattle.rooms.specs.Rooms.{Rooms, cell_at}
 use Rattle.rooms.specs.Stands.{Alive, StandsScalar, Stands, StandsCells}
 use Rattle.rooms_text.specs.declared.sizes.Position.TheVariants as Position
-use Rattle.rooms_text.specs.declared.sizes.Size.TheVariants as Size
 use Rattle.rooms_text.specs.Sizes.{sized_rule, inside, position_of}
 use Rattle.rooms_text.specs.Indexed.{sized, IndexIs}
 
@@ -41,7 +41,7 @@ size_ok L r (scalar (bool b)) m h = ap (sized r) h
 size_ok L r (scalar (int z)) m h = ap (sized r) h
 size_ok L r (scalar (uint n)) m h = ap (sized r) h
 size_ok L r (scalar (double d)) m h = ap (sized r) h.1 ∙ double-unsized r h.0
-size_ok L r (scalar (string s)) m h = ap (sized r) h.2 ∙ ap (λ t. sized_rule (Size.Is (code_points t))) h.3.spells
+size_ok L r (scalar (string s)) m h = ap (sized r) h.2 ∙ ap (λ t. sized_rule (Some (code_points t))) h.3.spells
 size_ok L r (scalar (bytes s)) m h = ap (sized r) h.2
 size_ok L r (list vs) m h = ap (sized r) h.2
 size_ok L r (map es) m h = ap (sized r) h.2
@@ -50,24 +50,24 @@ size_ok L r (optional_of v) m h = ap (sized r) h.2
 
 -- ---- index
 
-nth_past : (vs : Meaning.Values) (k : ℕ) → count vs ≤ k → nth vs k ≡ none
+nth_past : (vs : Meaning.Values) (k : ℕ) → count vs ≤ k → nth vs k ≡ None
 unfolding nth count
 nth_past nil k h = refl
 nth_past (cons v vs) zero h = absurd (omega arith)
 nth_past (cons v vs) (suc k) h = nth_past vs k (omega arith)
 
-nth-there : (vs : Meaning.Values) (k : ℕ) → k < count vs → (v : Meaning.Value) × (nth vs k ≡ some v)
+nth-there : (vs : Meaning.Values) (k : ℕ) → k < count vs → (v : Meaning.Value) × (nth vs k ≡ Some v)
 unfolding nth count
 nth-there nil k h = absurd (omega arith)
 nth-there (cons v vs) zero h = (v, refl)
 nth-there (cons v vs) (suc k) h = nth-there vs k (omega arith)
 
 -- the element of a list at an index is what stands in the cell there
-pub nth-stands : (L : Alive) (r : Rooms) (vs : Meaning.Values) (space : CellSpace) (a i : ℕ) (v : Meaning.Value) → StandsCells vs L r space a → nth vs i ≡ some v → L.cells space (a + i) × Stands v L r (cell_at r space (a + i))
+pub nth-stands : (L : Alive) (r : Rooms) (vs : Meaning.Values) (space : CellSpace) (a i : ℕ) (v : Meaning.Value) → StandsCells vs L r space a → nth vs i ≡ Some v → L.cells space (a + i) × Stands v L r (cell_at r space (a + i))
 unfolding Stands nth
 nth-stands L r nil space a i v h e = absurd (no_none e)
   where
-    no_none : {w : Meaning.Value} → ◌≡◌ {A = Option Meaning.Value} none (some w) → ⊥
+    no_none : {w : Meaning.Value} → ◌≡◌ {A = Option Meaning.Value} None (Some w) → ⊥
     no_none q = let z : ◌≡◌ {A = ℕ} 0 1 = cc in omega arith
 nth-stands L r (cons w vs) space a zero v h e = subst (λ i. L.cells space i × Stands v L r (cell_at r space i)) (plus-zero a) (h.0, subst (λ u. Stands u L r (cell_at r space a)) same h.1)
   where
@@ -90,7 +90,7 @@ module _ (L : Alive) (r : Rooms) (vs : Meaning.Values) (s : CellSpace) (a : ℕ)
       go : (b : Bool) → ltb k (count vs) ≡ b → IndexIs L r s a (list vs) i (cond b (Position.At k) Position.Outside)
       go true t = (found.0, e ∙ ap (or_fail IndexOutOfBounds) found.1, lies.0, lies.1)
         where
-          found : (v : Meaning.Value) × (nth vs k ≡ some v)
+          found : (v : Meaning.Value) × (nth vs k ≡ Some v)
           found = nth-there vs k (ltb-true k (count vs) t)
 
           lies : L.cells s (a + k) × Stands found.0 L r (cell_at r s (a + k))

@@ -13,7 +13,7 @@ use Rattle.rooms_text.specs.Sizes.{size_of, sized_rule}
 
 -- what `sizes::size_in` answers, as a rule
 abbrev pub sized : Rooms → Value → Rule Meaning.Value
-sized r m = sized_rule (size_of r.literal r.binding_text r.text m)
+sized r m = sized_rule (size_of r m)
 
 -- what an index into a list that lies from cell a on must answer: the look-up's error, or the cell of its value
 abbrev pub IndexIs : Alive → Rooms → CellSpace → (a : ℕ) → (whole index : Meaning.Value) → Position → Type 0

@@ -1,36 +1,35 @@
--- The size of a value, and where an index falls in a list, as the code does it.
-use Rattle.std.specs.Prelude.{ℕ, List, cond, ltb, ℤ, pos, negsuc}
+-- The size of a value, and where an index falls in a list, where there is one.
+use Rattle.std.specs.Prelude.{ℕ, Option, None, Some, cond, ltb, ℤ, pos, negsuc}
 use Rattle.text.specs.Utf8.{code_points}
 use Rattle.meaning.specs.Errors.{NoOverload}
 use Rattle.meaning.specs.Run.{Rule, fail}
 use Rattle.meaning.specs.Value as Meaning
 use Rattle.meaning.specs.Calls.{counted}
 use Rattle.rooms.specs.declared.value.Value.{Value}
-use Rattle.rooms_text.specs.declared.sizes.Size.{Size}
 use Rattle.rooms_text.specs.declared.sizes.Position.{Position}
-use Rattle.rooms.specs.Rooms.{part, text_of}
+use Rattle.rooms.specs.Rooms.{Rooms, span_in}
 
 -- ---- size
 
-abbrev pub size_of : List ℕ → List ℕ → List ℕ → Value → Size
-size_of l b t Value.Null = Size.Unsized
-size_of l b t (Value.Bool x) = Size.Unsized
-size_of l b t (Value.Int z) = Size.Unsized
-size_of l b t (Value.Uint n) = Size.Unsized
-size_of l b t (Value.Double x) = Size.Unsized
-size_of l b t (Value.Nan x) = Size.Unsized
-size_of l b t (Value.String s a n) = Size.Is (code_points (part (text_of l b t s) a n))
-size_of l b t (Value.Bytes s a n) = Size.Is n
-size_of l b t (Value.List d s a n) = Size.Is n
-size_of l b t (Value.Map d s a n) = Size.Is n
-size_of l b t Value.OptionalNone = Size.Unsized
-size_of l b t (Value.OptionalOf d s a) = Size.Unsized
-size_of l b t Value.Absent = Size.Unsized
+abbrev pub size_of : Rooms → Value → Option ℕ
+size_of r Value.Null = None
+size_of r (Value.Bool x) = None
+size_of r (Value.Int z) = None
+size_of r (Value.Uint n) = None
+size_of r (Value.Double x) = None
+size_of r (Value.Nan x) = None
+size_of r (Value.String sp) = Some (code_points (span_in r sp.space sp.first sp.length))
+size_of r (Value.Bytes sp) = Some sp.length
+size_of r (Value.List d ro) = Some ro.length
+size_of r (Value.Map d ro) = Some ro.length
+size_of r Value.OptionalNone = None
+size_of r (Value.OptionalOf d s a) = None
+size_of r Value.Absent = None
 
 -- what the function `size` makes of it
-abbrev pub sized_rule : Size → Rule Meaning.Value
-sized_rule (Size.Is n) = counted n
-sized_rule Size.Unsized = fail NoOverload
+abbrev pub sized_rule : Option ℕ → Rule Meaning.Value
+sized_rule (Some n) = counted n
+sized_rule None = fail NoOverload
 
 -- ---- index
 
@@ -48,10 +47,10 @@ position_of (Value.Int z) n = inside_int z n
 position_of (Value.Uint i) n = inside i n
 position_of (Value.Double x) n = Position.Unsuited
 position_of (Value.Nan x) n = Position.Unsuited
-position_of (Value.String s a m) n = Position.Unsuited
-position_of (Value.Bytes s a m) n = Position.Unsuited
-position_of (Value.List d s a m) n = Position.Unsuited
-position_of (Value.Map d s a m) n = Position.Unsuited
+position_of (Value.String sp) n = Position.Unsuited
+position_of (Value.Bytes sp) n = Position.Unsuited
+position_of (Value.List d ro) n = Position.Unsuited
+position_of (Value.Map d ro) n = Position.Unsuited
 position_of Value.OptionalNone n = Position.Unsuited
 position_of (Value.OptionalOf d s a) n = Position.Unsuited
 position_of Value.Absent n = Position.Unsuited

@@ -1,30 +1,23 @@
 // The size of a value, and where an index falls in a list.
 ghost use Rattle.std.specs.Prelude.{◌≡◌};
+ghost use Rattle.rooms.specs.Memory.{rooms_seen};
 ghost use Rattle.rooms_text.specs.Sizes.{size_of, position_of, inside};
 
 use crate::part_points;
+use rooms::memory::View;
 use rooms::value::Value;
 
-// How much a value holds, or that it has no size.
-#[derive(Clone, Copy)]
-pub enum Size {
-    Is(u16),
-    Unsized,
-}
-
-// The code points of a String, which are no more than its bytes, the bytes of Bytes, the elements of a List, the entries of a Map.
-pub fn size_in(literal: &[u8], binding_text: &[u8], text: &[u8], value: Value) -> Size
-    ensures { result ≡ size_of literal.now binding_text.now text.now value }
+// How much a value holds, if it has a size: the code points of a String, which are no more than its bytes, the bytes of Bytes, the elements of a
+// List, the entries of a Map.
+pub fn size_in(view: &View, value: Value) -> Option<u16>
+    ensures { result ≡ size_of (rooms_seen view.now) value }
 {
     match value {
-        Value::String(space, first, length) => {
-            let points = part_points(literal, binding_text, text, space, first, length);
-            Size::Is(points as u16)
-        }
-        Value::Bytes(_, _, length) => Size::Is(length),
-        Value::List(_, _, _, length) => Size::Is(length),
-        Value::Map(_, _, _, length) => Size::Is(length),
-        _ => Size::Unsized,
+        Value::String(span) => Some(part_points(view, span) as u16),
+        Value::Bytes(span) => Some(span.length),
+        Value::List(_, row) => Some(row.length),
+        Value::Map(_, row) => Some(row.length),
+        _ => None,
     }
 }
 

@@ -7,11 +7,12 @@ use native.Mathlib.Omega.{arith}
 use lib.Dec.{eqb, leb}
 use lib.ListN.{length}
 use borrow.Author.Tests.{eq-eqb, eqb-true}
-use Rattle.meaning.specs.Errors.{Refusal, TableLength, BytesAfterRoot}
+use Rattle.meaning.specs.declared.refusal.Reason.{Reason}
+use Rattle.meaning.specs.declared.refusal.Reason.TheVariants.{TableLength, BytesAfterRoot}
 use Rattle.meaning.specs.Expr.{Expr}
 use Rattle.meaning.specs.Heads.{Got, got, refused, ◌>>=◌, ◌>>◌, demand, start}
 use Rattle.meaning.specs.Table.{expr_at, root_at, read_table, word_bytes}
-use Rattle.table_check.specs.declared.Checked.TheVariants.{Accepted}
+use Rattle.std.specs.Prelude.{Ok}
 use Rattle.table_check.specs.Reading.{ends, read_of}
 use Rattle.table_layout.specs.Layout.{after}
 use Rattle.table_check.specs.Records.{expr_of, Sound}
@@ -19,18 +20,18 @@ use Rattle.table_check.specs.Opened.{AcceptedTable}
 use Rattle.table_check.specs.Check.{verdict, check_of}
 use Rattle.table_check.proofs.AcceptedRecordLaws.{expr-is, ended}
 
-met : (b : Bool) (r : Refusal) (p : ℕ) (g : Got Expr) → verdict (◌>>◌ (demand b r p) g) ≡ Accepted → (b ≡ true) × (verdict g ≡ Accepted)
+met : (b : Bool) (r : Reason) (p : ℕ) (g : Got Expr) → verdict (◌>>◌ (demand b r p) g) ≡ Ok tt → (b ≡ true) × (verdict g ≡ Ok tt)
 unfolding ◌>>◌ ◌>>=◌ demand
 met true r p g e = (refl, e)
 met false r p g e = let z : ◌≡◌ {A = ℕ} 0 1 = cc in absurd (omega arith)
 
-root-got : (end : ℕ) (g : Got (Expr × ℕ)) → verdict (◌>>=◌ g (λ a. ◌>>◌ (demand (eqb a.1 end) BytesAfterRoot a.1) (got a.0))) ≡ Accepted →
+root-got : (end : ℕ) (g : Got (Expr × ℕ)) → verdict (◌>>=◌ g (λ a. ◌>>◌ (demand (eqb a.1 end) BytesAfterRoot a.1) (got a.0))) ≡ Ok tt →
     (e : Expr) × (g ≡ got (e, end))
 unfolding ◌>>=◌
 root-got end (got a) e = let f = eqb-true a.1 end (met (eqb a.1 end) BytesAfterRoot a.1 (got a.0) e).0 in (a.0, ap (λ n. got (a.0, n)) f)
 root-got end (refused r p) e = let z : ◌≡◌ {A = ℕ} 0 1 = cc in absurd (omega arith)
 
-met-got : (b : Bool) (r : Refusal) (p : ℕ) {g h : Got Expr} → b ≡ true → g ≡ h → ◌>>◌ (demand b r p) g ≡ h
+met-got : (b : Bool) (r : Reason) (p : ℕ) {g h : Got Expr} → b ≡ true → g ≡ h → ◌>>◌ (demand b r p) g ≡ h
 unfolding ◌>>◌ ◌>>=◌ demand
 met-got b r p e f = rw (e, f)
 
@@ -39,11 +40,11 @@ root-gives : (end : ℕ) {g : Got (Expr × ℕ)} {e : Expr} → g ≡ got (e, en
 unfolding ◌>>◌ ◌>>=◌ demand
 root-gives end f = rw (f, eq-eqb end end refl)
 
-module _ (t x : List ℕ) (a : check_of t x ≡ Accepted) where
+module _ (t x : List ℕ) (a : check_of t x ≡ Ok tt) where
   long : Bool
   long = leb 1 (length t) && leb (length t) 16384
 
-  lengths : (long ≡ true) × (verdict (root_at word_bytes t x start) ≡ Accepted)
+  lengths : (long ≡ true) × (verdict (root_at word_bytes t x start) ≡ Ok tt)
   unfolding check_of read_table long
   lengths = met long TableLength start (root_at word_bytes t x start) a
 

@@ -7,17 +7,19 @@ use native.Mathlib.Omega.{arith}
 use lib.Dec.{eqb}
 use lib.ListN.{length, get_or}
 use borrow.Author.Tests.{eqb-true}
+use Rattle.meaning.specs.Errors.{refusal_at}
+use Rattle.meaning.specs.declared.refusal.Refusal.{Refusal}
+use Rattle.meaning.specs.declared.refusal.Reason.TheVariants.{WrongExtent, WrongField, MisplacedMark}
 use Rattle.meaning.specs.Expr.{Expr}
 use Rattle.meaning.specs.Heads.{Got, got, refused}
 use Rattle.meaning.specs.Table.{Part, expr_at, part_at, word_bytes}
-use Rattle.table_check.specs.declared.records.Read.{Read}
-use Rattle.table_check.specs.declared.records.Read.TheVariants.{Ends, Refused}
+use Rattle.std.specs.Prelude.{Ok, Err}
 use Rattle.table_check.specs.declared.faults.Marks.{Marks}
 use Rattle.table_layout.specs.Layout.{row_of, after}
 use Rattle.table_check.specs.Shapes.{numbers_of}
 use Rattle.table_check.specs.Faults.{marks_of, may_mark, misplaced_of}
 use Rattle.table_check.specs.Fits.{fields_fit}
-use Rattle.table_check.specs.Reading.{ends, read_of, onward, closed, operands_of}
+use Rattle.table_check.specs.Reading.{Read, ends, read_of, onward, closed, operands_of}
 use Rattle.table_check.specs.Records.{expr_in, part_in, expr_of, part_of, Sound, SoundPart, Operand, Row}
 use Rattle.table_check.proofs.HeadLaws.{Here, HeadView, good, bad, head-view, head_here, count_here}
 use Rattle.table_check.proofs.RecordLaws.{refused-there, no-level, here-step}
@@ -25,33 +27,33 @@ use Rattle.table_check.proofs.LevelLaws.{expr-deeper, part-deeper}
 
 -- ---- what ended, ended somewhere
 
-got_of : {A : Type 0} (g : Got (A × ℕ)) {q : ℕ} → ends g ≡ Ends q → (a : A) × (g ≡ got (a, q))
+got_of : {A : Type 0} (g : Got (A × ℕ)) {q : ℕ} → ends g ≡ Ok q → (a : A) × (g ≡ got (a, q))
 got_of (got a) {q} e = let f : a.1 ≡ q = cc in (a.0, ap (λ n. got (a.0, n)) f)
 got_of (refused r p) e = let z : ◌≡◌ {A = ℕ} 0 1 = cc in absurd (omega arith)
 
-onward-ended : (o : Read) (k : ℕ → Read) {q : ℕ} → onward o k ≡ Ends q → (r : ℕ) × (o ≡ Ends r) × (k r ≡ Ends q)
-onward-ended (Ends r) k e = (r, refl, e)
-onward-ended (Refused n p) k e = let z : ◌≡◌ {A = ℕ} 0 1 = cc in absurd (omega arith)
+onward-ended : (o : Read) (k : ℕ → Read) {q : ℕ} → onward o k ≡ Ok q → (r : ℕ) × (o ≡ Ok r) × (k r ≡ Ok q)
+onward-ended (Ok r) k e = (r, refl, e)
+onward-ended (Err f) k e = let z : ◌≡◌ {A = ℕ} 0 1 = cc in absurd (omega arith)
 
-no_end : {A : Type 0} {n p q : ℕ} → Refused n p ≡ Ends q → A
+no_end : {A : Type 0} {f : Refusal} {q : ℕ} → ◌≡◌ {A = Read} (Err f) (Ok q) → A
 no_end e = let z : ◌≡◌ {A = ℕ} 0 1 = cc in absurd (omega arith)
 
-pub cond-ended : (b : Bool) (o : Read) (n p : ℕ) {q : ℕ} → cond b o (Refused n p) ≡ Ends q → (b ≡ true) × (o ≡ Ends q)
-cond-ended true o n p e = (refl, e)
-cond-ended false o n p e = no_end e
+pub cond-ended : (b : Bool) (o : Read) (f : Refusal) {q : ℕ} → cond b o (Err f) ≡ Ok q → (b ≡ true) × (o ≡ Ok q)
+cond-ended true o f e = (refl, e)
+cond-ended false o f e = no_end e
 
-cond-went : (b : Bool) (o : Read) (n p : ℕ) {q : ℕ} → cond b (Refused n p) o ≡ Ends q → (b ≡ false) × (o ≡ Ends q)
-cond-went true o n p e = no_end e
-cond-went false o n p e = (refl, e)
+cond-went : (b : Bool) (o : Read) (f : Refusal) {q : ℕ} → cond b (Err f) o ≡ Ok q → (b ≡ false) × (o ≡ Ok q)
+cond-went true o f e = no_end e
+cond-went false o f e = (refl, e)
 
-closed-ended : (p end q : ℕ) {r : ℕ} → closed p end q ≡ Ends r → (q ≡ end) × (r ≡ end)
+closed-ended : (p end q : ℕ) {r : ℕ} → closed p end q ≡ Ok r → (q ≡ end) × (r ≡ end)
 closed-ended p end q {r} e =
-    let f = cond-ended (eqb q end) (Ends q) 3 p e in
+    let f = cond-ended (eqb q end) (Ok q) (refusal_at WrongExtent p) e in
     let g = eqb-true q end f.0 in
     let h = f.1 in
     (g, cc)
 
-operands-ended : (read : Bool → ℕ → ℕ → Read) (p : ℕ) (marks : Marks) (end n q : ℕ) {r : ℕ} → operands_of read p marks end n q ≡ Ends r → r ≡ end
+operands-ended : (read : Bool → ℕ → ℕ → Read) (p : ℕ) (marks : Marks) (end n q : ℕ) {r : ℕ} → operands_of read p marks end n q ≡ Ok r → r ≡ end
 unfolding operands_of
 operands-ended read p marks end zero q e = (closed-ended p end q e).1
 operands-ended read p marks end (suc n) q e =
@@ -62,19 +64,19 @@ operands-ended read p marks end (suc n) q e =
 
 module _ (t x : List ℕ) where
   -- the record is there, and its end is what its extent says
-  ended_by : (p end left : ℕ) (marked : Bool) → HeadView t p end → {q : ℕ} → read_of t x left marked p end ≡ Ends q → Here t p end × (q ≡ after t p)
+  ended_by : (p end left : ℕ) (marked : Bool) → HeadView t p end → {q : ℕ} → read_of t x left marked p end ≡ Ok q → Here t p end × (q ≡ after t p)
   ended_by p end zero marked (good h) e = no_end (no-level t x p end marked h ∙ e)
   ended_by p end (suc left) marked (good h) e =
       let f = sym (here-step t x p end left marked h) ∙ e in
-      let g = cond-ended (fields_fit x (row_of (get_or t p 0)).kind (numbers_of t p (get_or t p 0))) _ 5 p f in
-      let i = cond-went (misplaced_of (row_of (get_or t p 0)).kind marked) _ 6 p g.1 in (
+      let g = cond-ended (fields_fit x (row_of (get_or t p 0)).kind (numbers_of t p (get_or t p 0))) _ (refusal_at WrongField p) f in
+      let i = cond-went (misplaced_of (row_of (get_or t p 0)).kind marked) _ (refusal_at MisplacedMark p) g.1 in (
         h,
         operands-ended (λ m q e. read_of t x left m q e) p (marks_of (row_of (get_or t p 0)).kind) (after t p) (count_here t p) (head_here t p).operands_at
             i.1,
       )
   ended_by p end left marked (bad r f) e = no_end (refused-there t x p end r f left marked ∙ e)
 
-  pub ended : (p end left : ℕ) (marked : Bool) {q : ℕ} → read_of t x left marked p end ≡ Ends q → Here t p end × (q ≡ after t p)
+  pub ended : (p end left : ℕ) (marked : Bool) {q : ℕ} → read_of t x left marked p end ≡ Ok q → Here t p end × (q ≡ after t p)
   ended p end left marked e = ended_by p end left marked (head-view t p end) e
 
   -- ---- operands, as their record reads them
@@ -95,7 +97,7 @@ module _ (t x : List ℕ) where
   unfolding part_of part_in
   part-is q f = rw f
 
-  low : (end : ℕ) (marked : Bool) (q : ℕ) {r : ℕ} → end ≤ length t → read_of t x 63 marked q end ≡ Ends r → Low end marked q × (r ≡ after t q)
+  low : (end : ℕ) (marked : Bool) (q : ℕ) {r : ℕ} → end ≤ length t → read_of t x 63 marked q end ≡ Ok r → Low end marked q × (r ≡ after t q)
   unfolding read_of
   low end true q {r} le e =
       let f = got_of (part_at word_bytes t x 63 q end) e in
@@ -108,7 +110,7 @@ module _ (t x : List ℕ) where
       let h = (ended q end 63 false e).1 in
       (f.1 ∙ (cc), h)
 
-  pub low-row : (p : ℕ) (marks : Marks) (end n q : ℕ) {r : ℕ} → end ≤ length t → operands_of (λ m q e. read_of t x 63 m q e) p marks end n q ≡ Ends r →
+  pub low-row : (p : ℕ) (marks : Marks) (end n q : ℕ) {r : ℕ} → end ≤ length t → operands_of (λ m q e. read_of t x 63 m q e) p marks end n q ≡ Ok r →
       LowRow marks end n q
   unfolding operands_of
   low-row p marks end zero q le e = (closed-ended p end q e).0

@@ -1,5 +1,5 @@
 -- Heads of records: words and bytes, and a law for each way through a head. Assumes nothing.
-use mathlib.Core.Path.{◌≡◌, refl, ap, sym}
+use mathlib.Core.Path.{◌≡◌, refl, ap, sym, ◌∙◌}
 use mathlib.Core.Bool.{Bool, true, false, false≢true, ◌&&◌}
 use mathlib.Core.List.{List, [], ◌∷◌}
 use Prim.Native.Nat.{ℕ, ◌+◌, ◌<◌, ◌≤◌}
@@ -8,14 +8,20 @@ use native.Mathlib.Nat.{le_trans}
 use lib.Dec.{eqb, leb, ltb}
 use lib.ListN.{length, get_or}
 use borrow.Author.Tests.{le-leb, lt-leb, eqb-true, eqb-false, leb-true, ltb-true, ltb-false}
-use Rattle.meaning.specs.Errors.{Refusal, WrongExtent, UnknownKind, refusal_number}
+use Rattle.meaning.specs.Errors.{refusal_at}
+use Rattle.meaning.specs.declared.refusal.Refusal.{Refusal}
+use Rattle.meaning.specs.declared.refusal.Reason.{Reason}
+use Rattle.meaning.specs.declared.refusal.Reason.TheVariants.{WrongExtent, UnknownKind}
 use Rattle.meaning.specs.Kinds.{byte, word, mark_row, kinds}
 use Rattle.meaning.specs.Heads.{got, refused, ◌>>=◌, ◌>>◌, demand, or_refuse, first, fields_bytes, field_bytes, numbers_at, row_at, extent_fits, head_at}
 use Rattle.meaning.specs.Heads as heads
 use Rattle.meaning.specs.Table.{word_bytes}
-use Rattle.table_check.specs.declared.heads.Head.TheVariants.{Whole, Refused}
+use Rattle.std.specs.Prelude.{Ok, Err}
+use Rattle.table_layout.specs.Kinds.{byte_of, kind_of}
+use Rattle.table_check.specs.declared.heads.Head.{Head}
 use Rattle.table_layout.specs.Layout.{row_of, head_bytes, word_at}
 use Rattle.table_check.specs.Shapes.{numbers_of, count_of, fits_extent, head_of}
+use Rattle.table_layout.proofs.KindLaws.{byte-of-kind}
 use Rattle.table_check.proofs.KindLaws.{head-width, leaf-count, there, beyond}
 
 -- ---- heads
@@ -61,33 +67,33 @@ module _ (t : List ℕ) (p : ℕ) where
   unfolding head_at ◌>>=◌
   unknown-at end h k = rw (row-unknown h k)
 
-  pub head-none : (end : ℕ) → length t ≤ p → Refused 3 ≡ head_of t p end
+  pub head-none : (end : ℕ) → length t ≤ p → Err (refusal_at WrongExtent p) ≡ head_of t p end
   unfolding head_of
   head-none end h = rw (none-at end h)
 
-  pub head-unknown : (end : ℕ) → p < length t → 17 ≤ get_or t p 0 → Refused 2 ≡ head_of t p end
+  pub head-unknown : (end : ℕ) → p < length t → 17 ≤ get_or t p 0 → Err (refusal_at UnknownKind p) ≡ head_of t p end
   unfolding head_of
   head-unknown end h k = rw (unknown-at end h k)
 
 module _ (t : List ℕ) (p : ℕ) {end head : ℕ} (h : p < length t) (k : get_or t p 0 < 17) (a : head ≡ head_bytes (get_or t p 0)) where
-  pub head-short : end < p + head → Refused 3 ≡ head_of t p end
+  pub head-short : end < p + head → Err (refusal_at WrongExtent p) ≡ head_of t p end
   unfolding head_of demand ◌>>=◌ ◌>>◌
   head-short e = rw (head-known t p end h k, ← a, lt-leb _ _ e)
 
   module _ {extent : ℕ} (fits : p + head ≤ end) (b : extent ≡ word_at t (p + 1)) where
-    pub head-outside : end < p + extent → Refused 3 ≡ head_of t p end
+    pub head-outside : end < p + extent → Err (refusal_at WrongExtent p) ≡ head_of t p end
     unfolding head_of demand ◌>>=◌ ◌>>◌
     head-outside e = rw (head-known t p end h k, ← a, ← b, le-leb _ _ fits, lt-leb _ _ e)
 
     module _ {count : ℕ} (inside : p + extent ≤ end) (d : count ≡ count_here t p) where
-      pub head-unfit : fits_extent count head extent ≡ false → Refused 3 ≡ head_of t p end
+      pub head-unfit : fits_extent count head extent ≡ false → Err (refusal_at WrongExtent p) ≡ head_of t p end
       unfolding head_of demand ◌>>=◌ ◌>>◌
       head-unfit e = rw (head-known t p end h k, ← a, ← b, ← d, le-leb _ _ fits, le-leb _ _ inside, e)
 
-      pub head-whole : fits_extent count head extent ≡ true → Whole (get_or t p 0) count (p + head) (p + extent) ≡ head_of t p end
+      pub head-whole : fits_extent count head extent ≡ true → Ok (record { kind = kind_of (get_or t p 0); count = count; first = p + head; after = p + extent }) ≡ head_of t p end
       unfolding head_of demand ◌>>=◌ ◌>>◌
       head-whole e =
-          rw (head-known t p end h k, ← a, ← b, ← d, le-leb _ _ fits, le-leb _ _ inside, e) (ap (λ (n : ℕ). Whole (get_or t p 0) n (p + head) (p + extent)) d)
+          rw (head-known t p end h k, ← a, ← b, ← d, le-leb _ _ fits, le-leb _ _ inside, e) (ap (λ (n : ℕ). Ok (record { kind = kind_of (get_or t p 0); count = n; first = p + head; after = p + extent })) d)
 
 -- ---- what a head is
 
@@ -118,7 +124,7 @@ pub record Here (t : List ℕ) (p end : ℕ) : Type 0 where
 
 pub data HeadView (t : List ℕ) (p end : ℕ) : Type 0 where
   good : Here t p end → HeadView t p end
-  bad : (r : Refusal) → head_at word_bytes t p end ≡ refused r p → HeadView t p end
+  bad : (r : Reason) → head_at word_bytes t p end ≡ refused r p → HeadView t p end
 
 module _ (t : List ℕ) (p end : ℕ) where
   abbrev Fits : Bool
@@ -165,26 +171,30 @@ module _ (t : List ℕ) (p end : ℕ) where
       (λ l. bad WrongExtent (none-at t p end (ltb-false _ _ l)))
 
 -- what the code finds at p
-pub record Found (t : List ℕ) (p end k n a b : ℕ) : Type 0 where
+pub record Found (t : List ℕ) (p end : ℕ) (h : Head) : Type 0 where
   pub here : Here t p end
-  pub kind : k ≡ get_or t p 0
-  pub count : n ≡ count_here t p
-  pub first : a ≡ p + head_bytes (get_or t p 0)
-  pub after : b ≡ p + word_at t (p + 1)
+  pub kind : h.kind ≡ kind_of (get_or t p 0)
+  pub byte : byte_of h.kind ≡ get_or t p 0
+  pub count : h.count ≡ count_here t p
+  pub first : h.first ≡ p + head_bytes (get_or t p 0)
+  pub after : h.after ≡ p + word_at t (p + 1)
 
 module _ (t : List ℕ) (p end : ℕ) where
-  found-by : HeadView t p end → {k n a b : ℕ} → Whole k n a b ≡ head_of t p end → Found t p end k n a b
+  found-by : HeadView t p end → {h : Head} → Ok h ≡ head_of t p end → Found t p end h
   unfolding head_of
-  found-by (good h) w = let e = rw h.is at w in record { here = h; kind = cc; count = cc; first = cc; after = cc }
+  found-by (good g) {h} w =
+      let e = rw g.is at w in
+      let k : h.kind ≡ kind_of (get_or t p 0) = cc in
+      record { here = g; kind = k; byte = ap byte_of k ∙ byte-of-kind (get_or t p 0) g.known; count = cc; first = cc; after = cc }
   found-by (bad r f) w = let e = rw f at w in let z : ◌≡◌ {A = ℕ} 0 1 = cc in absurd (omega arith)
 
-  pub found : {k n a b : ℕ} → Whole k n a b ≡ head_of t p end → Found t p end k n a b
+  pub found : {h : Head} → Ok h ≡ head_of t p end → Found t p end h
   found w = found-by (head-view t p end) w
 
-  refused-by : HeadView t p end → {n : ℕ} → Refused n ≡ head_of t p end → (r : Refusal) × (n ≡ refusal_number r) × (head_at word_bytes t p end ≡ refused r p)
+  refused-by : HeadView t p end → {f : Refusal} → Err f ≡ head_of t p end → (r : Reason) × (f ≡ refusal_at r p) × (head_at word_bytes t p end ≡ refused r p)
   unfolding head_of
   refused-by (good h) w = let e = rw h.is at w in let z : ◌≡◌ {A = ℕ} 0 1 = cc in absurd (omega arith)
-  refused-by (bad r f) w = let e = rw f at w in (r, cc, f)
+  refused-by (bad r g) w = let e = rw g at w in (r, cc, g)
 
-  pub not_found : {n : ℕ} → Refused n ≡ head_of t p end → (r : Refusal) × (n ≡ refusal_number r) × (head_at word_bytes t p end ≡ refused r p)
+  pub not_found : {f : Refusal} → Err f ≡ head_of t p end → (r : Reason) × (f ≡ refusal_at r p) × (head_at word_bytes t p end ≡ refused r p)
   not_found w = refused-by (head-view t p end) w

@@ -1,17 +1,18 @@
 -- Laws over all kinds of records, by their bytes: heads and operands. Assumes nothing.
 use mathlib.Core.Path.{◌≡◌, refl, sym, ◌∙◌}
 use mathlib.Core.List.{List, [], ◌∷◌}
-use mathlib.Core.Option.{Option, none, some}
+use Rattle.std.specs.Prelude.{Option, None, Some}
 use Prim.Native.Nat.{ℕ, zero, suc, ◌*◌, ◌<◌, ◌≤◌}
 use native.Mathlib.Omega.{arith}
 use lib.Dec.{eqb}
-use lib.ListN.{length, get_or, get_elem?}
+use lib.ListN.{length, get_or}
+use Rattle.std.specs.Prelude.{slice_get}
 use borrow.Author.Tests.{ne_eqb}
 use Rattle.meaning.specs.Kinds.{byte, word, Called, to_one, to_none, to_two, numbered, functions, kinds, is_leaf, called_without}
 use Rattle.meaning.specs.Heads.{first, fields_bytes}
 use Rattle.meaning.specs.Table.{word_bytes}
 use Rattle.table_layout.specs.Layout.{row_of, head_bytes}
-use Rattle.table_check.specs.Shapes.{numbers_of, called_count, count_of}
+use Rattle.table_check.specs.Shapes.{called_count, count_of}
 use Rattle.table_layout.proofs.KindLaws.{every-kind}
 
 -- ---- heads
@@ -24,10 +25,10 @@ head-width k = refl
 
 none-called : (o : Option Called) → called_without o ≡ eqb (called_count o) 0
 unfolding called_without
-none-called none = refl
-none-called (some (to_one f)) = refl
-none-called (some to_none) = refl
-none-called (some to_two) = refl
+none-called None = refl
+none-called (Some (to_one f)) = refl
+none-called (Some to_none) = refl
+none-called (Some to_two) = refl
 
 no_pairs : (n : ℕ) → eqb n 0 ≡ eqb (2 * n) 0
 no_pairs zero = refl
@@ -40,38 +41,15 @@ leaf-count ns =
     every-kind (λ k. is_leaf (row_of k).operands (first ns) ≡ eqb (count_of (row_of k).kind ns) 0) refl refl refl refl refl refl refl refl refl refl refl refl
     refl (no_pairs (first ns)) refl refl (none-called (numbered functions (first ns)))
 
-pub no-operands : (t : List ℕ) (p k : ℕ) → k < 17 → (k ≡ 8 → ⊥) → (k ≡ 9 → ⊥) → (k ≡ 10 → ⊥) → (k ≡ 11 → ⊥) → (k ≡ 12 → ⊥) → (k ≡ 13 → ⊥) → (k ≡ 14 → ⊥) →
-    (k ≡ 15 → ⊥) → (k ≡ 16 → ⊥) → 0 ≡ count_of (row_of k).kind (numbers_of t p k)
-unfolding row_of kinds count_of
-no-operands t p =
-    every-kind
-    (λ k. (k ≡ 8 → ⊥) → (k ≡ 9 → ⊥) → (k ≡ 10 → ⊥) → (k ≡ 11 → ⊥) → (k ≡ 12 → ⊥) → (k ≡ 13 → ⊥) → (k ≡ 14 → ⊥) → (k ≡ 15 → ⊥) → (k ≡ 16 → ⊥) →
-    0 ≡ count_of (row_of k).kind (numbers_of t p k)) (λ a b c d e f g h i. refl) (λ a b c d e f g h i. refl) (λ a b c d e f g h i. refl)
-    (λ a b c d e f g h i. refl) (λ a b c d e f g h i. refl) (λ a b c d e f g h i. refl) (λ a b c d e f g h i. refl) (λ a b c d e f g h i. refl)
-    (λ a b c d e f g h i. absurd (a refl)) (λ a b c d e f g h i. absurd (b refl)) (λ a b c d e f g h i. absurd (c refl))
-    (λ a b c d e f g h i. absurd (d refl)) (λ a b c d e f g h i. absurd (e refl)) (λ a b c d e f g h i. absurd (f refl))
-    (λ a b c d e f g h i. absurd (g refl)) (λ a b c d e f g h i. absurd (h refl)) (λ a b c d e f g h i. absurd (i refl))
-
-pub one-called : (n : ℕ) → (n ≡ 3 → ⊥) → (n ≡ 6 → ⊥) → 1 ≡ called_count (numbered functions n)
-unfolding numbered functions
-one-called zero a b = refl
-one-called (suc zero) a b = refl
-one-called (suc (suc zero)) a b = refl
-one-called (suc (suc (suc zero))) a b = absurd (a refl)
-one-called (suc (suc (suc (suc zero)))) a b = refl
-one-called (suc (suc (suc (suc (suc zero))))) a b = refl
-one-called (suc (suc (suc (suc (suc (suc zero)))))) a b = absurd (b refl)
-one-called (suc (suc (suc (suc (suc (suc (suc n))))))) a b = refl
-
 -- ---- the row of a byte
 
 module _ {A : Type 0} where
-  pub there : (l : List A) (i : ℕ) (d : A) → i < length l → get_elem? l i ≡ some (get_or l i d)
+  pub there : (l : List A) (i : ℕ) (d : A) → i < length l → slice_get l i ≡ Some (get_or l i d)
   there [] i d h = absurd (omega arith)
   there (x ∷ l) zero d h = refl
   there (x ∷ l) (suc i) d h = there l i d (omega arith)
 
-  pub beyond : (l : List A) (i : ℕ) → length l ≤ i → get_elem? l i ≡ none
+  pub beyond : (l : List A) (i : ℕ) → length l ≤ i → slice_get l i ≡ None
   beyond [] i h = refl
   beyond (x ∷ l) zero h = absurd (omega arith)
   beyond (x ∷ l) (suc i) h = beyond l i (omega arith)

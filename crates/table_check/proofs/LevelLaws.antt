@@ -3,7 +3,8 @@ use mathlib.Core.Path.{◌≡◌, refl, sym, ◌∙◌}
 use mathlib.Core.List.{List}
 use Prim.Native.Nat.{ℕ, zero, suc, ◌≤◌}
 use native.Mathlib.Omega.{arith}
-use Rattle.meaning.specs.Errors.{Refusal, RecordNesting}
+use Rattle.meaning.specs.declared.refusal.Reason.{Reason}
+use Rattle.meaning.specs.declared.refusal.Reason.TheVariants.{RecordNesting}
 use Rattle.meaning.specs.Expr.{Expr}
 use Rattle.meaning.specs.Kinds.{ExprKind, null_kind, bool_kind, int_kind, uint_kind, double_kind, string_kind, bytes_kind, name_kind, unary_kind, binary_kind, conditional_kind, select_kind, list_kind, map_kind, comprehension_kind, function_kind, Kind, mark, expr, Called, to_one, to_none, to_two}
 use Rattle.meaning.specs.Heads.{Got, got, refused, ◌>>=◌, ◌>>◌, Head, head_at}
@@ -83,7 +84,7 @@ head_more t p end more le = by (head-view t p end)
     by (good h) a e = (longer t p more h le).is ∙ sym h.is ∙ e
     by (bad r f) a e = let z : ◌≡◌ {A = ℕ} 0 1 = cc in absurd (omega arith)
 
-never : {A B : Type 0} (g : Got A) (r : Refusal) (p : ℕ) {b : B} → ◌>>◌ g (refused r p) ≡ got b → ⊥
+never : {A B : Type 0} (g : Got A) (r : Reason) (p : ℕ) {b : B} → ◌>>◌ g (refused r p) ≡ got b → ⊥
 unfolding ◌>>◌ ◌>>=◌
 never (got a) r p e = let z : ◌≡◌ {A = ℕ} 0 1 = cc in omega arith
 never (refused s q) r p e = let z : ◌≡◌ {A = ℕ} 0 1 = cc in omega arith

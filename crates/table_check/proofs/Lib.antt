@@ -1,12 +1,11 @@
 -- Laws on the check of a table, which the functions' proofs rest on, and on accepted tables, for the crates above.
 
--- the check: kinds (`KindLaws`), a law for each way through a head (`HeadLaws`), fields (`FieldLaws`, its middle for callers too: what right fields
--- say), marks and faults (`FaultLaws`), the definition's reader without the expression (`OperandLaws`), a law for each way through a record and its
--- operands (`RecordLaws`) and through a whole table (`CheckLaws`)
+-- the check: kinds (`KindLaws`), a law for each way through a head (`HeadLaws`), fields (`FieldLaws`, its end for callers too: what right fields
+-- say), the definition's reader without the expression (`OperandLaws`), a law for each way through a record and its operands (`RecordLaws`) and
+-- through a whole table (`CheckLaws`)
 pub mod KindLaws
 pub mod HeadLaws
 pub mod FieldLaws
-pub mod FaultLaws
 pub mod OperandLaws
 pub mod RecordLaws
 pub mod CheckLaws

@@ -3,19 +3,21 @@
 use mathlib.Core.Path.{◌≡◌, refl, sym, ◌∙◌, ap}
 use mathlib.Core.Bool.{Bool, true, false, ◌&&◌, cond}
 use mathlib.Core.List.{List}
-use mathlib.Core.Option.{Option, none, some}
+use Rattle.std.specs.Prelude.{Option, None, Some}
 use Prim.Native.Nat.{ℕ, zero, suc, ◌+◌, ◌*◌, ◌≤◌}
 use native.Mathlib.Omega.{arith}
 use lib.Dec.{eqb, leb, ltb}
-use lib.ListN.{length, get_or, get_elem?}
+use lib.ListN.{length, get_or}
+use Rattle.std.specs.Prelude.{slice_get}
 use borrow.Author.Tests.{eq-eqb}
 use Rattle.text.specs.Utf8.{well_formed}
-use Rattle.meaning.specs.Errors.{WrongField}
+use Rattle.meaning.specs.declared.refusal.Reason.TheVariants.{WrongField}
+use Rattle.meaning.specs.Errors.{refusal_at}
 use Rattle.meaning.specs.Expr.{not_op, equals}
 use Rattle.meaning.specs.Kinds.{ExprKind, null_kind, bool_kind, int_kind, uint_kind, double_kind, string_kind, bytes_kind, name_kind, unary_kind, binary_kind, conditional_kind, select_kind, list_kind, map_kind, comprehension_kind, function_kind, expr, kinds, Called, to_one, to_none, to_two, flags, name_of}
 use Rattle.meaning.specs.Heads.{Got, got, ◌>>=◌, ◌>>◌, demand, or_refuse, Head, field_bytes, fields_bytes, numbers_at, head_at}
 use Rattle.meaning.specs.Table.{elements_from, pairs_from, span, utf8, filled, called_at, body_at, as_expr, as_part, expr_at, part_at, word_bytes}
-use Rattle.table_check.specs.declared.records.Read.TheVariants.{Ends}
+use Rattle.std.specs.Prelude.{Ok}
 use Rattle.table_check.specs.declared.faults.Marks.TheVariants.{Nowhere, Anywhere, Values}
 use Rattle.table_layout.specs.Layout.{row_of, head_bytes, word_at, after, fields_at}
 use Rattle.table_check.specs.Shapes.{numbers_of, called_count, expr_count, count_of}
@@ -24,41 +26,41 @@ use Rattle.table_check.specs.Fits.{is_some, expr_fits}
 use Rattle.table_check.specs.Reading.{ends, read_of, operands_of}
 use Rattle.table_check.specs.Records.{expr_in, expr_of, Sound, elements_of, pairs_of, kind_byte, head_of_kind, span_of, or_else, numbers_in, call_of, node}
 use Rattle.table_check.specs.Opened.{Opened}
-use Rattle.table_layout.proofs.WordLaws.{byte-is}
+use Rattle.table_layout.proofs.WordLaws.{byte_is}
 use Rattle.table_check.proofs.HeadLaws.{Here}
 use Rattle.table_check.proofs.OperandLaws.{body-ends, two-more, key-next, value-next}
 use Rattle.table_check.proofs.AcceptedRecordLaws.{LowRow, low-row, up-row, cond-ended, sound-here}
 
 -- ---- fields that are right
 
-some_of : {A : Type 0} (d : A) (o : Option A) → is_some o ≡ true → o ≡ some (or_else d o)
-some_of d none e = let z : ◌≡◌ {A = ℕ} 0 1 = cc in absurd (omega arith)
-some_of d (some a) e = refl
+some_of : {A : Type 0} (d : A) (o : Option A) → is_some o ≡ true → o ≡ Some (or_else d o)
+some_of d None e = let z : ◌≡◌ {A = ℕ} 0 1 = cc in absurd (omega arith)
+some_of d (Some a) e = refl
 
-flag-of : (n : ℕ) → is_some (get_elem? flags n) ≡ true → get_elem? flags n ≡ some (eqb n 1)
+flag-of : (n : ℕ) → is_some (slice_get flags n) ≡ true → slice_get flags n ≡ Some (eqb n 1)
 unfolding flags
 flag-of zero e = refl
 flag-of (suc zero) e = refl
 flag-of (suc (suc n)) e = let z : ◌≡◌ {A = ℕ} 0 1 = cc in absurd (omega arith)
 
-cond_of : {A : Type 0} (b : Bool) (a : A) → is_some (cond b (some a) none) ≡ true → cond b (some a) none ≡ some a
+cond_of : {A : Type 0} (b : Bool) (a : A) → is_some (cond b (Some a) None) ≡ true → cond b (Some a) None ≡ Some a
 cond_of true a e = refl
 cond_of false a e = let z : ◌≡◌ {A = ℕ} 0 1 = cc in absurd (omega arith)
 
-name-of : (n : ℕ) → is_some (name_of n) ≡ true → name_of n ≡ some n
+name-of : (n : ℕ) → is_some (name_of n) ≡ true → name_of n ≡ Some n
 unfolding name_of
 name-of n e = cond_of (ltb n 128) n e
 
-span-of : (x : List ℕ) (o n : ℕ) → is_some (span x o n) ≡ true → span x o n ≡ some (span_of x o n)
+span-of : (x : List ℕ) (o n : ℕ) → is_some (span x o n) ≡ true → span x o n ≡ Some (span_of x o n)
 unfolding span
 span-of x o n e = cond_of (leb (o + n) (length x)) (span_of x o n) e
 
-utf8-by : (b : Bool) (s : List ℕ) → is_some (utf8 (cond b (some s) none)) ≡ true → utf8 (cond b (some s) none) ≡ some s
+utf8-by : (b : Bool) (s : List ℕ) → is_some (utf8 (cond b (Some s) None)) ≡ true → utf8 (cond b (Some s) None) ≡ Some s
 unfolding utf8
 utf8-by true s e = cond_of (well_formed s) s e
 utf8-by false s e = let z : ◌≡◌ {A = ℕ} 0 1 = cc in absurd (omega arith)
 
-utf8-of : (x : List ℕ) (o n : ℕ) → is_some (utf8 (span x o n)) ≡ true → utf8 (span x o n) ≡ some (span_of x o n)
+utf8-of : (x : List ℕ) (o n : ℕ) → is_some (utf8 (span x o n)) ≡ true → utf8 (span x o n) ≡ Some (span_of x o n)
 unfolding span
 utf8-of x o n e = utf8-by (leb (o + n) (length x)) (span_of x o n) e
 
@@ -72,7 +74,7 @@ pub then : {A B : Type 0} {g : Got A} {a : A} (k : A → Got B) {b : Got B} → 
 unfolding ◌>>=◌
 then k e f = rw e f
 
-field : {A : Type 0} (p : ℕ) {o : Option A} {a : A} → o ≡ some a → or_refuse WrongField p o ≡ got a
+field : {A : Type 0} (p : ℕ) {o : Option A} {a : A} → o ≡ Some a → or_refuse WrongField p o ≡ got a
 unfolding or_refuse
 field p e = rw e
 
@@ -107,10 +109,10 @@ module _ (t x : List ℕ) (p : ℕ) where
       ◌>>=◌ (or_refuse WrongField p o) (λ f. called_at x (λ q e. expr_at word_bytes t x 63 q e) (λ q e. part_at word_bytes t x 63 q e) p (head_in function_kind) f) ≡
       got (call_of t x p o, end)
   unfolding called_at or_refuse ◌>>=◌
-  call-is none e leaf r = let z : ◌≡◌ {A = ℕ} 0 1 = cc in absurd (omega arith)
-  call-is (some (to_one f)) e leaf r = then _ r.0 (filled-by p (head_in function_kind) _ r.1)
-  call-is (some to_none) e leaf r = refl
-  call-is (some to_two) e leaf r = then _ r.0 (then _ r.1.0 (filled-by p (head_in function_kind) _ r.1.1))
+  call-is None e leaf r = let z : ◌≡◌ {A = ℕ} 0 1 = cc in absurd (omega arith)
+  call-is (Some (to_one f)) e leaf r = then _ r.0 (filled-by p (head_in function_kind) _ r.1)
+  call-is (Some to_none) e leaf r = refl
+  call-is (Some to_two) e leaf r = then _ r.0 (then _ r.1.0 (filled-by p (head_in function_kind) _ r.1.1))
 
   node-is : (k : ExprKind) → expr_fits x k (numbers_in t x p k) ≡ true → (expr_count k (numbers_in t x p k) ≡ 0 → p + head_of_kind k ≡ end) →
       LowRow t x (expr_marks k) end (expr_count k (numbers_in t x p k)) (p + head_of_kind k) →
@@ -192,21 +194,21 @@ module _ (t x : List ℕ) (p : ℕ) where
   numbers-are : (k : ExprKind) → numbers_of t p (kind_byte k) ≡ numbers_in t x p k
   unfolding numbers_of row_of kinds numbers_at fields_bytes field_bytes word_at
   numbers-are null_kind = refl
-  numbers-are bool_kind = rw (byte-is t (p + fields_at))
+  numbers-are bool_kind = rw (byte_is t (p + fields_at))
   numbers-are int_kind = refl
   numbers-are uint_kind = refl
   numbers-are double_kind = refl
   numbers-are string_kind = rw word_on
   numbers-are bytes_kind = rw word_on
-  numbers-are name_kind = rw (byte-is t (p + fields_at))
-  numbers-are unary_kind = rw (byte-is t (p + fields_at))
-  numbers-are binary_kind = rw (byte-is t (p + fields_at))
+  numbers-are name_kind = rw (byte_is t (p + fields_at))
+  numbers-are unary_kind = rw (byte_is t (p + fields_at))
+  numbers-are binary_kind = rw (byte_is t (p + fields_at))
   numbers-are conditional_kind = refl
-  numbers-are select_kind = rw (byte-is t (p + fields_at), both-on, one_on)
+  numbers-are select_kind = rw (byte_is t (p + fields_at), both-on, one_on)
   numbers-are list_kind = refl
   numbers-are map_kind = refl
-  numbers-are comprehension_kind = rw (byte-is t (p + fields_at), byte-is t (p + fields_at + 1), one_on)
-  numbers-are function_kind = rw (byte-is t (p + fields_at))
+  numbers-are comprehension_kind = rw (byte_is t (p + fields_at), byte_is t (p + fields_at + 1), one_on)
+  numbers-are function_kind = rw (byte_is t (p + fields_at))
 
   pub record-read : (left parent : ℕ) {g : Head} → head_at word_bytes t p parent ≡ got g →
       expr_at word_bytes t x (suc left) p parent ≡ as_expr x (λ q e. expr_at word_bytes t x left q e) (λ q e. part_at word_bytes t x left q e) p g g.kind
@@ -239,10 +241,10 @@ module _ (t x : List ℕ) (p : ℕ) (k : ExprKind) (b : get_or t p 0 ≡ kind_by
   leaf = rw (b, row_is t x p k, numbers-are t x p k, head-is t x p k) at h.leaf
 
   row_read : (expr_fits x k (numbers_in t x p k) ≡ true) ×
-      (operands_of (λ m q e. read_of t x 63 m q e) p (expr_marks k) (after t p) (expr_count k (numbers_in t x p k)) (p + head_of_kind k) ≡ Ends (after t p))
+      (operands_of (λ m q e. read_of t x 63 m q e) p (expr_marks k) (after t p) (expr_count k (numbers_in t x p k)) (p + head_of_kind k) ≡ Ok (after t p))
   unfolding read_of
   row_read =
-      cond-ended (expr_fits x k (numbers_in t x p k)) _ 5 p
+      cond-ended (expr_fits x k (numbers_in t x p k)) _ (refusal_at WrongField p)
       (sym (body-ends x (λ q e. expr_at word_bytes t x 63 q e) (λ q e. part_at word_bytes t x 63 q e) (λ m q e. read_of t x 63 m q e) (λ q r. refl) (λ q r. refl) p
       (head_in t x p k) k (numbers_in t x p k) leaf) ∙ ap ends body-read)
 

@@ -2,7 +2,7 @@
 use mathlib.Core.Path.{◌≡◌, refl, ◌∙◌, ap, subst}
 use mathlib.Core.Bool.{Bool, true, false, cond}
 use mathlib.Core.List.{List, [], ◌∷◌, ◌++◌, append-nil}
-use mathlib.Core.Option.{Option, none, some}
+use Rattle.std.specs.Prelude.{Option, None, Some}
 use Prim.Native.Nat.{ℕ, zero, suc, ◌+◌, ◌*◌, ◌≤◌, ◌<◌}
 use native.Mathlib.Omega.{arith}
 use lib.Dec.{eqb}
@@ -13,7 +13,7 @@ use Rattle.meaning.specs.Kinds.{ExprKind, null_kind, bool_kind, int_kind, uint_k
 use Rattle.meaning.specs.Table.{Part, bare, marked, add_element, add_pair}
 use Rattle.meaning.specs.Listing.{Listed, records_of, records_of_elements, records_of_pairs}
 use Rattle.table_layout.specs.Layout.{fields_at, word_at, after}
-use Rattle.table_check.specs.declared.Checked.TheVariants.{Accepted}
+use Rattle.std.specs.Prelude.{Ok}
 use Rattle.table_check.specs.declared.faults.Marks.{Marks}
 use Rattle.table_check.specs.declared.faults.Marks.TheVariants.{Nowhere, Anywhere, Values}
 use Rattle.table_check.specs.Shapes.{called_count, expr_count}
@@ -60,7 +60,7 @@ module _ (t : List ℕ) where
 
 abbrev part_records : Part → List Listed
 part_records (bare e) = records_of e
-part_records (marked p e) = (p, none) ∷ records_of e
+part_records (marked p e) = (p, None) ∷ records_of e
 
 element-records : (y : Part) (es : Elements) → records_of_elements (add_element y es) ≡ part_records y ++ records_of_elements es
 unfolding add_element
@@ -74,24 +74,24 @@ pair-records k (marked p e) es = refl
 
 -- the name in a record of a kind
 abbrev carried : ExprKind → ℕ → Option ℕ
-carried null_kind n = none
-carried bool_kind n = none
-carried int_kind n = none
-carried uint_kind n = none
-carried double_kind n = none
-carried string_kind n = none
-carried bytes_kind n = none
-carried name_kind n = some n
-carried unary_kind n = none
-carried binary_kind n = none
-carried conditional_kind n = none
-carried select_kind n = none
-carried list_kind n = none
-carried map_kind n = none
-carried comprehension_kind n = none
-carried function_kind n = none
+carried null_kind n = None
+carried bool_kind n = None
+carried int_kind n = None
+carried uint_kind n = None
+carried double_kind n = None
+carried string_kind n = None
+carried bytes_kind n = None
+carried name_kind n = Some n
+carried unary_kind n = None
+carried binary_kind n = None
+carried conditional_kind n = None
+carried select_kind n = None
+carried list_kind n = None
+carried map_kind n = None
+carried comprehension_kind n = None
+carried function_kind n = None
 
-carried-there : (k : ExprKind) (n : ℕ) → cond (eqb (kind_byte k) (kind_byte name_kind)) (some n) none ≡ carried k n
+carried-there : (k : ExprKind) (n : ℕ) → cond (eqb (kind_byte k) (kind_byte name_kind)) (Some n) None ≡ carried k n
 carried-there null_kind n = refl
 carried-there bool_kind n = refl
 carried-there int_kind n = refl
@@ -133,11 +133,11 @@ module _ (t x : List ℕ) where
 
 module _ (t x : List ℕ) (p : ℕ) where
   called-records : (o : Option Called) → is_some o ≡ true →
-      records_of (call_of t x p o) ≡ (p, none) ∷ row_records t x Nowhere (called_count o) (p + head_of_kind function_kind)
-  called-records none e = let z : ◌≡◌ {A = ℕ} 0 1 = cc in absurd (omega arith)
-  called-records (some (to_one f)) e = rw append-nil
-  called-records (some to_none) e = refl
-  called-records (some to_two) e = rw append-nil
+      records_of (call_of t x p o) ≡ (p, None) ∷ row_records t x Nowhere (called_count o) (p + head_of_kind function_kind)
+  called-records None e = let z : ◌≡◌ {A = ℕ} 0 1 = cc in absurd (omega arith)
+  called-records (Some (to_one f)) e = rw append-nil
+  called-records (Some to_none) e = refl
+  called-records (Some to_two) e = rw append-nil
 
   -- a record comes before those of its operands
   node-records : (k : ExprKind) → expr_fits x k (numbers_in t x p k) ≡ true → records_of (node t x p k) ≡ (p, carried k (get_or t (p + fields_at) 0)) ∷
@@ -154,8 +154,8 @@ module _ (t x : List ℕ) (p : ℕ) where
   node-records binary_kind e = rw append-nil
   node-records conditional_kind e = rw append-nil
   node-records select_kind e = rw append-nil
-  node-records list_kind e = ap (λ (l : List Listed). (p, none) ∷ l) (elements-records t x (word_at t (p + fields_at)) (p + head_of_kind list_kind))
-  node-records map_kind e = ap (λ (l : List Listed). (p, none) ∷ l) (pairs-records t x (word_at t (p + fields_at)) (p + head_of_kind map_kind))
+  node-records list_kind e = ap (λ (l : List Listed). (p, None) ∷ l) (elements-records t x (word_at t (p + fields_at)) (p + head_of_kind list_kind))
+  node-records map_kind e = ap (λ (l : List Listed). (p, None) ∷ l) (pairs-records t x (word_at t (p + fields_at)) (p + head_of_kind map_kind))
   node-records comprehension_kind e = rw append-nil
   node-records function_kind e = called-records (numbered functions (get_or t (p + fields_at) 0)) e
 
@@ -208,7 +208,7 @@ module _ (t x : List ℕ) where
       )
 
   -- The walk over an accepted table meets the records of what it spells, and then the table's end.
-  pub accepted-walk : check_of t x ≡ Accepted → Walk t (length t) 0 (records_of (expr_of t x 0))
+  pub accepted-walk : check_of t x ≡ Ok tt → Walk t (length t) 0 (records_of (expr_of t x 0))
   accepted-walk e =
       let a = accepted t x e in
       rw (← a.whole) (expr-walk (after t 0) 0 a.root (omega arith))

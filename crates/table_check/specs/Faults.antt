@@ -1,6 +1,8 @@
 -- Which operands of a record may be marked, and the first fault of a record whose head is whole.
-use Rattle.std.specs.Prelude.{ℕ, zero, suc, ◌%◌, Bool, true, false, not, cond, List, eqb}
-use Rattle.meaning.specs.Errors.{RecordNesting, WrongField, MisplacedMark, refusal_number}
+use Rattle.std.specs.Prelude.{ℕ, zero, suc, ◌%◌, Bool, true, false, not, cond, List, eqb, Result, Ok, Err}
+use Rattle.meaning.specs.Errors.{refusal_at}
+use Rattle.meaning.specs.declared.refusal.Refusal.{Refusal}
+use Rattle.meaning.specs.declared.refusal.Reason.TheVariants.{RecordNesting, WrongField, MisplacedMark}
 use Rattle.meaning.specs.Kinds.{ExprKind, null_kind, bool_kind, int_kind, uint_kind, double_kind, string_kind, bytes_kind, name_kind, unary_kind, binary_kind, conditional_kind, select_kind, list_kind, map_kind, comprehension_kind, function_kind, Kind, mark, expr}
 use Rattle.table_check.specs.declared.faults.Marks.{Marks}
 use Rattle.table_check.specs.declared.faults.Marks.TheVariants.{Nowhere, Anywhere, Values}
@@ -44,8 +46,8 @@ misplaced_of (expr k) marked = false
 
 -- ---- faults
 
--- The first fault of a record whose head is whole, in the order of the numbers, with `levels` levels left; 0 where there is none.
-abbrev pub fault_of : List ℕ → Kind → List ℕ → (levels : ℕ) → Bool → ℕ
-fault_of text k ns zero marked = refusal_number RecordNesting
-fault_of text k ns (suc left) marked =
-    cond (fields_fit text k ns) (cond (misplaced_of k marked) (refusal_number MisplacedMark) 0) (refusal_number WrongField)
+-- The first fault of the record at p, whose head is whole, in the order of the numbers, with `levels` levels left.
+abbrev pub fault_of : List ℕ → (p : ℕ) → Kind → List ℕ → (levels : ℕ) → Bool → Result (Unit {0}) Refusal
+fault_of text p k ns zero marked = Err (refusal_at RecordNesting p)
+fault_of text p k ns (suc left) marked =
+    cond (fields_fit text k ns) (cond (misplaced_of k marked) (Err (refusal_at MisplacedMark p)) (Ok tt)) (Err (refusal_at WrongField p))

@@ -1,6 +1,5 @@
 -- The records of an accepted table: the expression at a place, and what a record of each kind is made of.
-use Rattle.std.specs.Prelude.{ℕ, zero, suc, ◌+◌, ◌≡◌, Bool, true, false, List, [], ◌∷◌, eqb, length, take, drop, get_or}
-use Rattle.std.proofs.Math.Option.{Option, none, some}
+use Rattle.std.specs.Prelude.{ℕ, zero, suc, ◌+◌, ◌≡◌, Bool, true, false, List, [], ◌∷◌, eqb, length, take, drop, get_or, Option, None, Some}
 use Rattle.std.specs.Int.{w64}
 use Rattle.std.proofs.Common.{to_z}
 use Rattle.meaning.specs.Limits.{deepest_record}
@@ -101,8 +100,8 @@ abbrev pub span_of : List ℕ → (offset size : ℕ) → List ℕ
 span_of x offset size = take size (drop offset x)
 
 abbrev pub or_else : {A : Type 0} → A → Option A → A
-or_else d none = d
-or_else d (some a) = a
+or_else d None = d
+or_else d (Some a) = a
 
 abbrev pub unary_of : ℕ → Unary
 unary_of n = or_else not_op (numbered unaries n)
@@ -136,10 +135,10 @@ module _ (t x : List ℕ) (p : ℕ) where
   operand_at k (suc i) = after t (operand_at k i)
 
   abbrev pub call_of : Option Called → Expr
-  call_of none = none_call p
-  call_of (some (to_one f)) = call p f (expr_of t x (operand_at function_kind 0))
-  call_of (some to_none) = none_call p
-  call_of (some to_two) = or_value p (expr_of t x (operand_at function_kind 0)) (expr_of t x (operand_at function_kind 1))
+  call_of None = none_call p
+  call_of (Some (to_one f)) = call p f (expr_of t x (operand_at function_kind 0))
+  call_of (Some to_none) = none_call p
+  call_of (Some to_two) = or_value p (expr_of t x (operand_at function_kind 0)) (expr_of t x (operand_at function_kind 1))
 
   -- the expression, made of those at its operands' places
   abbrev pub node : ExprKind → Expr

@@ -1,14 +1,14 @@
 -- A record's shape: the numbers in its fields, how many operands it has, and its head. Stated by the definition's kinds, fields and words.
-use Rattle.std.specs.Prelude.{ℕ, ◌+◌, ◌*◌, Bool, cond, List, [], ◌∷◌, eqb, leb, get_or}
-use Rattle.std.proofs.Math.Option.{Option, none, some}
-use Rattle.meaning.specs.Errors.{refusal_number}
+use Rattle.std.specs.Prelude.{ℕ, ◌+◌, ◌*◌, Bool, cond, List, [], ◌∷◌, eqb, leb, get_or, Option, None, Some, Result, Ok, Err}
+use Rattle.meaning.specs.Errors.{refusal_at}
+use Rattle.meaning.specs.declared.refusal.Refusal.{Refusal}
 use Rattle.meaning.specs.Kinds.{ExprKind, null_kind, bool_kind, int_kind, uint_kind, double_kind, string_kind, bytes_kind, name_kind, unary_kind, binary_kind, conditional_kind, select_kind, list_kind, map_kind, comprehension_kind, function_kind, Kind, mark, expr, byte, word, numbered, Called, to_one, to_none, to_two, functions}
 use Rattle.meaning.specs.Heads.{Got, got, refused, first, fields_bytes, numbers_at, head_at}
 use Rattle.meaning.specs.Heads as heads
 use Rattle.meaning.specs.Table.{word_bytes}
 use Rattle.table_layout.specs.Layout.{row_of}
+use Rattle.table_layout.specs.Kinds.{kind_of}
 use Rattle.table_check.specs.declared.heads.Head.{Head}
-use Rattle.table_check.specs.declared.heads.Head.TheVariants.{Whole, Refused}
 
 -- the numbers in the fields of the record at a place, by its kind byte
 unfoldable pub numbers_of : List ℕ → ℕ → ℕ → List ℕ
@@ -18,10 +18,10 @@ numbers_of t p b = numbers_at word_bytes t (row_of b).fields (p + fields_bytes w
 
 -- an unknown function has one, which is not read
 abbrev pub called_count : Option Called → ℕ
-called_count none = 1
-called_count (some (to_one f)) = 1
-called_count (some to_none) = 0
-called_count (some to_two) = 2
+called_count None = 1
+called_count (Some (to_one f)) = 1
+called_count (Some to_none) = 0
+called_count (Some to_two) = 2
 
 abbrev pub expr_count : ExprKind → List ℕ → ℕ
 expr_count null_kind ns = 0
@@ -52,9 +52,9 @@ fits_extent count head extent = cond (eqb count 0) (eqb extent head) (leb head e
 
 -- ---- what is read of a head
 
-abbrev pub seen : ℕ → Got heads.Head → Head
-seen b (got h) = Whole b (count_of h.kind h.numbers) h.operands_at h.end
-seen b (refused r p) = Refused (refusal_number r)
+abbrev pub seen : ℕ → Got heads.Head → Result Head Refusal
+seen b (got h) = Ok (record { kind = kind_of b; count = count_of h.kind h.numbers; first = h.operands_at; after = h.end })
+seen b (refused r p) = Err (refusal_at r p)
 
-unfoldable pub head_of : List ℕ → ℕ → ℕ → Head
+unfoldable pub head_of : List ℕ → ℕ → ℕ → Result Head Refusal
 head_of t p end = seen (get_or t p 0) (head_at word_bytes t p end)

@@ -1,6 +1,5 @@
 -- Going through a table from record to record, by where the next one begins. It does not look at extents, and keeps no stack.
-use Rattle.std.specs.Prelude.{ℕ, ◌+◌, ◌≤◌, ◌<◌, ◌≡◌, cond, List, [], ◌∷◌, eqb, get_or}
-use Rattle.std.proofs.Math.Option.{Option, none, some}
+use Rattle.std.specs.Prelude.{ℕ, ◌+◌, ◌≤◌, ◌<◌, ◌≡◌, cond, List, [], ◌∷◌, eqb, get_or, Option, None, Some}
 use Rattle.meaning.specs.Kinds.{name_kind}
 use Rattle.meaning.specs.Listing.{Listed}
 use Rattle.table_layout.specs.Layout.{kind_numbers, fields_at, head_bytes}
@@ -12,7 +11,7 @@ next t q = q + head_bytes (get_or t q 0)
 
 -- the name, if a name record stands there
 abbrev pub name_there : List ℕ → ℕ → Option ℕ
-name_there t q = cond (eqb (get_or t q 0) (kind_byte name_kind)) (some (get_or t (q + fields_at) 0)) none
+name_there t q = cond (eqb (get_or t q 0) (kind_byte name_kind)) (Some (get_or t (q + fields_at) 0)) None
 
 -- from a place on these records are met, one after the other, and then the end
 abbrev pub Walk : (table : List ℕ) (end place : ℕ) → List Listed → Type 0

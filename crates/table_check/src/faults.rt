@@ -1,11 +1,13 @@
 // Marks, which may not stand everywhere, and the first fault of a record whose head is whole, in the order of the refusals' numbers.
-ghost use Rattle.std.specs.Prelude.{◌≡◌, ◌+◌, ◌<◌, ◌≤◌, length};
-ghost use Rattle.table_layout.specs.Layout.{kind_numbers, row_of, head_bytes};
+ghost use Rattle.std.specs.Prelude.{◌≡◌, ◌+◌, ◌≤◌, length};
+ghost use Rattle.table_layout.specs.Layout.{row_of, head_bytes};
+ghost use Rattle.table_layout.specs.Kinds.{byte_of};
 ghost use Rattle.table_check.specs.Shapes.{numbers_of};
 ghost use Rattle.table_check.specs.Faults.{marks_of, may_mark, misplaced_of, fault_of};
 
-use crate::refusals::{MISPLACED_MARK, NO_FAULT, RECORD_NESTING, WRONG_FIELD};
-use table_layout::kinds::{LIST, MAP, MARK};
+use crate::field_tests::fields_fit;
+use meaning::refusal::{Reason, Refusal};
+use table_layout::kind::Kind;
 
 // Which of a record's operands may be marked.
 #[derive(Clone, Copy)]
@@ -17,13 +19,13 @@ pub enum Marks {
     Values,
 }
 
-pub fn marks_of(kind: u8) -> Marks
-    requires { kind < kind_numbers }
-    ensures { result ≡ marks_of (row_of kind).kind }
+#[tactic(auto, unfolding(crate::specs::Faults::marks_of, table_layout::specs::Layout::row_of, meaning::specs::Kinds::kinds))]
+pub fn marks_of(kind: Kind) -> Marks
+    ensures { result ≡ marks_of (row_of (byte_of kind)).kind }
 {
     match kind {
-        LIST => Marks::Anywhere,
-        MAP => Marks::Values,
+        Kind::List => Marks::Anywhere,
+        Kind::Map => Marks::Values,
         _ => Marks::Nowhere,
     }
 }
@@ -40,26 +42,33 @@ pub fn may_mark(marks: Marks, left: usize) -> bool
 }
 
 // Whether a record is a mark where none may stand.
-fn misplaced(kind: u8, marked: bool) -> bool
-    requires { kind < kind_numbers }
-    ensures { result ≡ misplaced_of (row_of kind).kind marked }
+#[tactic(auto, unfolding(table_layout::specs::Layout::row_of, meaning::specs::Kinds::kinds))]
+fn misplaced(kind: Kind, marked: bool) -> bool
+    ensures { result ≡ misplaced_of (row_of (byte_of kind)).kind marked }
 {
-    if kind == MARK { !marked } else { false }
+    kind == Kind::Mark && !marked
 }
 
 // The first fault of a record whose head is whole, in the order of the numbers.
-pub fn fault(table: &[u8], text: &[u8], at: usize, kind: u8, levels: usize, marked: bool) -> u8
-    requires { (kind < kind_numbers) × (at + head_bytes kind ≤ length table.now) }
-    ensures { result ≡ fault_of text.now (row_of kind).kind (numbers_of table.now at kind) levels marked }
+pub fn fault(
+    table: &[u8],
+    text: &[u8],
+    at: usize,
+    kind: Kind,
+    levels: usize,
+    marked: bool,
+) -> Result<(), Refusal>
+    requires { at + head_bytes (byte_of kind) ≤ length table.now }
+    ensures { result ≡ fault_of text.now at (row_of (byte_of kind)).kind (numbers_of table.now at (byte_of kind)) levels marked }
 {
     if levels == 0 {
-        return RECORD_NESTING;
+        return Err(Reason::RecordNesting.at(at));
     }
-    if !crate::field_tests::fields_fit(table, text, at, kind) {
-        return WRONG_FIELD;
+    if !fields_fit(table, text, at, kind) {
+        return Err(Reason::WrongField.at(at));
     }
     if misplaced(kind, marked) {
-        return MISPLACED_MARK;
+        return Err(Reason::MisplacedMark.at(at));
     }
-    NO_FAULT
+    Ok(())
 }

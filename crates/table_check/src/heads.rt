@@ -1,17 +1,17 @@
 // Heads of records: the kind, how many operands there are, and whether the extent fits.
 ghost use Rattle.std.specs.Prelude.{◌≡◌, ◌+◌, ◌<◌, ◌≤◌, length};
 ghost use Rattle.meaning.specs.Kinds.{numbered, functions};
-ghost use Rattle.table_layout.specs.Layout.{kind_numbers, row_of, head_bytes};
+ghost use Rattle.table_layout.specs.Layout.{row_of, head_bytes};
+ghost use Rattle.table_layout.specs.Kinds.{byte_of};
 ghost use Rattle.table_check.specs.Shapes.{numbers_of, called_count, count_of, fits_extent, head_of};
 
-use crate::refusals::{UNKNOWN_KIND, WRONG_EXTENT};
-use table_layout::kinds::{
-    BINARY, COMPREHENSION, CONDITIONAL, FUNCTION, KINDS, LIST, MAP, MARK, OPTIONAL_NONE, OR_VALUE,
-    SELECT, UNARY,
-};
+use meaning::refusal::{Reason, Refusal};
+use table_layout::kind::Kind;
+use table_layout::kinds::{OPTIONAL_NONE, OR_VALUE};
 use table_layout::words::{FIELDS, head_bytes, word_at};
 
 // How many operands a function has. No operand of an unknown one is read.
+#[tactic(auto, unfolding(meaning::specs::Kinds::numbered, meaning::specs::Kinds::functions))]
 fn function_operands(number: u8) -> usize
     ensures { result ≡ called_count (numbered functions number) }
 {
@@ -23,20 +23,19 @@ fn function_operands(number: u8) -> usize
 }
 
 // How many operands the record at a place has.
-fn operand_count(table: &[u8], at: usize, kind: u8) -> usize
-    requires { (kind < kind_numbers) × (at + head_bytes kind ≤ length table.now) }
-    ensures { result ≡ count_of (row_of kind).kind (numbers_of table.now at kind) }
+#[tactic(auto, using(table_layout::proofs::WordLaws::byte_is), unfolding(crate::specs::Shapes::count_of, table_layout::specs::Layout::row_of, meaning::specs::Kinds::kinds, crate::specs::Shapes::numbers_of, meaning::specs::Heads::numbers_at, meaning::specs::Heads::field_bytes, meaning::specs::Heads::fields_bytes, table_layout::specs::Layout::head_bytes, table_layout::specs::Layout::word_at))]
+fn operand_count(table: &[u8], at: usize, kind: Kind) -> usize
+    requires { at + head_bytes (byte_of kind) ≤ length table.now }
+    ensures { result ≡ count_of (row_of (byte_of kind)).kind (numbers_of table.now at (byte_of kind)) }
 {
     match kind {
-        UNARY => 1,
-        BINARY => 2,
-        CONDITIONAL => 3,
-        SELECT => 1,
-        LIST => word_at(table, at + FIELDS),
-        MAP => 2 * word_at(table, at + FIELDS),
-        MARK => 1,
-        COMPREHENSION => 5,
-        FUNCTION => function_operands(table[at + FIELDS]),
+        Kind::Unary | Kind::Select | Kind::Mark => 1,
+        Kind::Binary => 2,
+        Kind::Conditional => 3,
+        Kind::List => word_at(table, at + FIELDS),
+        Kind::Map => 2 * word_at(table, at + FIELDS),
+        Kind::Comprehension => 5,
+        Kind::Function => function_operands(table[at + FIELDS]),
         _ => 0,
     }
 }
@@ -52,38 +51,43 @@ fn extent_fits(count: usize, head: usize, extent: usize) -> bool
     }
 }
 
-// The head of a record.
+// What stands before a record's operands.
 #[derive(Clone, Copy)]
-pub enum Head {
-    // Its kind, how many operands it has, where they begin and where it ends.
-    Whole(u8, usize, usize, usize),
-    // A refusal's number.
-    Refused(u8),
+pub struct Head {
+    pub kind: Kind,
+    // How many operands it has, where they begin and where it ends.
+    pub count: usize,
+    pub first: usize,
+    pub after: usize,
 }
 
 // The head of the record at a place, inside a parent that ends at another: its kind, then its extent.
-pub fn head_at(table: &[u8], at: usize, end: usize) -> Head
+pub fn head_at(table: &[u8], at: usize, end: usize) -> Result<Head, Refusal>
     requires { end ≤ length table.now }
     ensures { result ≡ head_of table.now at end }
 {
     if table.len() <= at {
-        return Head::Refused(WRONG_EXTENT);
+        return Err(Reason::WrongExtent.at(at));
     }
-    let kind = table[at];
-    if KINDS <= kind {
-        return Head::Refused(UNKNOWN_KIND);
-    }
+    let Ok(kind) = Kind::try_from(table[at]) else {
+        return Err(Reason::UnknownKind.at(at));
+    };
     let head = head_bytes(kind);
     if end < at + head {
-        return Head::Refused(WRONG_EXTENT);
+        return Err(Reason::WrongExtent.at(at));
     }
     let extent = word_at(table, at + 1);
     if end < at + extent {
-        return Head::Refused(WRONG_EXTENT);
+        return Err(Reason::WrongExtent.at(at));
     }
     let count = operand_count(table, at, kind);
     if !extent_fits(count, head, extent) {
-        return Head::Refused(WRONG_EXTENT);
+        return Err(Reason::WrongExtent.at(at));
     }
-    Head::Whole(kind, count, at + head, at + extent)
+    Ok(Head {
+        kind,
+        count,
+        first: at + head,
+        after: at + extent,
+    })
 }

@@ -7,6 +7,14 @@ use lib.ListN.{get_or}
 use Rattle.meaning.specs.Kinds.{kinds}
 use Rattle.meaning.specs.Heads.{fields_bytes, field_bytes}
 use Rattle.table_layout.specs.Layout.{fields_at, row_of, head_bytes}
+use mathlib.Core.Bool.{Bool, true, false, cond}
+use lib.Dec.{ltb}
+use borrow.Author.Tests.{ltb-true, ltb-false}
+use Rattle.std.specs.Prelude.{Ok, Err}
+use Rattle.meaning.specs.declared.refusal.Reason.{Reason}
+use Rattle.meaning.specs.declared.refusal.Reason.TheVariants.{UnknownKind}
+use Rattle.table_layout.specs.declared.kind.Kind.{Kind}
+use Rattle.table_layout.specs.Kinds.{byte_of, kind_of, Known}
 
 -- ---- by every kind
 
@@ -57,16 +65,25 @@ head-table =
 pub head-is : {k : ℕ} (n : ℕ) → n < 17 → k ≡ n → head_bytes k ≡ get_or heads n 0
 head-is n h e = ap head_bytes e ∙ sym (head-table n h).0
 
--- a field of one byte, in the kinds that are not these
-pub one_byte : (k : ℕ) → k < 17 → (k ≡ 0 → ⊥) → (k ≡ 2 → ⊥) → (k ≡ 3 → ⊥) → (k ≡ 4 → ⊥) → (k ≡ 5 → ⊥) → (k ≡ 6 → ⊥) → (k ≡ 10 → ⊥) → (k ≡ 11 → ⊥) → (k ≡ 12 → ⊥) →
-    (k ≡ 13 → ⊥) → (k ≡ 14 → ⊥) → (k ≡ 15 → ⊥) → 4 ≡ head_bytes k
-unfolding head_bytes row_of kinds fields_bytes field_bytes
-one_byte =
-    every-kind
-    (λ k. (k ≡ 0 → ⊥) → (k ≡ 2 → ⊥) → (k ≡ 3 → ⊥) → (k ≡ 4 → ⊥) → (k ≡ 5 → ⊥) → (k ≡ 6 → ⊥) → (k ≡ 10 → ⊥) → (k ≡ 11 → ⊥) → (k ≡ 12 → ⊥) → (k ≡ 13 → ⊥) →
-    (k ≡ 14 → ⊥) → (k ≡ 15 → ⊥) → 4 ≡ head_bytes k) (λ a b c d e f g h i j l m. absurd (a refl)) (λ a b c d e f g h i j l m. refl)
-    (λ a b c d e f g h i j l m. absurd (b refl)) (λ a b c d e f g h i j l m. absurd (c refl)) (λ a b c d e f g h i j l m. absurd (d refl))
-    (λ a b c d e f g h i j l m. absurd (e refl)) (λ a b c d e f g h i j l m. absurd (f refl)) (λ a b c d e f g h i j l m. refl)
-    (λ a b c d e f g h i j l m. refl) (λ a b c d e f g h i j l m. refl) (λ a b c d e f g h i j l m. absurd (g refl))
-    (λ a b c d e f g h i j l m. absurd (h refl)) (λ a b c d e f g h i j l m. absurd (i refl)) (λ a b c d e f g h i j l m. absurd (j refl))
-    (λ a b c d e f g h i j l m. absurd (l refl)) (λ a b c d e f g h i j l m. absurd (m refl)) (λ a b c d e f g h i j l m. refl)
+-- ---- the code's kinds
+
+pub byte-of-kind : (b : ℕ) → b < 17 → byte_of (kind_of b) ≡ b
+byte-of-kind =
+    every-kind (λ b. byte_of (kind_of b) ≡ b) refl refl refl refl refl refl refl refl refl refl refl refl refl refl refl refl refl
+
+known-by : (b : ℕ) {k : Kind} (t : Bool) → ltb b 17 ≡ t → Ok k ≡ cond t (Ok (kind_of b)) (Err UnknownKind) → (b < 17) × (k ≡ kind_of b) × (byte_of k ≡ b)
+known-by b {k} true e f =
+    let h = ltb-true b 17 e in
+    let g : k ≡ kind_of b = cc in
+    (h, g, ap byte_of g ∙ byte-of-kind b h)
+known-by b false e f = let z : ◌≡◌ {A = ℕ} 0 1 = cc in absurd (omega arith)
+
+pub known-kind : (b : ℕ) {k : Kind} → Known b (Ok k) → (b < 17) × (k ≡ kind_of b) × (byte_of k ≡ b)
+known-kind b e = known-by b (ltb b 17) refl e
+
+unknown-by : (b : ℕ) {r : Reason} (t : Bool) → ltb b 17 ≡ t → Err r ≡ cond t (Ok (kind_of b)) (Err UnknownKind) → (17 ≤ b) × (r ≡ UnknownKind)
+unknown-by b true e f = let z : ◌≡◌ {A = ℕ} 0 1 = cc in absurd (omega arith)
+unknown-by b false e f = (ltb-false b 17 e, cc)
+
+pub unknown-kind : (b : ℕ) {r : Reason} → Known b (Err r) → (17 ≤ b) × (r ≡ UnknownKind)
+unknown-kind b e = unknown-by b (ltb b 17) refl e

@@ -35,7 +35,3 @@ after t p = p + word_at t (p + 1)
 -- a number of 8 bytes
 abbrev pub long_at : List ℕ → ℕ → ℕ
 long_at t i = little_endian word_bytes t 8 i
-
--- half of it
-abbrev pub four_at : List ℕ → ℕ → ℕ
-four_at t i = little_endian word_bytes t 4 i

@@ -3,7 +3,9 @@
 
 // The fields of a record, a reader for each shape of body.
 pub mod fields;
-// The numbers of kinds, flags and names, operators and functions.
+// The kinds of records.
+pub mod kind;
+// The numbers of flags and names, operators and functions.
 pub mod kinds;
 // Numbers of 8 bytes: the literals Int, Uint and Double.
 pub mod number_literals;

@@ -3,6 +3,7 @@
 ghost use Rattle.std.specs.Prelude.{◌≡◌, ◌+◌, ◌<◌, ◌≤◌, length, get_or};
 ghost use Rattle.table_layout.specs.Layout.{kind_numbers, fields_at, head_bytes, after};
 
+use crate::kind::known;
 use crate::words::{head_bytes, word_at};
 
 pub fn kind_at(table: &[u8], at: usize) -> u8
@@ -25,5 +26,5 @@ pub fn first_operand(table: &[u8], at: usize) -> usize
     requires { (at < length table.now) × (get_or table.now at 0 < kind_numbers) }
     ensures { result ≡ at + head_bytes (get_or table.now at 0) }
 {
-    at + head_bytes(table[at])
+    at + head_bytes(known(table[at]))
 }

@@ -1,25 +1,26 @@
-// Parts of a line, and the numbers in them.
-ghost use Rattle.std.specs.Prelude.{◌≤◌, length};
+// A line as words, with one space between two of them, and the numbers in them.
+use program_words::decimal::number_of;
+use program_words::find;
 
-use program_words::decimal::{Number, number_of};
-
-// Behind a space, or the end where there is none.
-pub fn after(part: &[u8], end: usize) -> usize
-    requires { end ≤ length part.now }
-    ensures { (end ≤ result) × (result ≤ length part.now) }
-{
-    if end < part.len() { end + 1 } else { end }
+// What is left of a line behind the words that were read.
+#[derive(Clone, Copy)]
+pub struct Words<'a> {
+    pub left: &'a [u8],
 }
 
-// The first byte, or 0 where there is none.
-pub fn first(part: &[u8]) -> u8 {
-    if 0 < part.len() { part[0] } else { 0 }
+impl<'a> Words<'a> {
+    // The next word; an empty one where none is left.
+    pub fn next_word(&mut self) -> &'a [u8] {
+        let (word, rest) = self.left.split_at(find(self.left, 0, b' '));
+        self.left = match rest {
+            [] => rest,
+            [_, left @ ..] => left,
+        };
+        word
+    }
 }
 
 // The number that a word spells, or 0 where it spells none.
 pub fn number(word: &[u8]) -> usize {
-    let Number::Is(count) = number_of(word) else {
-        return 0;
-    };
-    count
+    number_of(word).unwrap_or(0)
 }

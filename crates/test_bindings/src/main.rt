@@ -2,11 +2,11 @@
 // Of each call the answer is written, the used counts, and a digest each of the lent cells, the lent text and the slots.
 #![tactic(auto)]
 
-ghost use Rattle.std.specs.Prelude.{◌≡◌, ◌≤◌, length};
+ghost use Rattle.std.specs.Prelude.{◌≡◌, length};
 
-use crate::case::Case;
+use crate::case::{Case, Rooms};
+use crate::line::Words;
 use program_input::read_full;
-use program_words::find;
 use std::io;
 
 mod case;
@@ -26,128 +26,55 @@ const BYTES: usize = 32768;
 // The bytes that one word of the list can spell.
 const SPELLED: usize = 131072;
 
-fn room() -> [u8; ROOM]
-    ensures { 524288 ≡ length result }
+// A function of its own, so that no proof writes the room out element by element.
+fn room<T: Copy, const N: usize>(zero: T) -> [T; N]
+    ensures { length result ≡ N }
 {
-    [0; ROOM]
-}
-
-fn words() -> [u64; WORDS]
-    ensures { 16384 ≡ length result }
-{
-    [0; WORDS]
-}
-
-fn bytes() -> [u8; BYTES]
-    ensures { 32768 ≡ length result }
-{
-    [0; BYTES]
-}
-
-fn spelling() -> [u8; SPELLED]
-    ensures { 131072 ≡ length result }
-{
-    [0; SPELLED]
-}
-
-// Where a deed ends that begins at a place: behind its four words.
-fn deed_end(part: &[u8], from: usize) -> usize
-    requires { from ≤ length part.now }
-    ensures { (from ≤ result) × (result ≤ length part.now) }
-{
-    let first = line::after(part, find(part, from, b' '));
-    let second = line::after(part, find(part, first, b' '));
-    let third = line::after(part, find(part, second, b' '));
-    find(part, third, b' ')
-}
-
-fn deed(
-    rt: &impl Print,
-    part: &[u8],
-    cells: &mut [u64],
-    text: &mut [u8],
-    left: &mut [u8],
-    right: &mut [u8],
-    case: Case,
-) -> io::Result<Case> {
-    let first = line::after(part, find(part, 0, b' '));
-    let first_end = find(part, first, b' ');
-    let second = line::after(part, first_end);
-    let second_end = find(part, second, b' ');
-    let third = line::after(part, second_end);
-    case::act(
-        rt,
-        line::first(part),
-        &part[first..first_end],
-        &part[second..second_end],
-        &part[third..],
-        cells,
-        text,
-        left,
-        right,
-        case,
-    )
+    [zero; N]
 }
 
 // A line: deeds, with a space between two.
-fn answer_line(
-    rt: &impl Print,
-    part: &[u8],
-    cells: &mut [u64],
-    text: &mut [u8],
-    left: &mut [u8],
-    right: &mut [u8],
-) -> io::Result<()> {
-    let mut case = case::fresh();
-    let mut from = 0;
-    while from < part.len() {
-        let end = deed_end(part, from);
-        case = deed(rt, &part[from..end], cells, text, left, right, case)?;
-        from = end + 1;
+fn answer_line(rt: &impl Print, line: &[u8], rooms: &mut Rooms) -> io::Result<()> {
+    let mut case = Case::fresh();
+    let mut words = Words { left: line };
+    // a deed takes at least one byte
+    for _ in 0..line.len() {
+        if words.left.is_empty() {
+            return Ok(());
+        }
+        case.act(rt, &mut words, rooms)?;
     }
     Ok(())
 }
 
 // Answers every line, and says how many there were.
-fn answer_all(
-    rt: &impl Print,
-    list: &[u8],
-    cells: &mut [u64],
-    text: &mut [u8],
-    left: &mut [u8],
-    right: &mut [u8],
-) -> io::Result<usize> {
-    let mut cases = 0;
-    let mut from = 0;
-    while from < list.len() {
-        let end = find(list, from, b'\n');
-        cases += 1;
-        say::number(rt, b"", cases)?;
-        answer_line(rt, &list[from..end], cells, text, left, right)?;
-        say::words(rt, b"\n")?;
-        from = end + 1;
+fn answer_all(rt: &impl Print, list: &[u8], rooms: &mut Rooms) -> io::Result<usize> {
+    let mut cases = 0usize;
+    for line in list.split_inclusive(|byte| *byte == b'\n') {
+        cases = cases.saturating_add(1);
+        print!(rt; "{cases}")?;
+        answer_line(rt, line.strip_suffix(b"\n").unwrap_or(line), rooms)?;
+        println!(rt; "")?;
     }
     Ok(cases)
 }
 
 fn main(rt: HostRuntime) -> io::Result<()> {
-    let mut input = room();
+    let mut input = room::<u8, ROOM>(0);
     let count = read_full(&mut rt.stdin(), &mut input)?;
     if count == ROOM {
-        return say::words(&rt, b"The list is longer than 524287 bytes.\n");
+        return println!(rt; "The list is longer than 524287 bytes.");
     }
-    let mut cells = words();
-    let mut text = bytes();
-    let mut left = spelling();
-    let mut right = spelling();
-    let cases = answer_all(
-        &rt,
-        &input[..count],
-        &mut cells,
-        &mut text,
-        &mut left,
-        &mut right,
-    )?;
-    say::number(&rt, b"", cases)?;
-    say::words(&rt, b" cases\n")
+    let mut cells = room::<u64, WORDS>(0);
+    let mut text = room::<u8, BYTES>(0);
+    let mut left = room::<u8, SPELLED>(0);
+    let mut right = room::<u8, SPELLED>(0);
+    let mut rooms = Rooms {
+        cells: &mut cells,
+        text: &mut text,
+        left: &mut left,
+        right: &mut right,
+    };
+    let cases = answer_all(&rt, &input[..count], &mut rooms)?;
+    println!(rt; "{cases} cases")
 }

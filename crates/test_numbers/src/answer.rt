@@ -1,57 +1,43 @@
 // What a case can answer, and how that is written.
 use numbers::error::ArithmeticError;
-use numbers::order::Order;
-use std::io;
+use std::cmp::Ordering;
+use std::fmt;
 
 #[derive(Clone, Copy)]
 pub enum Answer {
     Bits(u64),
     Error(ArithmeticError),
-    Order(Order),
+    Order(Option<Ordering>),
     Truth(bool),
     Count(usize),
-    Unreadable,
 }
 
-fn say(rt: &impl Print, words: &[u8]) -> io::Result<()> {
-    rt.write_all(words)
-}
-
-// The error's name and number.
-fn write_error(rt: &impl Print, error: ArithmeticError) -> io::Result<()> {
+fn error_name(error: ArithmeticError) -> &'static str {
     match error {
-        ArithmeticError::Overflow => say(rt, b"Overflow ")?,
-        ArithmeticError::DivisionByZero => say(rt, b"DivisionByZero ")?,
-        ArithmeticError::RemainderByZero => say(rt, b"RemainderByZero ")?,
+        ArithmeticError::Overflow => "Overflow",
+        ArithmeticError::DivisionByZero => "DivisionByZero",
+        ArithmeticError::RemainderByZero => "RemainderByZero",
     }
-    let number = numbers::error::number(error);
-    print!(rt; "{number}")
 }
 
-fn write_order(rt: &impl Print, order: Order) -> io::Result<()> {
+fn order_name(order: Option<Ordering>) -> &'static str {
     match order {
-        Order::Less => say(rt, b"Less"),
-        Order::Equal => say(rt, b"Equal"),
-        Order::Greater => say(rt, b"Greater"),
-        Order::Unordered => say(rt, b"Unordered"),
+        Some(Ordering::Less) => "Less",
+        Some(Ordering::Equal) => "Equal",
+        Some(Ordering::Greater) => "Greater",
+        None => "Unordered",
     }
 }
 
-fn write_truth(rt: &impl Print, truth: bool) -> io::Result<()> {
-    if truth {
-        say(rt, b"true")
-    } else {
-        say(rt, b"false")
-    }
-}
-
-pub fn write(rt: &impl Print, answer: Answer) -> io::Result<()> {
-    match answer {
-        Answer::Bits(bits) => print!(rt; "{bits:016x}"),
-        Answer::Error(error) => write_error(rt, error),
-        Answer::Order(order) => write_order(rt, order),
-        Answer::Truth(truth) => write_truth(rt, truth),
-        Answer::Count(count) => print!(rt; "{count}"),
-        Answer::Unreadable => say(rt, b"unreadable"),
+impl fmt::Display for Answer {
+    fn fmt<W: fmt::Write>(&self, f: &mut fmt::Formatter<W>) -> fmt::Result {
+        match *self {
+            Answer::Bits(bits) => write!(f, "{bits:016x}"),
+            // the error's name and number
+            Answer::Error(error) => write!(f, "{} {}", error_name(error), u8::from(error)),
+            Answer::Order(order) => f.write_str(order_name(order)),
+            Answer::Truth(truth) => write!(f, "{truth}"),
+            Answer::Count(count) => write!(f, "{count}"),
+        }
     }
 }

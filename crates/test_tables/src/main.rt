@@ -8,37 +8,28 @@ use program_input::read_full;
 use program_words::find;
 use program_words::hexadecimal::put_pieces;
 use std::io;
-use table_check::Checked;
 
 // Bytes that are read: the longest list, and one byte more, by which a longer one is seen. A table and a text have as much room.
 const ROOM: usize = 524288;
 
-fn room() -> [u8; ROOM]
-    ensures { 524288 ≡ length result }
+// A function of its own, so that no proof writes the room out byte by byte.
+fn room<const N: usize>() -> [u8; N]
+    ensures { length result ≡ N }
 {
-    [0; ROOM]
-}
-
-fn say(rt: &impl Print, words: &[u8]) -> io::Result<()> {
-    rt.write_all(words)
-}
-
-fn say_number(rt: &impl Print, before: &[u8], number: usize) -> io::Result<()> {
-    rt.write_all(before)?;
-    print!(rt; "{number}")
+    [0; N]
 }
 
 fn answer(rt: &impl Print, records: &[u8], literals: &[u8]) -> io::Result<()> {
     match table_check::check(records, literals) {
-        Checked::Accepted => say(rt, b" = accepted\n"),
-        Checked::Refused(number, place) => {
-            say_number(rt, b" = refused ", number as usize)?;
-            say_number(rt, b" at ", place)?;
-            say(rt, b"\n")
+        Ok(()) => println!(rt; " = accepted"),
+        Err(refusal) => {
+            let number = refusal.reason.number();
+            println!(rt; " = refused {number} at {}", refusal.place)
         }
     }
 }
 
+// The table and the text are put into the two rooms, which are apart: slices of two fields of one struct cannot be lent at once.
 fn answer_line(
     rt: &impl Print,
     line: &[u8],
@@ -46,16 +37,14 @@ fn answer_line(
     records: &mut [u8],
     literals: &mut [u8],
 ) -> io::Result<()> {
-    say_number(rt, b"", number)?;
+    print!(rt; "{number}")?;
     let middle = find(line, 0, b' ');
     if middle == line.len() {
-        return say(rt, b" unreadable\n");
+        return println!(rt; " unreadable");
     }
-    let after = middle + 1;
-    let size = put_pieces(&line[0..middle], records);
-    let length = put_pieces(&line[after..], literals);
-    say_number(rt, b" ", size)?;
-    say_number(rt, b" ", length)?;
+    let size = put_pieces(&line[..middle], records);
+    let length = put_pieces(&line[middle + 1..], literals);
+    print!(rt; " {size} {length}")?;
     answer(rt, &records[..size], &literals[..length])
 }
 
@@ -66,26 +55,28 @@ fn answer_all(
     records: &mut [u8],
     literals: &mut [u8],
 ) -> io::Result<usize> {
-    let mut cases = 0;
-    let mut from = 0;
-    while from < list.len() {
-        let end = find(list, from, b'\n');
-        cases += 1;
-        answer_line(rt, &list[from..end], cases, records, literals)?;
-        from = end + 1;
+    let mut cases = 0usize;
+    for line in list.split_inclusive(|byte| *byte == b'\n') {
+        cases = cases.saturating_add(1);
+        answer_line(
+            rt,
+            line.strip_suffix(b"\n").unwrap_or(line),
+            cases,
+            records,
+            literals,
+        )?;
     }
     Ok(cases)
 }
 
 fn main(rt: HostRuntime) -> io::Result<()> {
-    let mut input = room();
+    let mut input = room::<ROOM>();
     let count = read_full(&mut rt.stdin(), &mut input)?;
     if count == ROOM {
-        return say(&rt, b"The list is longer than 524287 bytes.\n");
+        return println!(rt; "The list is longer than 524287 bytes.");
     }
-    let mut records = room();
-    let mut literals = room();
+    let mut records = room::<ROOM>();
+    let mut literals = room::<ROOM>();
     let cases = answer_all(&rt, &input[..count], &mut records, &mut literals)?;
-    say_number(&rt, b"", cases)?;
-    say(&rt, b" cases\n")
+    println!(rt; "{cases} cases")
 }

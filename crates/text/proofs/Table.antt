@@ -4,7 +4,7 @@ use mathlib.Core.Path.{◌≡◌, refl, ap}
 use mathlib.Core.Logic.{inl, inr}
 use mathlib.Core.Bool.{Bool, true, false, cond, ◌&&◌, ◌||◌, and-eq-true_iff, false≢true}
 use mathlib.Core.List.{List, [], ◌∷◌, ◌++◌, tail, nil≢cons}
-use mathlib.Core.Option.{none, some}
+use Rattle.std.specs.Prelude.{None, Some}
 use Prim.Native.Nat.{ℕ, zero, suc, ◌≤◌, ◌<◌}
 use native.Mathlib.Omega.{arith}
 use lib.Dec.{leb, ltb}
@@ -39,6 +39,9 @@ inside-over low high byte h = go (leb low byte)
     go true = lt-leb byte high h
     go false = refl
 
+-- a byte tested against a range's ends
+pub ruleset ranges = (inside-yes, inside_under, inside-over)
+
 -- ---- the rows rise
 -- each row begins at `from` or above, and above where the row before it ends
 rising : ℕ → List (List Range) → Bool
@@ -71,14 +74,14 @@ row-over from ((l to h ∷ rest) ∷ rows) (suc n) e r =
 
 -- a byte that a row begins with opens that row
 row_opens : (from : ℕ) (rows : List (List Range)) (n byte : ℕ) {low high : ℕ} {ranges : List Range} → rising from rows ≡ true
-    → get_or rows n [] ≡ low to high ∷ ranges → inside (low to high) byte ≡ true → opened rows byte ≡ some ranges
+    → get_or rows n [] ≡ low to high ∷ ranges → inside (low to high) byte ≡ true → opened rows byte ≡ Some ranges
 unfolding rising opened
 row_opens from [] n byte e r i = absurd (nil≢cons r)
 row_opens from ([] ∷ rows) n byte e r i = absurd (false≢true e)
 row_opens from ((l to h ∷ rest) ∷ rows) zero byte {low} {high} {ranges} e r i =
     let k : inside (l to h) byte ≡ true = cc in
     let s : rest ≡ ranges = cc in
-    rw k (ap some s)
+    rw k (ap Some s)
 row_opens from ((l to h ∷ rest) ∷ rows) (suc n) byte {low} {high} e r i =
     let a = rises from l h rest rows e in
     let k = row-over (suc h) rows n a.2 r in
@@ -95,19 +98,19 @@ in_row [] byte bytes x' = elim x' [ ]
 in_row ([] ∷ rows) byte bytes (inl m) = elim m [ ]
 
 -- the sequences of a row that a byte opens
-open_row : (rows : List (List Range)) (byte : ℕ) (bytes : List ℕ) (ranges : List Range) → opened rows byte ≡ some ranges → Matches ranges bytes → InRows rows (byte ∷ bytes)
+open_row : (rows : List (List Range)) (byte : ℕ) (bytes : List ℕ) (ranges : List Range) → opened rows byte ≡ Some ranges → Matches ranges bytes → InRows rows (byte ∷ bytes)
 unfolding opened
 open_row [] byte bytes ranges e m = let z : ◌≡◌ {A = ℕ} 0 1 = cc in omega arith
 open_row ([] ∷ rows) byte bytes ranges e m = inr (open_row rows byte bytes ranges e m)
 open_row ((range ∷ rest) ∷ rows) byte bytes ranges e m = go (inside range byte) refl e (open_row rows byte bytes ranges)
   where
-    go : (t : Bool) → inside range byte ≡ t → cond t (some rest) (opened rows byte) ≡ some ranges
-        → (opened rows byte ≡ some ranges → Matches ranges bytes → InRows rows (byte ∷ bytes)) → InRows ((range ∷ rest) ∷ rows) (byte ∷ bytes)
+    go : (t : Bool) → inside range byte ≡ t → cond t (Some rest) (opened rows byte) ≡ Some ranges
+        → (opened rows byte ≡ Some ranges → Matches ranges bytes → InRows rows (byte ∷ bytes)) → InRows ((range ∷ rest) ∷ rows) (byte ∷ bytes)
     go true i k below = let s : ranges ≡ rest = cc in inl (i, rw s at m)
     go false i k below = inr (below k m)
 
 -- below the first row no row begins
-under-rows : (from : ℕ) (rows : List (List Range)) (byte : ℕ) → rising from rows ≡ true → byte < from → opened rows byte ≡ none
+under-rows : (from : ℕ) (rows : List (List Range)) (byte : ℕ) → rising from rows ≡ true → byte < from → opened rows byte ≡ None
 unfolding rising opened
 under-rows from [] byte e h = refl
 under-rows from ([] ∷ rows) byte e h = absurd (false≢true e)
@@ -121,7 +124,7 @@ ending top [] = true
 ending top ([] ∷ rows) = false
 ending top ((low to high ∷ ranges) ∷ rows) = leb high top && ending top rows
 
-over-rows : (top : ℕ) (rows : List (List Range)) (byte : ℕ) → ending top rows ≡ true → top < byte → opened rows byte ≡ none
+over-rows : (top : ℕ) (rows : List (List Range)) (byte : ℕ) → ending top rows ≡ true → top < byte → opened rows byte ≡ None
 unfolding ending opened
 over-rows top [] byte e h = refl
 over-rows top ([] ∷ rows) byte e h = absurd (false≢true e)
@@ -180,27 +183,27 @@ counted (((low to high) ∷ ranges) ∷ rows) [] rest e (inl m) = elim m [ ]
 -- ---- of the table
 -- A byte that a row begins with opens the rest of that row.
 pub begins : (n byte : ℕ) {low high : ℕ} {ranges : List Range} → get_or table n [] ≡ low to high ∷ ranges → low ≤ byte → byte ≤ high
-    → opened table byte ≡ some ranges
+    → opened table byte ≡ Some ranges
 unfolding table rising
 begins n byte {low} {high} r l h = row_opens 0 table n byte refl r (inside-yes low high byte l h)
 
 -- From 0x80 to 0xC1, and above 0xF4, no row begins.
-pub begins-none-under : (byte : ℕ) → 0x80 ≤ byte → byte < 0xC2 → opened table byte ≡ none
+pub begins-none-under : (byte : ℕ) → 0x80 ≤ byte → byte < 0xC2 → opened table byte ≡ None
 unfolding table rising opened
 begins-none-under byte l h = rw (inside-over 0x00 0x7F byte l) (under-rows 0xC2 (tail table) byte refl h)
 
-pub begins-none-over : (byte : ℕ) → 0xF4 < byte → opened table byte ≡ none
+pub begins-none-over : (byte : ℕ) → 0xF4 < byte → opened table byte ≡ None
 unfolding table ending
 begins-none-over byte h = over-rows 0xF4 table byte refl h
 
 -- A sequence of the table is a first byte that opens a row, and what matches the rest of that row.
-pub sequence-opens : (byte : ℕ) (bytes : List ℕ) → InRows table (byte ∷ bytes) → (ranges : List Range) × (opened table byte ≡ some ranges) × Matches ranges bytes
+pub sequence-opens : (byte : ℕ) (bytes : List ℕ) → InRows table (byte ∷ bytes) → (ranges : List Range) × (opened table byte ≡ Some ranges) × Matches ranges bytes
 unfolding table rising
 sequence-opens byte bytes m =
     let r = in_row table byte bytes m in
     (r.3, row_opens 0 table r.0 byte refl r.4 r.5, r.6)
 
-pub opens-sequence : (byte : ℕ) (bytes : List ℕ) (ranges : List Range) → opened table byte ≡ some ranges → Matches ranges bytes → InRows table (byte ∷ bytes)
+pub opens-sequence : (byte : ℕ) (bytes : List ℕ) (ranges : List Range) → opened table byte ≡ Some ranges → Matches ranges bytes → InRows table (byte ∷ bytes)
 opens-sequence byte bytes ranges e m = open_row table byte bytes ranges e m
 
 -- A sequence of the table counts for one.

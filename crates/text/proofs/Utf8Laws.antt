@@ -4,7 +4,7 @@ use mathlib.Core.Path.{◌≡◌, refl, sym, ap, subst, subst⁻¹, ◌∙◌}
 use mathlib.Core.Logic.{◌↔◌}
 use mathlib.Core.Bool.{Bool, true, false, cond, false≢true}
 use mathlib.Core.List.{List, [], ◌∷◌, ◌++◌}
-use mathlib.Core.Option.{Option, none, some}
+use Rattle.std.specs.Prelude.{Option, None, Some}
 use Prim.Native.Nat.{ℕ, zero, suc, ◌+◌, ◌≤◌, ◌<◌}
 use native.Mathlib.Omega.{arith}
 use lib.ListN.{length}
@@ -13,16 +13,16 @@ use Rattle.text.proofs.Table.{inside_under, begins, sequence-opens, opens-sequen
 
 -- ---- what is due
 -- Nothing mends a text that no byte can continue.
-pub never-well-formed : (bytes : List ℕ) → well_formed_from none bytes ≡ false
+pub never-well-formed : (bytes : List ℕ) → well_formed_from None bytes ≡ false
 unfolding well_formed_from
 never-well-formed [] = refl
 never-well-formed (byte ∷ bytes) = never-well-formed bytes
 
-matched : (ranges : List Range) (bytes rest : List ℕ) → Matches ranges bytes → well_formed_from (some ranges) (bytes ++ rest) ≡ well_formed_from (some []) rest
+matched : (ranges : List Range) (bytes rest : List ℕ) → Matches ranges bytes → well_formed_from (Some ranges) (bytes ++ rest) ≡ well_formed_from (Some []) rest
 unfolding well_formed_from
 matched [] [] rest m = refl
 matched (range ∷ ranges) (byte ∷ bytes) rest m =
-    ap (λ (t : Bool). well_formed_from (cond t (some ranges) none) (bytes ++ rest)) m.0 ∙ matched ranges bytes rest m.1
+    ap (λ (t : Bool). well_formed_from (cond t (Some ranges) None) (bytes ++ rest)) m.0 ∙ matched ranges bytes rest m.1
 matched [] (byte ∷ bytes) rest m = elim m [ ]
 matched (range ∷ ranges) [] rest m = elim m [ ]
 
@@ -46,22 +46,22 @@ abbrev Split : List Range → List ℕ → Type 0
 Split ranges bytes =
     (first : List ℕ) × (rest : List ℕ) × (bytes ≡ first ++ rest) × Matches ranges first × (count : ℕ) × Characters rest count
 
-split : (ranges : List Range) (bytes : List ℕ) → well_formed_from (some ranges) bytes ≡ true → Split ranges bytes
+split : (ranges : List Range) (bytes : List ℕ) → well_formed_from (Some ranges) bytes ≡ true → Split ranges bytes
 unfolding well_formed_from
 split [] [] e = ([], [], refl, tt, 0, refl)
 split (range ∷ ranges) [] e = absurd (false≢true e)
 split [] (byte ∷ bytes) e = go (opened table byte) refl e (λ (ranges : List Range). split ranges bytes)
   where
     go : (due : Option (List Range)) → opened table byte ≡ due → well_formed_from due bytes ≡ true
-        → ((ranges : List Range) → well_formed_from (some ranges) bytes ≡ true → Split ranges bytes) → Split [] (byte ∷ bytes)
-    go none o k below = absurd (false≢true (sym (never-well-formed bytes) ∙ k))
-    go (some ranges) o k below =
+        → ((ranges : List Range) → well_formed_from (Some ranges) bytes ≡ true → Split ranges bytes) → Split [] (byte ∷ bytes)
+    go None o k below = absurd (false≢true (sym (never-well-formed bytes) ∙ k))
+    go (Some ranges) o k below =
         let s = below ranges k in
         ([], byte ∷ bytes, refl, tt, suc s.4, (byte ∷ s.0, s.1, ap (λ (l : List ℕ). byte ∷ l) s.2, opens-sequence byte s.0 ranges o s.3, s.5))
 split (range ∷ ranges) (byte ∷ bytes) e = go (inside range byte) refl e (split ranges bytes)
   where
-    go : (t : Bool) → inside range byte ≡ t → well_formed_from (cond t (some ranges) none) bytes ≡ true
-        → (well_formed_from (some ranges) bytes ≡ true → Split ranges bytes) → Split (range ∷ ranges) (byte ∷ bytes)
+    go : (t : Bool) → inside range byte ≡ t → well_formed_from (cond t (Some ranges) None) bytes ≡ true
+        → (well_formed_from (Some ranges) bytes ≡ true → Split ranges bytes) → Split (range ∷ ranges) (byte ∷ bytes)
     go false i k below = absurd (false≢true (sym (never-well-formed bytes) ∙ k))
     go true i k below = let s = below k in (byte ∷ s.0, s.1, ap (λ (l : List ℕ). byte ∷ l) s.2, (i, s.3), s.4, s.5)
 
@@ -100,17 +100,17 @@ pub empty-well-formed : well_formed [] ≡ true
 unfolding well_formed well_formed_from
 empty-well-formed = refl
 
-append-from : (due : Option (List Range)) (xs ys : List ℕ) → well_formed_from due xs ≡ true → well_formed_from due (xs ++ ys) ≡ well_formed_from (some []) ys
+append-from : (due : Option (List Range)) (xs ys : List ℕ) → well_formed_from due xs ≡ true → well_formed_from due (xs ++ ys) ≡ well_formed_from (Some []) ys
 unfolding well_formed_from
-append-from none [] ys e = absurd (false≢true e)
-append-from (some []) [] ys e = refl
-append-from (some (range ∷ ranges)) [] ys e = absurd (false≢true e)
+append-from None [] ys e = absurd (false≢true e)
+append-from (Some []) [] ys e = refl
+append-from (Some (range ∷ ranges)) [] ys e = absurd (false≢true e)
 append-from due (x ∷ xs) ys e = append-from (after due x) xs ys e
 
 -- What follows a well-formed text decides whether the whole is well formed.
 pub append-well-formed : (xs ys : List ℕ) → well_formed xs ≡ true → well_formed (xs ++ ys) ≡ well_formed ys
 unfolding well_formed
-append-well-formed xs ys e = append-from (some []) xs ys e
+append-well-formed xs ys e = append-from (Some []) xs ys e
 
 -- Two well-formed texts, one after the other, are well formed.
 pub joined-well-formed : (xs ys : List ℕ) → well_formed xs ≡ true → well_formed ys ≡ true → well_formed (xs ++ ys) ≡ true

@@ -1,90 +1,79 @@
--- The loops over a text: what holds at a place that they reach, and a law for each way on from there. Assumes nothing.
-use mathlib.Core.Path.{◌≡◌, refl, sym, ◌∙◌}
-use mathlib.Core.Bool.{true, false}
-use mathlib.Core.List.{List}
-use Prim.Native.Nat.{ℕ, zero, suc, ◌+◌, ◌≤◌, ◌<◌}
-use native.Mathlib.Numerals.{add-one}
-use native.Mathlib.Omega.{arith}
-use lib.Bits.{bit_or, or_add_and, and_le_l, and_le_r}
-use lib.ListN.{length, get_or, drop, drop_of_length-le, length-drop}
-use lib.Seq.{drop-cons, drop-drop}
+-- The steps through a text: what a block's bytes joined say, and what is left behind a block and behind a sequence.
+use Rattle.std.proofs.Common.{◌≡◌, refl, sym, ◌∙◌, Bool, true, false, ◌&&◌, ℕ, ◌+◌, ◌-◌, ◌<◌, ◌≤◌, ltb, List, [], ◌∷◌, ◌++◌, length, take, drop, length-drop, length-take, take-suc, take_all, add-zero, fold, None, Some, arith, add-one, get_or, take-append-drop}
+use Rattle.std.specs.Int.Bits.{bit_or}
+use Rattle.std.specs.List.{list_all}
+use Rattle.std.proofs.lemmas.Nat.{or_lt}
+use lib.Bits.{or_add_and, and_le_l, and_le_r}
+use mathlib.Core.Bool.{and-eq-true_iff}
+use borrow.Author.Tests.{lt-ltb, le-ltb, ltb-true, ltb-false}
 use Rattle.text.specs.Utf8.{◌to◌, inside, well_formed, code_points}
-use Rattle.text.specs.declared.utf8.Reach.{Reach}
-use Rattle.text.specs.declared.utf8.Reach.TheVariants.{To, Never}
+use Rattle.text.specs.Passing.{is_ascii, Passes}
 use Rattle.text.specs.Sequence.{sequence_of}
-use Rattle.text.specs.Passing.{joined, Passes, Reaches}
-use Rattle.text.proofs.Utf8Laws.{ascii-well-formed, empty-well-formed}
-use Rattle.text.proofs.SequenceLaws.{sequence-none, sequence-some}
+use Rattle.text.proofs.SequenceLaws.{by-test, within, positive, sequence-some, sequence-none}
+use Rattle.text.proofs.Utf8Laws.{ascii-well-formed, empty-well-formed, append-code-points, code-points-length}
 
--- ---- well-formedness
-pub passes-start : {bytes : List ℕ} {i : ℕ} → i ≤ length bytes → Passes bytes i i
-passes-start h = record { forward = omega arith; within = h; formed = refl }
+-- ---- a block
+or-ascii : (a b : ℕ) → is_ascii (bit_or a b) ≡ (is_ascii a && is_ascii b)
+or-ascii a b =
+    let e = or_add_and a b in
+    let f = and_le_l a b in
+    let g = and_le_r a b in
+    by-test (ltb a 0x80)
+    (λ s. by-test (ltb b 0x80)
+    (λ t. rw (s, t) (lt-ltb (bit_or a b) 0x80 (or_lt 7 a b (ltb-true a 0x80 s) (ltb-true b 0x80 t))))
+    (λ t. let k = ltb-false b 0x80 t in rw (s, t) (le-ltb (bit_or a b) 0x80 (omega (arith, e, f)))))
+    (λ s. let k = ltb-false a 0x80 s in rw s (le-ltb (bit_or a b) 0x80 (omega (arith, e, g))))
 
-pub passes_on : {bytes : List ℕ} {i j k : ℕ} → Passes bytes i j → Passes bytes j k → Passes bytes i k
-passes_on a b = record { forward = omega (arith, a.forward, b.forward); within = b.within; formed = b.formed ∙ a.formed }
+pub joined-ascii : (seen : ℕ) (bytes : List ℕ) → is_ascii (fold bit_or seen bytes) ≡ (is_ascii seen && list_all is_ascii bytes)
+joined-ascii seen [] = ends (is_ascii seen)
+  where
+    ends : (t : Bool) → t ≡ (t && true)
+    ends true = refl
+    ends false = refl
+joined-ascii seen (byte ∷ bytes) = joined-ascii (bit_or seen byte) bytes ∙ (rw (or-ascii seen byte) (grouped (is_ascii seen) (is_ascii byte) (list_all is_ascii bytes)))
+  where
+    grouped : (s t u : Bool) → ((s && t) && u) ≡ (s && (t && u))
+    grouped true t u = refl
+    grouped false t u = refl
 
--- of bytes that are joined below 0x80, each is
-or-under : (a b : ℕ) → bit_or a b < 0x80 → (a < 0x80) × (b < 0x80)
-or-under a b h = let e = or_add_and a b in let f = and_le_l a b in let g = and_le_r a b in (omega (arith, e, g, h), omega (arith, e, f, h))
+ascii-passes : (bytes rest : List ℕ) → list_all is_ascii bytes ≡ true → well_formed (bytes ++ rest) ≡ well_formed rest
+ascii-passes [] rest e = refl
+ascii-passes (byte ∷ bytes) rest e =
+    let a = (and-eq-true_iff (is_ascii byte) (list_all is_ascii bytes)).0 e in
+    ascii-well-formed byte (bytes ++ rest) (ltb-true byte 0x80 a.0) ∙ ascii-passes bytes rest a.1
 
-ascii-passes : (bytes : List ℕ) (i n : ℕ) → i + n ≤ length bytes → joined bytes i n < 0x80 → well_formed (drop (i + n) bytes) ≡ well_formed (drop i bytes)
-ascii-passes bytes i zero h e = let p : i + 0 ≡ i = omega arith in rw p
-ascii-passes bytes i (suc n) h e =
-    let a = or-under (joined bytes i n) (get_or bytes (i + n) 0) e in
-    let p : i + suc n ≡ suc (i + n) = omega arith in
-    rw p
-    (sym (ascii-well-formed (get_or bytes (i + n) 0) (drop (suc (i + n)) bytes) a.1) ∙
-    (rw (← drop-cons bytes (i + n) 0 (omega arith)) (ascii-passes bytes i n (omega arith) a.0)))
+-- ---- what is left
+pub passes_block : (text rest : List ℕ) (n : ℕ) → Passes text rest → list_all is_ascii (take n rest) ≡ true → Passes text (drop n rest)
+passes_block text rest n a e = record {
+  within = let l = length-drop n rest in omega (arith, l, a.within);
+  formed = sym (ascii-passes (take n rest) (drop n rest) e) ∙ (rw (take-append-drop n rest) a.formed);
+}
 
-module _ {bytes : List ℕ} {s i : ℕ} (a : Passes bytes s i) where
-  pub passes-block : (n : ℕ) → i + n ≤ length bytes → joined bytes i n < 0x80 → Passes bytes s (i + n)
-  passes-block n h e = passes_on a (record { forward = omega arith; within = h; formed = ascii-passes bytes i n h e })
+pub passes_sequence : (text rest : List ℕ) (n m : ℕ) → Passes text rest → sequence_of rest ≡ Some n → m ≡ length rest - n → Passes text (take m (drop n rest))
+passes_sequence text rest n m a e h =
+    let l = length-drop n rest in
+    rw (take_all m (drop n rest) (omega arith)) (record { within = omega (arith, l, a.within); formed = (sequence-some rest n e).formed ∙ a.formed })
 
-  pub passes-sequence : {n : ℕ} → i < length bytes → n ≡ sequence_of (drop i bytes) → (n ≡ 0 → ⊥) → Passes bytes s (i + n)
-  passes-sequence {n} h e z =
-      let f = sequence-some (drop i bytes) n (sym e) z in
-      let l = length-drop i bytes in
-      passes_on a (record { forward = omega arith; within = omega (arith, f.0, l); formed = rw (← drop-drop n i bytes) f.1 })
+pub passes_nowhere : (text rest : List ℕ) → Passes text rest → 0 < length rest → sequence_of rest ≡ None → well_formed text ≡ false
+passes_nowhere text rest a h e = sym a.formed ∙ sequence-none rest h e
 
-  pub passes-nowhere : i < length bytes → 0 ≡ sequence_of (drop i bytes) → well_formed (drop s bytes) ≡ false
-  passes-nowhere h e = sym a.formed ∙ sequence-none (drop i bytes) (let l = length-drop i bytes in omega (arith, l)) (sym e)
+pub empty_formed : (text : List ℕ) → length text ≡ 0 → well_formed text ≡ true
+empty_formed [] h = empty-well-formed
+empty_formed (byte ∷ bytes) h = absurd (omega (arith, h))
 
-pub passes-never : {bytes : List ℕ} {i : ℕ} (end : ℕ) {r : Reach} → Passes bytes 0 i → Reaches bytes i end r → r ≡ Never → false ≡ well_formed bytes
-passes-never end a b e = sym (rw e at b) ∙ a.formed
-
-pub passes-to : {bytes : List ℕ} {i : ℕ} (end : ℕ) {r : Reach} {j : ℕ} → Passes bytes 0 i → Reaches bytes i end r → r ≡ To j → Passes bytes 0 j × (end ≤ j)
-passes-to end a b e = let d = rw e at b in (passes_on a d.0, d.1)
-
-pub passed-all : {bytes : List ℕ} {i : ℕ} → Passes bytes 0 i → length bytes ≤ i → true ≡ well_formed bytes
-passed-all {bytes} a h = sym empty-well-formed ∙ (rw (drop_of_length-le bytes h) at a.formed)
+pub ruleset sequence_steps = (within, positive, passes_sequence, passes_nowhere)
 
 -- ---- the count
--- the count so far and that of what is left make that of the text
-pub record CountAt (bytes : List ℕ) (count i : ℕ) : Type 0 where
-  pub within : i ≤ length bytes
-  pub few : count ≤ i
-  pub all : count + code_points (drop i bytes) ≡ code_points bytes
+module _ (bytes : List ℕ) (i : ℕ) where
+  pub few : code_points (take i bytes) ≤ i
+  few = let l = code-points-length (take i bytes) in let k = length-take i bytes in omega (arith, l, k)
 
-pub count-start : (bytes : List ℕ) → CountAt bytes 0 0
-count-start bytes = record { within = omega arith; few = omega arith; all = omega arith }
-
-module _ {bytes : List ℕ} {count i : ℕ} (a : CountAt bytes count i) where
-  pub count-ended : length bytes ≤ i → count ≡ code_points bytes
+  pub more-first : i < length bytes → inside (0x80 to 0xBF) (get_or bytes i 0) ≡ false → code_points (take (i + 1) bytes) ≡ code_points (take i bytes) + 1
   unfolding code_points
-  count-ended h = let e = rw (drop_of_length-le bytes h) at a.all in omega arith
+  more-first h e = rw (add-one i, take-suc bytes i 0 h, append-code-points (take i bytes) (get_or bytes i 0 ∷ []), e) refl
 
-  pub count-first : i < length bytes → inside (0x80 to 0xBF) (get_or bytes i 0) ≡ false → CountAt bytes (count + 1) (i + 1)
+  pub more-continued : i < length bytes → inside (0x80 to 0xBF) (get_or bytes i 0) ≡ true → code_points (take (i + 1) bytes) ≡ code_points (take i bytes)
   unfolding code_points
-  count-first h e = record {
-    within = omega arith;
-    few = omega arith;
-    all = rw (add-one i) (let f = rw (drop-cons bytes i 0, e) at a.all in omega arith);
-  }
+  more-continued h e = rw (add-one i, take-suc bytes i 0 h, append-code-points (take i bytes) (get_or bytes i 0 ∷ []), e, add-zero)
 
-  pub count-continued : i < length bytes → inside (0x80 to 0xBF) (get_or bytes i 0) ≡ true → CountAt bytes count (i + 1)
-  unfolding code_points
-  count-continued h e = record {
-    within = omega arith;
-    few = omega arith;
-    all = rw (add-one i) (rw (drop-cons bytes i 0, e) at a.all);
-  }
+pub ruleset counting = (few, more-first, more-continued)

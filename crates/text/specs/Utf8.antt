@@ -1,7 +1,6 @@
 -- UTF-8, from Unicode's table 3-7 of well-formed byte sequences: the table; what a text made of its sequences is; the test
 -- that the code's contract cites; and the count of code points. A text is any list of numbers.
-use Rattle.std.specs.Prelude.{◌≡◌, ◌⊎◌, Bool, true, false, cond, ◌&&◌, List, [], ◌∷◌, ◌++◌, ℕ, zero, suc, leb}
-use Rattle.std.proofs.Math.Option.{Option, none, some}
+use Rattle.std.specs.Prelude.{◌≡◌, ◌⊎◌, Bool, true, false, cond, ◌&&◌, List, [], ◌∷◌, ◌++◌, ℕ, zero, suc, leb, Option, None, Some}
 
 infix 80 ◌to◌
 -- the numbers from the first to the second, both included
@@ -45,21 +44,21 @@ Characters bytes (suc count) =
 
 -- what is due after a sequence's first byte: the rest of the first row that begins with it; `none` where no row does
 unfoldable pub opened : List (List Range) → ℕ → Option (List Range)
-opened [] byte = none
+opened [] byte = None
 opened ([] ∷ rows) byte = opened rows byte
-opened ((range ∷ ranges) ∷ rows) byte = cond (inside range byte) (some ranges) (opened rows byte)
+opened ((range ∷ ranges) ∷ rows) byte = cond (inside range byte) (Some ranges) (opened rows byte)
 
 -- what is due after one more byte, from what was due before it
 abbrev pub after : Option (List Range) → ℕ → Option (List Range)
-after none byte = none
-after (some []) byte = opened table byte
-after (some (range ∷ ranges)) byte = cond (inside range byte) (some ranges) none
+after None byte = None
+after (Some []) byte = opened table byte
+after (Some (range ∷ ranges)) byte = cond (inside range byte) (Some ranges) None
 
 -- a text may end where nothing is due
 abbrev pub complete : Option (List Range) → Bool
-complete none = false
-complete (some []) = true
-complete (some (range ∷ ranges)) = false
+complete None = false
+complete (Some []) = true
+complete (Some (range ∷ ranges)) = false
 
 -- every byte meets what is due before it, and nothing is due after the last
 unfoldable pub well_formed_from : Option (List Range) → List ℕ → Bool
@@ -67,7 +66,7 @@ well_formed_from due [] = complete due
 well_formed_from due (byte ∷ bytes) = well_formed_from (after due byte) bytes
 
 unfoldable pub well_formed : List ℕ → Bool
-well_formed bytes = well_formed_from (some []) bytes
+well_formed bytes = well_formed_from (Some []) bytes
 
 -- How many of the bytes do not continue a code point, as those from 0x80 to 0xBF do. In well-formed text that is how many
 -- code points there are.

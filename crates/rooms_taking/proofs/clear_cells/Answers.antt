@@ -1,11 +1,12 @@
 -- `clear_cells` meets its contract. Assumes nothing.
-use mathlib.Core.Path.{◌∙◌}
+use Prim.Native.Nat.{◌*◌}
+use mathlib.Core.Path.{refl, ◌∙◌}
 use native.Mathlib.Omega.{arith}
+use Rattle.rooms_taking.proofs.Cleared.{cleared}
 use Rattle.rooms_taking.proofs.TakingSteps.{cells-cleared}
 use Rattle.rooms_taking.proofs.clear_cells.Goals as goal
 
-pub returns-then-room-used : goal.returns-then-room-used
-returns-then-room-used c = c.clear_words.ensures ∙ cells-cleared c.args.cells.now c.args.used _ (omega (arith, c.if-room-used.true))
-
 pub returns : goal.returns
-returns c = c.clear_words-2.ensures ∙ cells-cleared c.args.cells.now c.args.used _ (omega (arith, c.if-room-used.false))
+returns c =
+    cleared c.args.cells.now c.fill.new.self 0 (c.min-cleared.result * 2) (c.min-cleared.result * 2) refl (omega (arith, c.min-cleared.ensures)) (c.fill.ensures.after (λ y e. e))
+    ∙ cells-cleared c.args.cells.now c.args.used (c.min-cleared.result * 2) (omega (arith, c.min-cleared.ensures))

@@ -1,24 +1,44 @@
 -- `take_cells` meets its contract. Assumes nothing.
-use mathlib.Core.Path.{ap, ◌∙◌}
+use Prim.Native.Nat.{◌+◌, ◌≤◌, ◌*◌, ◌-◌}
+use mathlib.Core.Path.{◌≡◌, sym, ap, ◌∙◌}
 use native.Mathlib.Omega.{arith}
-use Rattle.rooms_taking.specs.Taking.{taken_of}
-use Rattle.rooms_taking.proofs.TakingSteps.{taken-over, taken-full, taken-to, cells-kept, cells-taken}
+use Rattle.rooms_taking.specs.Taking.{cell_room, taken_of}
+use Rattle.rooms_taking.proofs.Cleared.{cleared}
+use Rattle.rooms_taking.proofs.TakingSteps.{taken-in, taken-none, cells-kept, cells-taken}
 use Rattle.rooms_taking.proofs.take_cells.Goals as goal
 
-pub returns-then-room-used : goal.returns-then-room-used
-returns-then-room-used c = (taken-over _ c.args.used c.args.count c.if-room-used.true ∙ ap (λ n. taken_of n c.args.used c.args.count) c.cell_room-room.ensures, cells-kept c.args.cells.now c.args.used c.args.count (omega (arith, c.cell_room-room.ensures, c.if-room-used.true)))
+-- the room, and what was taken of it
+within : (c : goal.In_ok-taken) → (c.in_ok-taken.taken ≡ c.args.used + c.args.count) × (c.args.used + c.args.count ≤ cell_room c.args.cells.now)
+within c = taken-in (cell_room c.args.cells.now) c.args.used c.args.count c.in_ok-taken.taken (ap (λ n. taken_of n c.args.used c.args.count) (sym c.cell_room.ensures) ∙ sym c.take_room.ensures ∙ c.in_ok-taken.was)
 
-pub returns-then-room-used-2 : goal.returns-then-room-used-2
-returns-then-room-used-2 c = (taken-full _ c.args.used c.args.count c.if-room-used.false c.if-room-used-2.true ∙ ap (λ n. taken_of n c.args.used c.args.count) c.cell_room-room.ensures, cells-kept c.args.cells.now c.args.used c.args.count (omega (arith, c.cell_room-room.ensures, c.if-room-used.false, c.if-room-used-2.true)))
+pub returns-in_err-taken : goal.returns-in_err-taken
+returns-in_err-taken c = (
+  c.from_residual.ensures ∙ sym c.in_err-taken.was ∙ c.take_room.ensures ∙ ap (λ n. taken_of n c.args.used c.args.count) c.cell_room.ensures,
+  cells-kept c.args.cells.now c.args.used c.args.count (taken-none _ c.args.used c.args.count (ap (λ n. taken_of n c.args.used c.args.count) (sym c.cell_room.ensures) ∙ sym c.take_room.ensures ∙ c.in_err-taken.was)),
+)
 
 pub overflow_mul-used : goal.overflow_mul-used
-overflow_mul-used c = record { fits = omega (arith, c.cell_room-room.ensures, c.if-room-used.false, c.if-room-used-2.false, c.well_formed.0.0) }
+overflow_mul-used c = record { fits = omega (arith, (within c).1, c.well_formed.0.0) }
 
-pub overflow_mul-count : goal.overflow_mul-count
-overflow_mul-count c = record { fits = omega (arith, c.cell_room-room.ensures, c.if-room-used.false, c.if-room-used-2.false, c.well_formed.0.0) }
+pub overflow_mul-taken : goal.overflow_mul-taken
+overflow_mul-taken c = record { fits = omega (arith, (within c).0, (within c).1, c.well_formed.0.0) }
 
-pub clear_words-requires : goal.clear_words-requires
-clear_words-requires c = omega (arith, c.cell_room-room.ensures, c.if-room-used.false, c.if-room-used-2.false)
+pub offset_bounds-cells-used : goal.offset_bounds-cells-used
+offset_bounds-cells-used c = record { fits = omega (arith, (within c).1, c.well_formed.0.0) }
+
+pub slice_bounds-fill-count : goal.slice_bounds-fill-count
+slice_bounds-fill-count c = omega (arith, (within c).0)
+
+pub slice_bounds-fill-start : goal.slice_bounds-fill-start
+slice_bounds-fill-start c = omega (arith, (within c).0, (within c).1)
+
+pub slice_bounds-fill-end : goal.slice_bounds-fill-end
+slice_bounds-fill-end c = omega (arith, (within c).0, (within c).1)
 
 pub returns : goal.returns
-returns c = (taken-to _ c.args.used c.args.count c.if-room-used.false c.if-room-used-2.false ∙ ap (λ n. taken_of n c.args.used c.args.count) c.cell_room-room.ensures, c.clear_words.ensures ∙ cells-taken c.args.cells.now c.args.used c.args.count (omega (arith, c.cell_room-room.ensures, c.if-room-used.false, c.if-room-used-2.false)))
+returns c =
+    let within = taken-in (cell_room c.args.cells.now) c.args.used c.args.count c.in_ok-taken.taken (ap (λ n. taken_of n c.args.used c.args.count) (sym c.cell_room.ensures) ∙ sym c.take_room.ensures ∙ c.in_ok-taken.was) in (
+      sym c.in_ok-taken.was ∙ c.take_room.ensures ∙ ap (λ n. taken_of n c.args.used c.args.count) c.cell_room.ensures,
+      cleared c.args.cells.now c.fill.new.self (c.args.used * 2) (c.in_ok-taken.taken * 2 - c.args.used * 2) (c.args.count * 2) (omega (arith, within.0)) (omega (arith, within.0, within.1)) (c.fill.ensures.after (λ y e. e))
+          ∙ cells-taken c.args.cells.now c.args.used c.args.count within.1,
+    )

@@ -1,12 +1,15 @@
--- `append_result::copy_runs` meets its contract. Assumes nothing.
-use Prim.Native.Nat.{◌+◌, ◌*◌, ◌≤◌, ◌<◌}
+-- `append_result::copy_runs` meets its contract: what is left of the runs is still to be copied. Assumes nothing.
+use Prim.Native.Nat.{◌+◌, ◌*◌, ◌-◌, ◌<◌}
 use mathlib.Core.Path.{◌≡◌}
-use lib.ListN as Lists
-use Rattle.machine.specs.Comprehension.{runs_copied}
+use Rattle.rooms.specs.Memory.{rooms_lent}
+use Rattle.eval_comprehension.proofs.AppendResultLaws.{copies}
 use Rattle.eval_comprehension.proofs.append_result.copy_runs.Given as goal
 
-abbrev pub invariant-loop-left : goal.invariant-loop-left
-invariant-loop-left l = (Lists.length l.cells ≡ Lists.length l.initial.cells) × (l.run + l.left ≤ 4294967296) × (l.place + l.left * 65535 < 281474976710656) × (runs_copied l.binding_cells l.firsts l.counts l.left l.run l.place l.cells ≡ runs_copied l.binding_cells l.firsts l.counts l.runs 0 l.to l.initial.cells)
-
-abbrev pub decreases-loop-left : goal.decreases-loop-left
-decreases-loop-left l = l.left
+abbrev pub invariant-loop-index : goal.invariant-loop-index
+invariant-loop-index l = record {
+  same_literal : l.lent.literal.now ≡ l.initial.lent.literal.now;
+  same_cells : l.lent.cells.ghost_name ≡ l.initial.lent.cells.ghost_name;
+  same_text : l.lent.text.ghost_name ≡ l.initial.lent.text.ghost_name;
+  room : l.place + (l.collected.runs - l.index) * 65535 < 281474976710656;
+  left : copies l.collected l.index l.place (rooms_lent l.lent) ≡ copies l.collected 0 l.to (rooms_lent l.initial.lent);
+}

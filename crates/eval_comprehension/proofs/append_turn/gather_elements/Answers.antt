@@ -4,14 +4,8 @@ use native.Mathlib.Omega.{arith}
 use Rattle.eval_outcomes.proofs.Taking.{cells-within}
 use Rattle.eval_comprehension.proofs.append_turn.gather_elements.Goals as goal
 
-pub returns-in_default : goal.returns-in_default
-returns-in_default c = simp (← c.take_cells.ensures.1, ← c.take_cells.ensures.0, c.in_default.is, ← c.out_of_cells.ensures)
-
-pub overflow_cast-to : goal.overflow_cast-to
-overflow_cast-to c = record { fits = omega (arith, cells-within c.args.cells.now c.args.used.cells _ _ (sym c.in-To.is ∙ c.take_cells.ensures.0)) }
-
 pub copy_cells-requires : goal.copy_cells-requires
-copy_cells-requires c = omega (arith, cells-within c.args.cells.now c.args.used.cells _ _ (sym c.in-To.is ∙ c.take_cells.ensures.0))
+copy_cells-requires c = omega (arith, cells-within c.args.lent.now.cells.now c.args.used.cells _ _ (sym c.in-Some.is ∙ c.take_cells.ensures.0))
 
-pub returns : goal.returns
-returns c = simp (← c.take_cells.ensures.1, ← c.take_cells.ensures.0, c.in-To.is, ← c.copy_cells.ensures, ← c.with_cells.ensures)
+pub overflow_cast-run : goal.overflow_cast-run
+overflow_cast-run c = record { fits = omega (arith, cells-within c.args.lent.now.cells.now c.args.used.cells _ _ (sym c.in-Some.is ∙ c.take_cells.ensures.0)) }

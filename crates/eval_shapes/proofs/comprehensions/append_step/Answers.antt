@@ -13,8 +13,8 @@ guarded_step-requires c = (c.requires, sym c.kind_at.ensures ∙ c.if-kind_at-eq
 pub returns-then-kind_at-eq-CONDITIONAL : goal.returns-then-kind_at-eq-CONDITIONAL
 returns-then-kind_at-eq-CONDITIONAL c = c.guarded_step.ensures
 
-pub returns-in-At : goal.returns-in-At
-returns-in-At c = step-found c.args.table.now c.args.literal.now c.args.step c.requires (λ k. c.if-kind_at-eq-CONDITIONAL.false (c.kind_at.ensures ∙ k)) c.args.accumulator c.items_of.result c.in-At.list c.in-At.is c.items_of.ensures
+pub returns : goal.returns
+returns c = step-found c.args.table.now c.args.literal.now c.args.step c.requires (λ k. c.if-kind_at-eq-CONDITIONAL.false (c.kind_at.ensures ∙ k)) c.args.accumulator c.in_ok-list.list c.in_ok-list.ensures
 
-pub returns-in-No : goal.returns-in-No
-returns-in-No c = (step-unlisted c.args.table.now c.args.literal.now c.args.step c.requires (λ k. c.if-kind_at-eq-CONDITIONAL.false (c.kind_at.ensures ∙ k)) c.args.accumulator c.items_of.result c.in-No.is c.items_of.ensures.0, tt)
+pub returns-in_err-list : goal.returns-in_err-list
+returns-in_err-list c = rw c.from_residual.ensures (step-unlisted c.args.table.now c.args.literal.now c.args.step c.requires (λ k. c.if-kind_at-eq-CONDITIONAL.false (c.kind_at.ensures ∙ k)) c.args.accumulator c.in_err-list.ensures.0, tt)

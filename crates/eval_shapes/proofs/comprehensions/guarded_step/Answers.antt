@@ -23,8 +23,8 @@ returns-then-not-is_name c = (guard-missing c.args.table.now c.args.literal.now 
 pub items_of-requires : goal.items_of-requires
 items_of-requires c = (guard-sound c.args.table.now c.args.literal.now c.args.step c.requires.0 c.requires.1 c.args.accumulator c.first_operand-guard.result c.first_operand-guard.ensures c.end_at-then.result c.end_at-then.ensures c.end_at.result c.end_at.ensures).1.0
 
-pub returns-in-At : goal.returns-in-At
-returns-in-At c = guard-found c.args.table.now c.args.literal.now c.args.step c.requires.0 c.requires.1 c.args.accumulator c.first_operand-guard.result c.first_operand-guard.ensures c.end_at-then.result c.end_at-then.ensures c.end_at.result c.end_at.ensures (sym (c.if-not-is_name.false) ∙ c.is_name.ensures) c.items_of.result c.in-At.list c.in-At.is c.items_of.ensures
+pub returns : goal.returns
+returns c = guard-found c.args.table.now c.args.literal.now c.args.step c.requires.0 c.requires.1 c.args.accumulator c.first_operand-guard.result c.first_operand-guard.ensures c.end_at-then.result c.end_at-then.ensures c.end_at.result c.end_at.ensures (sym (c.if-not-is_name.false) ∙ c.is_name.ensures) c.in_ok-list.list c.in_ok-list.ensures
 
-pub returns-in-No : goal.returns-in-No
-returns-in-No c = (guard-unlisted c.args.table.now c.args.literal.now c.args.step c.requires.0 c.requires.1 c.args.accumulator c.first_operand-guard.result c.first_operand-guard.ensures c.end_at-then.result c.end_at-then.ensures c.end_at.result c.end_at.ensures (sym (c.if-not-is_name.false) ∙ c.is_name.ensures) c.items_of.result c.in-No.is c.items_of.ensures.0, tt)
+pub returns-in_err-list : goal.returns-in_err-list
+returns-in_err-list c = rw c.from_residual.ensures (guard-unlisted c.args.table.now c.args.literal.now c.args.step c.requires.0 c.requires.1 c.args.accumulator c.first_operand-guard.result c.first_operand-guard.ensures c.end_at-then.result c.end_at-then.ensures c.end_at.result c.end_at.ensures (sym (c.if-not-is_name.false) ∙ c.is_name.ensures) c.in_err-list.ensures.0, tt)

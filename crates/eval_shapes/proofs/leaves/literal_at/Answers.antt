@@ -20,11 +20,11 @@ bits_at-requires c = (opened c.args.table.now c.args.literal.now c.args.at uint_
 pub bits_at-requires-in-4 : goal.bits_at-requires-in-4
 bits_at-requires-in-4 c = (opened c.args.table.now c.args.literal.now c.args.at double_kind (c.requires.1 ∙ c.in-4.is) c.requires.0).body
 
-pub string_at-requires : goal.string_at-requires
-string_at-requires c = (opened c.args.table.now c.args.literal.now c.args.at string_kind (c.requires.1 ∙ c.in-5.is) c.requires.0).body
+pub literal_span-requires : goal.literal_span-requires
+literal_span-requires c = (opened c.args.table.now c.args.literal.now c.args.at string_kind (c.requires.1 ∙ c.in-5.is) c.requires.0).body
 
-pub bytes_at-requires : goal.bytes_at-requires
-bytes_at-requires c = (opened c.args.table.now c.args.literal.now c.args.at bytes_kind (c.requires.1 ∙ c.in-6.is) c.requires.0).body
+pub literal_span-requires-in-6 : goal.literal_span-requires-in-6
+literal_span-requires-in-6 c = (opened c.args.table.now c.args.literal.now c.args.at bytes_kind (c.requires.1 ∙ c.in-6.is) c.requires.0).body
 
 pub returns-in-1 : goal.returns-in-1
 returns-in-1 c = rw ((opened c.args.table.now c.args.literal.now c.args.at bool_kind (c.requires.1 ∙ c.in-1.is) c.requires.0).is, c.number_at.ensures)
@@ -39,10 +39,10 @@ pub returns-in-4 : goal.returns-in-4
 returns-in-4 c = rw ((opened c.args.table.now c.args.literal.now c.args.at double_kind (c.requires.1 ∙ c.in-4.is) c.requires.0).is, c.double_value.ensures, c.bits_at-in-4.ensures)
 
 pub returns-in-5 : goal.returns-in-5
-returns-in-5 c = rw ((opened c.args.table.now c.args.literal.now c.args.at string_kind (c.requires.1 ∙ c.in-5.is) c.requires.0).is, c.string_at.ensures)
+returns-in-5 c = rw ((opened c.args.table.now c.args.literal.now c.args.at string_kind (c.requires.1 ∙ c.in-5.is) c.requires.0).is, c.literal_span.ensures)
 
 pub returns-in-6 : goal.returns-in-6
-returns-in-6 c = rw ((opened c.args.table.now c.args.literal.now c.args.at bytes_kind (c.requires.1 ∙ c.in-6.is) c.requires.0).is, c.bytes_at.ensures)
+returns-in-6 c = rw ((opened c.args.table.now c.args.literal.now c.args.at bytes_kind (c.requires.1 ∙ c.in-6.is) c.requires.0).is, c.literal_span-in-6.ensures)
 
 pub returns-in_default : goal.returns-in_default
 returns-in_default c = let z : c.args.kind ≡ 0 = only_null c.args.kind c.requires.2 c.in_default.in_default-own.rest.0.0.0.0.0.1 c.in_default.in_default-own.rest.0.0.0.0.1 c.in_default.in_default-own.rest.0.0.0.1 c.in_default.in_default-own.rest.0.0.1 c.in_default.in_default-own.rest.0.1 c.in_default.in_default-own.rest.1 in rw (opened c.args.table.now c.args.literal.now c.args.at null_kind (c.requires.1 ∙ z) c.requires.0).is

@@ -1,18 +1,10 @@
 -- `shortening::put_cut` meets its contract. Assumes nothing.
 use borrow.Author.Rules.{rules}
-use Prim.Native.Nat.{◌+◌}
-use native.Mathlib.Omega.{arith}
-use Rattle.line_answers.proofs.Cut.{prefix, cut-full, cut-longer, cut-whole}
+use Rattle.line_answers.proofs.Cut.{cut_longer, cut_whole}
 use Rattle.line_answers.proofs.shortening.put_cut.Goals as goal
 
-pub returns-then-out-most : goal.returns-then-out-most
-returns-then-out-most c = search (rules, cut-full)
-
-pub slice_bounds-put_value-end-2 : goal.slice_bounds-put_value-end-2
-slice_bounds-put_value-end-2 c = prefix (c.args.most + 1) c.args.out.now (omega (arith, c.if-out-most.false))
-
-pub returns-then-most-next : goal.returns-then-most-next
-returns-then-most-next c = search (rules, cut-longer)
+pub returns-then-next-most : goal.returns-then-next-most
+returns-then-next-most c = search (rules, cut_whole)
 
 pub returns : goal.returns
-returns c = search (rules, cut-whole)
+returns c = search (rules, cut_longer _ _ _ _ _ c.if-out-most.false c.put_start-next.ensures c.if-next-most.false)

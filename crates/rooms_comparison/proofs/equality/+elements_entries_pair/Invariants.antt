@@ -1,21 +1,16 @@
 -- `equality::pair`, `elements` and `entries`, which call one another, meet their contracts: the depth falls. Assumes nothing.
-use Prim.Native.Nat.{◌+◌, ◌≤◌, ◌*◌}
+use Prim.Native.Nat.{◌+◌, ◌*◌}
 use mathlib.Core.Path.{◌≡◌}
-use Rattle.rooms.specs.Rooms.{rooms}
+use Rattle.rooms.specs.Memory.{rooms_seen}
 use Rattle.rooms_comparison.specs.Equality.{elements_equal, equal_in, entries_equal}
+use Rattle.rooms_comparison.proofs.EqualitySteps.{compared, matched}
 use Rattle.rooms_comparison.proofs.equality.+elements_entries_pair.Given as goal
 
-abbrev pub invariant-elements-loop-left : goal.invariant-elements-loop-left
-invariant-elements-loop-left l = (l.at + l.left ≤ 200000) × (l.other + l.left ≤ 200000) × (elements_equal (λ v w j. equal_in l.depth l.limit (rooms l.literal l.binding_cells l.binding_text l.cells l.text) v w j) (rooms l.literal l.binding_cells l.binding_text l.cells l.text) l.space l.at l.there l.other l.left l.pairs ≡ elements_equal (λ v w j. equal_in l.depth l.limit (rooms l.literal l.binding_cells l.binding_text l.cells l.text) v w j) (rooms l.literal l.binding_cells l.binding_text l.cells l.text) l.space l.first l.there l.from l.length l.steps)
+abbrev pub invariant-elements-loop-done : goal.invariant-elements-loop-done
+invariant-elements-loop-done l = compared (λ v w j. equal_in l.depth l.limit (rooms_seen l.view) v w j) (rooms_seen l.view) l.row l.there l.done l.pairs ≡ elements_equal (λ v w j. equal_in l.depth l.limit (rooms_seen l.view) v w j) (rooms_seen l.view) l.row.space l.row.first l.there.space l.there.first l.row.length l.steps
 
-abbrev pub decreases-elements-loop-left : goal.decreases-elements-loop-left
-decreases-elements-loop-left l = l.left
-
-abbrev pub invariant-entries-loop-left : goal.invariant-entries-loop-left
-invariant-entries-loop-left l = (l.at + l.left * 2 ≤ 200000) × (entries_equal (λ v w j. equal_in l.depth l.limit (rooms l.literal l.binding_cells l.binding_text l.cells l.text) v w j) l.limit (rooms l.literal l.binding_cells l.binding_text l.cells l.text) l.space l.at l.there l.from l.length l.left l.pairs ≡ entries_equal (λ v w j. equal_in l.depth l.limit (rooms l.literal l.binding_cells l.binding_text l.cells l.text) v w j) l.limit (rooms l.literal l.binding_cells l.binding_text l.cells l.text) l.space l.first l.there l.from l.length l.length l.steps)
-
-abbrev pub decreases-entries-loop-left : goal.decreases-entries-loop-left
-decreases-entries-loop-left l = l.left
+abbrev pub invariant-entries-loop-done : goal.invariant-entries-loop-done
+invariant-entries-loop-done l = matched (λ v w j. equal_in l.depth l.limit (rooms_seen l.view) v w j) l.limit (rooms_seen l.view) l.row l.there l.done l.pairs ≡ entries_equal (λ v w j. equal_in l.depth l.limit (rooms_seen l.view) v w j) l.limit (rooms_seen l.view) l.row.space l.row.first l.there.space l.there.first l.there.length l.row.length l.steps
 
 abbrev pub decreases-elements : goal.decreases-elements
 decreases-elements l = 2 * l.depth + 1

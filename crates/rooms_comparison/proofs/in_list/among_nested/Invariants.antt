@@ -1,12 +1,9 @@
--- `in_list::among_nested` meets its contract. Assumes nothing.
-use Prim.Native.Nat.{◌+◌, ◌≤◌}
+-- `in_list::among_nested` meets its contract: the elements that are left are looked through as the whole. Assumes nothing.
 use mathlib.Core.Path.{◌≡◌}
-use Rattle.rooms.specs.Rooms.{rooms}
+use Rattle.rooms.specs.Memory.{rooms_seen}
 use Rattle.rooms_comparison.specs.Equality.{among_in}
+use Rattle.rooms_comparison.proofs.AmongSteps.{looked}
 use Rattle.rooms_comparison.proofs.in_list.among_nested.Given as goal
 
-abbrev pub invariant-loop-left : goal.invariant-loop-left
-invariant-loop-left l = (l.at + l.left ≤ 200000) × (among_in l.limit (rooms l.literal l.binding_cells l.binding_text l.cells l.text) l.value l.space l.at l.left l.pairs ≡ among_in l.limit (rooms l.literal l.binding_cells l.binding_text l.cells l.text) l.value l.space l.first l.length l.steps)
-
-abbrev pub decreases-loop-left : goal.decreases-loop-left
-decreases-loop-left l = l.left
+abbrev pub invariant-loop-done : goal.invariant-loop-done
+invariant-loop-done l = looked l.limit (rooms_seen l.view) l.value l.row l.done l.pairs ≡ among_in l.limit (rooms_seen l.view) l.value l.row.space l.row.first l.row.length l.steps

@@ -1,14 +1,15 @@
 -- `plain::equal_by_kind` meets its contract. Assumes nothing.
+use Rattle.rooms.specs.Memory.{rooms_seen}
 use Rattle.rooms_comparison.proofs.plain.equal_by_kind.Goals as goal
 
 pub returns-in-Null : goal.returns-in-Null
-returns-in-Null c = simp (← c.plain_of-left.ensures, ← c.plain_of-right.ensures, c.in-Null.is) (c.same_null.ensures c.args.literal.now c.args.binding_text.now c.args.text.now)
+returns-in-Null c = simp (← c.plain_of-left.ensures, ← c.plain_of-right.ensures, c.in-Null.is) (c.same_null.ensures (rooms_seen c.args.view.now))
 
 pub returns-in-Bool : goal.returns-in-Bool
-returns-in-Bool c = simp (← c.plain_of-left.ensures, ← c.plain_of-right.ensures, c.in-Bool.is) (c.same_bool.ensures c.args.literal.now c.args.binding_text.now c.args.text.now)
+returns-in-Bool c = simp (← c.plain_of-left.ensures, ← c.plain_of-right.ensures, c.in-Bool.is) (c.same_bool.ensures (rooms_seen c.args.view.now))
 
 pub returns-in-Number : goal.returns-in-Number
-returns-in-Number c = simp (← c.plain_of-left.ensures, ← c.plain_of-right.ensures, c.in-Number.is) (c.same_number.ensures c.args.literal.now c.args.binding_text.now c.args.text.now)
+returns-in-Number c = simp (← c.plain_of-left.ensures, ← c.plain_of-right.ensures, c.in-Number.is) (c.same_number.ensures (rooms_seen c.args.view.now))
 
 pub returns-in-String : goal.returns-in-String
 returns-in-String c = simp (← c.plain_of-left.ensures, ← c.plain_of-right.ensures, c.in-String.is) c.same_string.ensures
@@ -17,7 +18,7 @@ pub returns-in-Bytes : goal.returns-in-Bytes
 returns-in-Bytes c = simp (← c.plain_of-left.ensures, ← c.plain_of-right.ensures, c.in-Bytes.is) c.same_bytes.ensures
 
 pub returns-in-OptionalNone : goal.returns-in-OptionalNone
-returns-in-OptionalNone c = simp (← c.plain_of-left.ensures, ← c.plain_of-right.ensures, c.in-OptionalNone.is) (c.same_none.ensures c.args.literal.now c.args.binding_text.now c.args.text.now)
+returns-in-OptionalNone c = simp (← c.plain_of-left.ensures, ← c.plain_of-right.ensures, c.in-OptionalNone.is) (c.same_none.ensures (rooms_seen c.args.view.now))
 
 pub returns-in-Other : goal.returns-in-Other
 returns-in-Other c = simp (← c.plain_of-left.ensures, ← c.plain_of-right.ensures, c.in-Other.is)

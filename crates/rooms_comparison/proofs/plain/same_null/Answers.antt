@@ -7,8 +7,8 @@ use Rattle.rooms_comparison.proofs.Classes.{other-class, unlike-seen}
 use Rattle.rooms_comparison.proofs.plain.same_null.Goals as goal
 
 pub returns-in-Null : goal.returns-in-Null
-returns-in-Null c = λ l b t. simp c.in-Null.is null-same
+returns-in-Null c = λ r. simp c.in-Null.is null-same
 
 pub returns-in_default : goal.returns-in_default
 unfolding rank
-returns-in_default c = λ l b t. unlike-seen l b t null c.args.other (other-class 0 c.args.other (opened c.in_default.in_default-own.keys2))
+returns-in_default c = λ r. unlike-seen r.literal r.binding_text r.text null c.args.other (other-class 0 c.args.other (opened c.in_default.in_default-own.keys2))

@@ -1,17 +1,16 @@
 -- `plain::same_string` meets its contract. Assumes nothing.
 use borrow.Enum.Refused.{opened}
-use mathlib.Core.Path.{ap, ◌∙◌}
+use mathlib.Core.Path.{◌∙◌}
 use Rattle.meaning.specs.Value.{string}
 use Rattle.rooms.specs.Rooms.{part, text_of}
-use Rattle.meaning.specs.Comparison.{rank, text_order}
-use Rattle.rooms_comparison.proofs.ScalarLaws.{string-same}
+use Rattle.meaning.specs.Comparison.{rank}
+use Rattle.rooms_comparison.proofs.AskedFirst.{text_same}
 use Rattle.rooms_comparison.proofs.Classes.{other-class, unlike-seen}
-use Rattle.numbers.specs.Order.{is_equal}
 use Rattle.rooms_comparison.proofs.plain.same_string.Goals as goal
 
 pub returns-in_default : goal.returns-in_default
 unfolding rank
-returns-in_default c = unlike-seen c.args.literal.now c.args.binding_text.now c.args.text.now (string (part (text_of c.args.literal.now c.args.binding_text.now c.args.text.now c.args.space) c.args.first c.args.length)) c.args.other (other-class 3 c.args.other (opened c.in_default.in_default-own.keys2))
+returns-in_default c = unlike-seen c.args.view.now.literal.now c.args.view.now.binding_text.now c.args.view.now.text.now (string (part (text_of c.args.view.now.literal.now c.args.view.now.binding_text.now c.args.view.now.text.now c.args.span.space) c.args.span.first c.args.span.length)) c.args.other (other-class 3 c.args.other (opened c.in_default.in_default-own.keys2))
 
 pub returns : goal.returns
-returns c = simp c.in-String.is (c.same_text.ensures ∙ ap (λ o. is_equal (text_order o)) c.parts_compare.ensures ∙ string-same _ _)
+returns c = simp c.in-String.is (c.parts_equal.ensures ∙ text_same _ _)

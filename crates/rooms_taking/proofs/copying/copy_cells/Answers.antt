@@ -1,20 +1,28 @@
 -- `copying::copy_cells` meets its contract. Assumes nothing.
-use mathlib.Core.Path.{refl, ap, ◌∙◌}
-use native.Mathlib.Omega.{arith}
-use lib.ListN as Lists
+use Prim.Native.Nat.{◌+◌}
+use mathlib.Core.Path.{ap, ◌∙◌}
 use Rattle.rooms.specs.Cells.{written_in}
-use Rattle.rooms.proofs.CellLaws.{written-length}
-use Rattle.rooms_taking.proofs.TakingSteps.{copy-on, copy-none}
+use Rattle.rooms.specs.Rooms.{with_words, cell_at}
+use Rattle.rooms.specs.Memory.{rooms_lent}
+use Rattle.rooms_taking.proofs.CopySteps.{copies, copies-all, copies-on, copies-none}
 use Rattle.rooms_taking.proofs.copying.copy_cells.Goals as goal
 
-pub loop-left-init : goal.loop-left-init
-loop-left-init c = (refl, omega (arith, c.ranges.first.fits, c.ranges.length.fits), omega (arith, c.requires, c.ranges.length.fits), refl)
-
-pub loop-left-preserved : goal.loop-left-preserved
-loop-left-preserved c = (ap Lists.length (c.write_cell.ensures ∙ ap (written_in c.loop-left.cells c.loop-left.place) c.cell_at-value.ensures) ∙ written-length c.loop-left.cells c.loop-left.place _ ∙ c.loop-left.invariant.0, omega arith, omega arith, copy-on c.args.binding_cells.now c.args.space c.loop-left.cells _ c.loop-left.at c.loop-left.place c.loop-left.left c.loop-left-test.true (c.write_cell.ensures ∙ ap (written_in c.loop-left.cells c.loop-left.place) c.cell_at-value.ensures) ∙ c.loop-left.invariant.3)
-
-pub shape_of-cells : goal.shape_of-cells
-shape_of-cells c = c.loop-left.invariant.0
+pub loop-done-preserved : goal.loop-done-preserved
+loop-done-preserved c = record {
+  same_literal = c.store.ensures.same_literal ∙ c.loop-done.invariant.same_literal;
+  same_cells = c.store.ensures.same_cells ∙ c.loop-done.invariant.same_cells;
+  same_text = c.store.ensures.same_text ∙ c.loop-done.invariant.same_text;
+  left = ap (copies c.args.row c.args.to (c.loop-done.done + 1)) (c.store.ensures.rooms_after
+      ∙ ap (λ v. with_words (rooms_lent c.loop-done.lent) (written_in c.loop-done.lent.cells.now (c.args.to + c.loop-done.done) v))
+      (c.cell_at-value.ensures ∙ ap (λ r. cell_at r c.args.row.space (c.args.row.first + c.loop-done.done)) c.view.ensures))
+      ∙ copies-on c.args.row c.args.to c.loop-done.done (rooms_lent c.loop-done.lent) c.loop-done-test.true ∙ c.loop-done.invariant.left;
+}
 
 pub returns : goal.returns
-returns c = copy-none c.args.binding_cells.now c.args.space c.loop-left.cells c.loop-left.at c.loop-left.place c.loop-left.left c.loop-left-test.false ∙ c.loop-left.invariant.3
+returns c = record {
+  same_literal = c.loop-done.invariant.same_literal;
+  same_cells = c.loop-done.invariant.same_cells;
+  same_text = c.loop-done.invariant.same_text;
+  rooms_after = copies-none c.args.row c.args.to c.loop-done.done (rooms_lent c.loop-done.lent) c.loop-done-test.false
+      ∙ c.loop-done.invariant.left ∙ copies-all c.args.row c.args.to (rooms_lent c.args.lent.now);
+}

@@ -1,12 +1,13 @@
--- `copying::copy_cells` meets its contract. Assumes nothing.
-use Prim.Native.Nat.{◌+◌, ◌≤◌}
+-- `copying::copy_cells` meets its contract: what is left of the row is still to be copied. Assumes nothing.
 use mathlib.Core.Path.{◌≡◌}
-use lib.ListN as Lists
-use Rattle.rooms_taking.specs.Taking.{copied}
+use Rattle.rooms_taking.proofs.CopySteps.{copies}
+use Rattle.rooms.specs.Memory.{rooms_lent}
 use Rattle.rooms_taking.proofs.copying.copy_cells.Given as goal
 
-abbrev pub invariant-loop-left : goal.invariant-loop-left
-invariant-loop-left l = (Lists.length l.cells ≡ Lists.length l.initial.cells) × (l.at + l.left ≤ 200000) × (l.place + l.left ≤ 300000000000000) × (copied l.binding_cells l.space l.cells l.at l.place l.left ≡ copied l.binding_cells l.space l.initial.cells l.first l.to l.length)
-
-abbrev pub decreases-loop-left : goal.decreases-loop-left
-decreases-loop-left l = l.left
+abbrev pub invariant-loop-done : goal.invariant-loop-done
+invariant-loop-done l = record {
+  same_literal : l.lent.literal.now ≡ l.initial.lent.literal.now;
+  same_cells : l.lent.cells.ghost_name ≡ l.initial.lent.cells.ghost_name;
+  same_text : l.lent.text.ghost_name ≡ l.initial.lent.text.ghost_name;
+  left : copies l.row l.to l.done (rooms_lent l.lent) ≡ copies l.row l.to 0 (rooms_lent l.initial.lent);
+}

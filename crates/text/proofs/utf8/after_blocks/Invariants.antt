@@ -1,11 +1,10 @@
--- `utf8::after_blocks` meets its contract: each block that is passed is ASCII. Assumes nothing.
-use Prim.Native.Nat.{◌-◌}
-use lib.ListN.{length}
+-- `utf8::after_blocks`: what is left is well formed as the text is.
+use Rattle.std.proofs.Common.{length}
 use Rattle.text.specs.Passing.{Passes}
 use Rattle.text.proofs.utf8.after_blocks.Given as goal
 
-abbrev pub invariant-loop-at : goal.invariant-loop-at
-invariant-loop-at l = Passes l.part l.first l.at
+abbrev pub invariant-loop-first : goal.invariant-loop-first
+invariant-loop-first l = Passes l.text l.rest
 
-abbrev pub decreases-loop-at : goal.decreases-loop-at
-decreases-loop-at l = length l.part - l.at
+abbrev pub decreases-loop-first : goal.decreases-loop-first
+decreases-loop-first l = length l.rest

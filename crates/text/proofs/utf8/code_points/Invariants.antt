@@ -1,11 +1,7 @@
--- `utf8::code_points` meets its contract: the count so far and that of what is left make the count of the text.
-use Prim.Native.Nat.{◌-◌}
-use lib.ListN.{length}
-use Rattle.text.proofs.Utf8Steps.{CountAt}
+-- `utf8::code_points`: the count so far is that of the bytes so far.
+use Rattle.std.proofs.Common.{◌≡◌, take}
+use Rattle.text.specs.Utf8.{code_points}
 use Rattle.text.proofs.utf8.code_points.Given as goal
 
-abbrev pub invariant-loop-at : goal.invariant-loop-at
-invariant-loop-at l = CountAt l.part l.count l.at
-
-abbrev pub decreases-loop-at : goal.decreases-loop-at
-decreases-loop-at l = length l.part - l.at
+abbrev pub invariant-loop-byte : goal.invariant-loop-byte
+invariant-loop-byte l = l.count ≡ code_points (take l.byte-index l.part)

@@ -1,11 +1,10 @@
--- `utf8::well_formed` meets its contract: what is left is well formed as the text is. Assumes nothing.
-use Prim.Native.Nat.{◌-◌}
-use lib.ListN.{length}
+-- `utf8::well_formed`: what is left is well formed as the text is.
+use Rattle.std.proofs.Common.{length}
 use Rattle.text.specs.Passing.{Passes}
 use Rattle.text.proofs.utf8.well_formed.Given as goal
 
-abbrev pub invariant-loop-at : goal.invariant-loop-at
-invariant-loop-at l = Passes l.part 0 l.at
+abbrev pub invariant-loop-rest : goal.invariant-loop-rest
+invariant-loop-rest l = Passes l.text l.rest
 
-abbrev pub decreases-loop-at : goal.decreases-loop-at
-decreases-loop-at l = length l.part - l.at
+abbrev pub decreases-loop-rest : goal.decreases-loop-rest
+decreases-loop-rest l = length l.rest

@@ -1,8 +1,0 @@
--- `line_room` meets its contract. The arguments are written out: the checker would count them up otherwise. Assumes nothing.
-use Prim.Native.Nat.{ℕ}
-use mathlib.Core.Path.{sym}
-use lib.ListN.{length-replicate}
-use Rattle.ask.proofs.line_room.Goals as goal
-
-pub returns : goal.returns
-returns c = sym {A = ℕ} {b = 1000128} (length-replicate {0} {A = ℕ} 1000128 0)

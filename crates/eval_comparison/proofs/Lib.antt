@@ -1,2 +1,0 @@
--- Laws for the functions' proofs. Assume nothing.
-pub mod Bools
