@@ -131,12 +131,12 @@ def check_edits() -> None:
                 continue
             named[crate] |= edits
             if heading == "What callers outside use":
-                outside |= {(crate, path) for path in re.findall(r"`([\w:]+)`", row[1])}
+                outside |= {(crate, path) for path in re.findall(r"`([^`]+)`", row[1])}
                 if len(edits) < 2:
                     wrong.append(f"PROOFS.md: {crate}, {row[1]} has fewer than two edits")
             if heading != "Wrong definitions":
-                for path in re.findall(r"`([\w:]+)`", row[1]):
-                    if not path.startswith("ombravelik_") and not is_item(crate, path.split("::")):
+                for path in re.findall(r"`([\w:]+|\w+<.*?> for \w+)`", row[1]):
+                    if not path.startswith("ombravelik_") and not (is_trait_of(crate, path) if " for " in path else is_item(crate, path.split("::"))):
                         wrong.append(f"PROOFS.md: {crate} has no {path}")
     for crate, path in public_functions():
         if (crate, path) not in outside:
@@ -150,13 +150,26 @@ def check_edits() -> None:
 
 
 def public_functions() -> "list[tuple[str, str]]":
-    """The functions of what callers outside use, each with its module."""
+    """The functions of what callers outside use, each with its module: also those of types, and the traits that types have, as `double::Add`."""
     found = []
     for crate, _, module in (name.partition("/") for name in OUTSIDE):
         for path in sorted((CRATES / crate / "src").glob(f"{module or '*'}.rt")):
             inside = "" if path.stem == "lib" else f"{path.stem}::"
-            found += [(crate, inside + name) for name in re.findall(r"(?m)^pub fn (\w+)", read(path)) if inside + name not in INSIDE.get(crate, ())]
+            names = [inside + name for name in re.findall(r"(?m)^ *pub fn (\w+)", read(path))] + traits(crate, read(path), inside)
+            found += [(crate, name) for name in names if name not in INSIDE.get(crate, ())]
     return found
+
+
+def traits(crate: str, text: str, inside: str) -> "list[str]":
+    """The traits that a file gives to types that callers see: those of the language, and public ones."""
+    public = {name for path in (CRATES / crate / "src").glob("*.rt") for name in re.findall(r"\bpub (?:struct|enum) (\w+)", read(path))}
+    return [f"{trait}{given} for {kind}" if given else inside + trait
+            for trait, given, kind in re.findall(r"(?m)^impl (\w+)(<.*?>)? for (\w+)", text) if kind in public or kind.islower()]
+
+
+def is_trait_of(crate: str, path: str) -> bool:
+    """Whether a type has a trait, as in `From<Error> for u8`."""
+    return any(f"\nimpl {path} {{" in read(source) for source in (CRATES / crate / "src").glob("*.rt"))
 
 
 def is_item(crate: str, parts: "list[str]") -> bool:

@@ -24,6 +24,7 @@ fn deepest(cells: &[u64], first: usize, count: usize) -> u8
 
 impl Room<'_> {
     // A container that states `nesting` and refers to `count` cells from `first` on. `least` is the first cell that it may refer to.
+    // No container nests 0 deep: that is seen without a look at its cells.
     pub fn row_fits(
         self,
         least: usize,
@@ -39,6 +40,7 @@ impl Room<'_> {
         matches!(space, CellSpace::Binding)
             && least <= from
             && from + count <= self.used
+            && 0 < nesting
             && nesting <= DEEPEST
             && nesting as usize == deepest(self.cells, from, count) as usize + 1
     }

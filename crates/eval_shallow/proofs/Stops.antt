@@ -20,21 +20,25 @@ Is o z m = ◌≡◌ {A = Res} (o, z) m
 -- ---- the references stay those that were lent
 
 pub stays-here : {m : Lent} → Stays m m
-stays-here = record { same_literal = refl; same_cells = refl; same_text = refl }
+stays-here = record { same_literal = refl; same_binding_cells = refl; same_binding_text = refl; same_cells = refl; same_text = refl; cells_long = refl; text_long = refl }
 
 pub stays : {A : Type 0} {a : A} {old new : Lent} {does : Rooms → A × Rooms} → Gives a old new does → Stays old new
-stays g = record { same_literal = g.same_literal; same_cells = g.same_cells; same_text = g.same_text }
+stays g = record { same_literal = g.same_literal; same_binding_cells = g.same_binding_cells; same_binding_text = g.same_binding_text; same_cells = g.same_cells; same_text = g.same_text; cells_long = g.cells_long; text_long = g.text_long }
 
 pub stays-on : {old middle new : Lent} → Stays old middle → Stays middle new → Stays old new
 stays-on f g =
     record {
       same_literal = g.same_literal ∙ f.same_literal;
+      same_binding_cells = g.same_binding_cells ∙ f.same_binding_cells;
+      same_binding_text = g.same_binding_text ∙ f.same_binding_text;
       same_cells = g.same_cells ∙ f.same_cells;
       same_text = g.same_text ∙ f.same_text;
+      cells_long = g.cells_long ∙ f.cells_long;
+      text_long = g.text_long ∙ f.text_long;
     }
 
 pub stays-given : {o : Outcome} {old new : Lent} {does : Rooms → Res} → Stays old new → Is o (rooms_lent new) (does (rooms_lent old)) → Gives o old new does
-stays-given f e = record { same_literal = f.same_literal; same_cells = f.same_cells; same_text = f.same_text; gives = e }
+stays-given f e = record { same_literal = f.same_literal; same_binding_cells = f.same_binding_cells; same_binding_text = f.same_binding_text; same_cells = f.same_cells; same_text = f.same_text; cells_long = f.cells_long; text_long = f.text_long; gives = e }
 
 -- ---- outcomes that are no value
 

@@ -1,5 +1,6 @@
 // The words of a line, with spaces between, and what they spell.
 ghost use Rattle.std.specs.Prelude.{◌≤◌, length, IfSome};
+ghost use Rattle.program_words.specs.Reading.{ReadOff};
 
 use program_words::decimal::number_of;
 use program_words::find;
@@ -13,7 +14,10 @@ pub struct Words<'a> {
 
 impl<'a> Words<'a> {
     // The next word; an empty one where none is left.
-    pub fn next_word(&mut self) -> &'a [u8] {
+    #[tactic(auto, using(program_words::proofs::ReadingSteps::read_behind))]
+    pub fn next_word(&mut self) -> &'a [u8]
+        ensures { ReadOff self.old.left.now result.now self.new.left.now }
+    {
         let spaces = self.left.iter().position(|byte| *byte != b' ');
         let word = &self.left[spaces.unwrap_or(self.left.len())..];
         let (word, left) = word.split_at(find(word, 0, b' '));

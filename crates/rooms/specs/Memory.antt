@@ -1,5 +1,5 @@
 -- The memory of a run as the code has it, and what it changes: the lists that lie behind the references.
-use Rattle.std.specs.Prelude.{ℕ, List, ◌≡◌}
+use Rattle.std.specs.Prelude.{ℕ, List, ◌≡◌, length}
 use Rattle.rooms.specs.declared.memory.View.{View}
 use Rattle.rooms.specs.declared.memory.Lent.{Lent}
 use Rattle.rooms.specs.declared.value.Span.{Span}
@@ -18,6 +18,10 @@ spanned r s = span_in r s.space s.first s.length
 -- the references stay those that were lent, and behind them lies what f makes of it
 pub record Changes (old new : Lent) (f : Rooms → Rooms) : Type 0 where
   pub same_literal : new.literal.now ≡ old.literal.now
+  pub same_binding_cells : new.binding_cells.now ≡ old.binding_cells.now
+  pub same_binding_text : new.binding_text.now ≡ old.binding_text.now
   pub same_cells : new.cells.ghost_name ≡ old.cells.ghost_name
   pub same_text : new.text.ghost_name ≡ old.text.ghost_name
+  pub cells_long : length new.cells.now ≡ length old.cells.now
+  pub text_long : length new.text.now ≡ length old.text.now
   pub rooms_after : rooms_lent new ≡ f (rooms_lent old)

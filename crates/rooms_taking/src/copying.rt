@@ -64,7 +64,8 @@ fn copy_each(
     }
 }
 
-// Bytes of another slice are copied at once, if all of them are there and have room.
+// Bytes of another slice are copied at once, if all of them are there and have room. There is no test between two bytes, so the compiler copies
+// many at once. (`copy_from_slice` calls `memmove`, which nothing else in the archive for C needs from outside.)
 fn copied_whole(from: &[u8], text: &mut [u8], first: u16, length: u16, to: u16) -> bool
     ensures { text.new ≡ cond result (pasted from.now from.now Literal text.old first to length)
         text.old }
@@ -78,7 +79,9 @@ fn copied_whole(from: &[u8], text: &mut [u8], first: u16, length: u16, to: u16) 
     if text.len() < place + count {
         return false;
     }
-    text[place..place + count].copy_from_slice(&from[start..start + count]);
+    for done in 0..count {
+        text[place + done] = from[start + done];
+    }
     true
 }
 

@@ -5,7 +5,7 @@ use crate::say;
 use bindings_sound::Bindings;
 use line_pieces::Writer;
 use program_memory::before_run::fill;
-use program_words::hexadecimal::{put_bytes, put_pieces};
+use program_words::hexadecimal::{put_bytes, put_pieces, word_at};
 use rooms::scope::Scope;
 use rooms_cells::read_cell;
 use std::io;
@@ -45,7 +45,7 @@ fn put_text(text: &mut [u8], from: usize, digits: &[u8], room: &mut [u8]) {
 fn word(digits: &[u8]) -> u64 {
     let mut bytes = [0; 8];
     put_bytes(digits, &mut bytes);
-    u64::from_be_bytes(bytes)
+    word_at(&bytes, 0)
 }
 
 // The slot that a cell with these words makes.

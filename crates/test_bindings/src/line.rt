@@ -1,4 +1,6 @@
 // A line as words, with one space between two of them, and the numbers in them.
+ghost use Rattle.program_words.specs.Reading.{ReadOff};
+
 use program_words::decimal::number_of;
 use program_words::find;
 
@@ -10,7 +12,9 @@ pub struct Words<'a> {
 
 impl<'a> Words<'a> {
     // The next word; an empty one where none is left.
-    pub fn next_word(&mut self) -> &'a [u8] {
+    pub fn next_word(&mut self) -> &'a [u8]
+        ensures { ReadOff self.old.left.now result.now self.new.left.now }
+    {
         let (word, rest) = self.left.split_at(find(self.left, 0, b' '));
         self.left = match rest {
             [] => rest,

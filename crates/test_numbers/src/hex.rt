@@ -1,5 +1,5 @@
 // Numbers and texts spelled by hexadecimal digits in lower case.
-use program_words::hexadecimal::put_bytes;
+use program_words::hexadecimal::{put_bytes, word_at};
 
 // Whether a byte is neither a decimal digit nor in lower case.
 fn has_upper(word: &[u8]) -> bool {
@@ -12,7 +12,7 @@ pub fn number(word: &[u8]) -> Option<u64> {
     if word.len() != 16 || has_upper(word) || put_bytes(word, &mut bytes) != 8 {
         return None;
     }
-    Some(u64::from_be_bytes(bytes))
+    Some(word_at(&bytes, 0))
 }
 
 // The text that a word spells, put into the room. `-` spells the empty text.

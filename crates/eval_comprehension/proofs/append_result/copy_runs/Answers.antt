@@ -9,8 +9,12 @@ use Rattle.eval_comprehension.proofs.append_result.copy_runs.Goals as goal
 pub loop-index-preserved : goal.loop-index-preserved
 loop-index-preserved c = record {
   same_literal = c.copy_cells.ensures.same_literal ∙ c.loop-index.invariant.same_literal;
+  same_binding_cells = c.copy_cells.ensures.same_binding_cells ∙ c.loop-index.invariant.same_binding_cells;
+  same_binding_text = c.copy_cells.ensures.same_binding_text ∙ c.loop-index.invariant.same_binding_text;
   same_cells = c.copy_cells.ensures.same_cells ∙ c.loop-index.invariant.same_cells;
   same_text = c.copy_cells.ensures.same_text ∙ c.loop-index.invariant.same_text;
+  cells_long = c.copy_cells.ensures.cells_long ∙ c.loop-index.invariant.cells_long;
+  text_long = c.copy_cells.ensures.text_long ∙ c.loop-index.invariant.text_long;
   room = omega (arith, c.loop-index.invariant.room, c.loop-index-test.true, c.run_at-run.type_inv);
   left = ap (copies c.args.collected.now (c.loop-index.index + 1) (c.loop-index.place + c.run_at-run.result.length)) c.copy_cells.ensures.rooms_after
       ∙ copies-on c.args.collected.now c.loop-index.index c.loop-index.place (rooms_lent c.loop-index.lent) c.run_at-run.result c.loop-index-test.true c.run_at-run.ensures
@@ -20,8 +24,12 @@ loop-index-preserved c = record {
 pub returns : goal.returns
 returns c = record {
   same_literal = c.loop-index.invariant.same_literal;
+  same_binding_cells = c.loop-index.invariant.same_binding_cells;
+  same_binding_text = c.loop-index.invariant.same_binding_text;
   same_cells = c.loop-index.invariant.same_cells;
   same_text = c.loop-index.invariant.same_text;
+  cells_long = c.loop-index.invariant.cells_long;
+  text_long = c.loop-index.invariant.text_long;
   rooms_after = copies-none c.args.collected.now c.loop-index.index c.loop-index.place (rooms_lent c.loop-index.lent) c.loop-index-test.false
       ∙ c.loop-index.invariant.left ∙ copies-all c.args.collected.now c.args.to (rooms_lent c.args.lent.now);
 }
