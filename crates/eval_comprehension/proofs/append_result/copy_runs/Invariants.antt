@@ -10,6 +10,6 @@ invariant-loop-index l = record {
   same_literal : l.lent.literal.now ≡ l.initial.lent.literal.now;
   same_cells : l.lent.cells.ghost_name ≡ l.initial.lent.cells.ghost_name;
   same_text : l.lent.text.ghost_name ≡ l.initial.lent.text.ghost_name;
-  room : l.place + (l.collected.runs - l.index) * 65535 < 281474976710656;
-  left : copies l.collected l.index l.place (rooms_lent l.lent) ≡ copies l.collected 0 l.to (rooms_lent l.initial.lent);
+  room : l.place + (l.runs - l.index) * 65535 < 281474976710656;
+  left : copies l.firsts l.counts l.runs l.index l.place (rooms_lent l.lent) ≡ copies l.firsts l.counts l.runs 0 l.to (rooms_lent l.initial.lent);
 }
