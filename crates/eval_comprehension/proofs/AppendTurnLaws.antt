@@ -45,7 +45,12 @@ module _ (g : Gathered) (rest : Gathering) where
   by-items (Outcome.Error e p u) r = refl
   by-items (Outcome.Exhausted y u) r = refl
 
-  -- what an items list gave, gathered: `old` is what was lent before, and `new` after it
+  -- what an items list gave, gathered: `r` is what there was before, and `q` after it
+  pub items_in : (o : Outcome) (r : Rooms) {a : Result Turn Outcome} {q : Rooms} → ◌≡◌ {A = Result Turn Outcome × Rooms} (a, q) (gather_of o r) →
+      with_value o r (λ v u q. Machine.gather_parts v g (parts_of v) u q rest) ≡ on_gather a g q rest
+  items_in o r e = by-items o r ∙ ap on_both (sym e)
+
+  -- the same of what is lent: `old` before, and `new` after it
   pub items_as : (o : Outcome) {a : Result Turn Outcome} {old new : Lent} → Gives a old new (λ r. gather_of o r) →
       with_value o (rooms_lent old) (λ v u q. Machine.gather_parts v g (parts_of v) u q rest) ≡ on_gather a g (rooms_lent new) rest
-  items_as o {a} {old} e = by-items o (rooms_lent old) ∙ ap on_both (sym e.gives)
+  items_as o {a} {old} e = items_in o (rooms_lent old) e.gives

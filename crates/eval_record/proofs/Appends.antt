@@ -15,6 +15,7 @@ use Rattle.rooms.specs.declared.memory.Lent.{Lent}
 use Rattle.rooms.specs.Rooms.{Rooms, cell_at}
 use Rattle.rooms.specs.Memory.{rooms_lent}
 use Rattle.rooms.specs.Scope.{stored, slot_of}
+use Rattle.table_layout.specs.Layout.{word_at}
 use Rattle.table_check.specs.Records.{expr_of, Sound}
 use Rattle.machine.specs.declared.outcome.Used.{Used}
 use Rattle.machine.specs.declared.outcome.Limit.TheVariants as Limit
@@ -27,15 +28,15 @@ use Rattle.machine.specs.declared.items.Items.{Items}
 use Rattle.machine.specs.Comprehension.{Loop, AppendStep, Gathered, asks, add_run, gathered, guarded, append_items, append_turns, nothing_gathered}
 use Rattle.eval_logic.specs.declared.conditions.Asked.{Asked}
 use Rattle.eval_logic.specs.Conditions.{asked_of, on_asked}
-use Rattle.eval_comprehension.specs.declared.append_result.Collected.{Collected}
+use Rattle.eval_comprehension.specs.declared.append_result.Runs.{Runs}
 use Rattle.eval_outcomes.specs.Gives.{Gives, Stays}
 use Rattle.eval_comprehension.specs.declared.append_turn.Turn.{Turn}
-use Rattle.eval_comprehension.specs.AppendResult.{gathered_in}
+use Rattle.eval_comprehension.specs.AppendResult.{gathered_by}
 use Rattle.eval_comprehension.specs.AppendTurn.{gather_of, on_gather}
 use Rattle.eval_comprehension.proofs.AppendTurnLaws.{items_as}
 use Rattle.eval_shapes.specs.declared.comprehensions.Places.{Places}
 use Rattle.eval_shapes.specs.declared.comprehensions.Appending.{Appending}
-use Rattle.eval_shapes.specs.Comprehensions.{loop_at, items_seen, append_at}
+use Rattle.eval_shapes.specs.Comprehensions.{GuardIn, loop_at, items_seen, append_at}
 use Rattle.eval_shallow.proofs.Stops.{Is, stays-here, stays-on, after-operand}
 use Rattle.eval_record.proofs.Turns.{asked}
 
@@ -78,6 +79,12 @@ there-is (Some q) list e f h = ap (λ q. Some q) (sym h)
 pub there-is-none : (guard : Option ℕ) {b : Bool} → b ≡ is_some guard → b ≡ false → guard ≡ None
 there-is-none None e f = refl
 there-is-none (Some q) e f = let z : ◌≡◌ {A = ℕ} 0 1 = cc in absurd (omega arith)
+
+-- where the loop looks for a guard, and the list, are records within the step's
+pub guard-within : (t x : List ℕ) (p : ℕ) (guard : Option ℕ) (list : ℕ) → GuardIn t x p guard list → {g : ℕ} → g ≡ unwrap_or guard list →
+    Sound t x g × Sound t x list × (word_at t (g + 1) < word_at t (p + 1)) × (word_at t (list + 1) < word_at t (p + 1))
+guard-within t x p None list h e = rw e (h.0, h.0, h.1, h.1)
+guard-within t x p (Some q) list h e = rw e (h.0, h.1, omega (arith, h.2), omega (arith, h.2))
 
 -- ---- a condition that is a literal reads no slot
 
@@ -164,25 +171,25 @@ run-adds : (b : Bool) (g : Gathered) (a n d : ℕ) → ((add_run b g a n d).runs
 run-adds true g a n d = (omega arith, omega arith)
 run-adds false g a n d = (omega arith, omega arith)
 
-pub run-added : (g g₁ : Collected) (a n d : ℕ) → gathered_in g₁ ≡ add_run (eqb n 0) (gathered_in g) a n d → n < 65536 →
-    (g₁.runs ≤ g.runs + 1) × (g₁.count ≤ g.count + 65535)
+pub run-added : (g g₁ : Runs) (a n d : ℕ) → gathered_by g₁ ≡ add_run (eqb n 0) (gathered_by g) a n d → n < 65536 →
+    (g₁.collected.runs ≤ g.collected.runs + 1) × (g₁.collected.count ≤ g.collected.count + 65535)
 run-added g g₁ a n d e h =
-    let m = run-adds (eqb n 0) (gathered_in g) a n d in
+    let m = run-adds (eqb n 0) (gathered_by g) a n d in
     (omega (arith, m.0, ap (λ (x : Gathered). x.runs) e), omega (arith, h, m.1, ap (λ (x : Gathered). x.count) e))
 
 -- the loop over them: `left` items are left, the next of them in cell `cell`; `old` was lent before the loop
-pub record AppendsLoop (t x : List ℕ) (limit p : ℕ) (path : Appending) (items : Items) (places : Places) (s₀ : Scope) (u₀ : Used) (old now : Lent) (s : Scope) (g : Collected)
+pub record AppendsLoop (t x : List ℕ) (limit p : ℕ) (path : Appending) (items : Items) (places : Places) (s₀ : Scope) (u₀ : Used) (old now : Lent) (s : Scope) (g : Runs)
     (u : Used) (cell left : ℕ) : Type 0 where
   pub stays : Stays old now
   -- places and counts are numbers of the code
   pub below : cell + left * 65536 ≤ 65536 * 65536
-  pub runs : g.runs + left ≤ 65535
-  pub elements : g.count + left * 65535 ≤ 65535 * 65535
-  pub same : append_turns (loop_at t x limit p places) (append_at t x limit path) items.space items.stride left cell (gathered_in g) s u (rooms_lent now) ≡
+  pub runs : g.collected.runs + left ≤ 65535
+  pub elements : g.collected.count + left * 65535 ≤ 65535 * 65535
+  pub same : append_turns (loop_at t x limit p places) (append_at t x limit path) items.space items.stride left cell (gathered_by g) s u (rooms_lent now) ≡
       append_turns (loop_at t x limit p places) (append_at t x limit path) items.space items.stride items.count items.first nothing_gathered s₀ u₀ (rooms_lent old)
 
 module _ (t x : List ℕ) (limit p : ℕ) (path : Appending) (items : Items) (places : Places) (s₀ : Scope) (u₀ : Used) (old : Lent) where
-  pub appends-begin : items.first < 65536 → items.count < 65536 → (g : Collected) → gathered_in g ≡ nothing_gathered →
+  pub appends-begin : items.first < 65536 → items.count < 65536 → (g : Runs) → gathered_by g ≡ nothing_gathered →
       AppendsLoop t x limit p path items places s₀ u₀ old old s₀ g u₀ items.first items.count
   appends-begin f h g k =
       record {
@@ -193,12 +200,12 @@ module _ (t x : List ℕ) (limit p : ℕ) (path : Appending) (items : Items) (pl
         same = ap (λ y. append_turns (loop_at t x limit p places) (append_at t x limit path) items.space items.stride items.count items.first y s₀ u₀ (rooms_lent old)) k;
       }
 
-  module _ {now : Lent} {s : Scope} {g : Collected} {u : Used} {cell left : ℕ} (v : AppendsLoop t x limit p path items places s₀ u₀ old now s g u cell left)
+  module _ {now : Lent} {s : Scope} {g : Runs} {u : Used} {cell left : ℕ} (v : AppendsLoop t x limit p path items places s₀ u₀ old now s g u cell left)
       {next : Lent} (stays : Stays now next) {u₁ : Used} where
     -- after an item
-    pub appends-again : 0 < left → items.stride < 65536 → {s₁ : Scope} → (g₁ : Collected) → (g₁.runs ≤ g.runs + 1) × (g₁.count ≤ g.count + 65535) →
-        append_turns (loop_at t x limit p places) (append_at t x limit path) items.space items.stride (left - 1) (cell + items.stride) (gathered_in g₁) s₁ u₁ (rooms_lent next) ≡
-        append_turns (loop_at t x limit p places) (append_at t x limit path) items.space items.stride left cell (gathered_in g) s u (rooms_lent now) →
+    pub appends-again : 0 < left → items.stride < 65536 → {s₁ : Scope} → (g₁ : Runs) → (g₁.collected.runs ≤ g.collected.runs + 1) × (g₁.collected.count ≤ g.collected.count + 65535) →
+        append_turns (loop_at t x limit p places) (append_at t x limit path) items.space items.stride (left - 1) (cell + items.stride) (gathered_by g₁) s₁ u₁ (rooms_lent next) ≡
+        append_turns (loop_at t x limit p places) (append_at t x limit path) items.space items.stride left cell (gathered_by g) s u (rooms_lent now) →
         AppendsLoop t x limit p path items places s₀ u₀ old next s₁ g₁ u₁ (cell + items.stride) (left - 1)
     appends-again h w g₁ m e =
         record {
@@ -210,8 +217,8 @@ module _ (t x : List ℕ) (limit p : ℕ) (path : Appending) (items : Items) (pl
         }
 
     -- after a condition that fails
-    pub appends-over : append_turns (loop_at t x limit p places) (append_at t x limit path) items.space items.stride 0 cell (gathered_in g) s u₁ (rooms_lent next) ≡
-        append_turns (loop_at t x limit p places) (append_at t x limit path) items.space items.stride left cell (gathered_in g) s u (rooms_lent now) →
+    pub appends-over : append_turns (loop_at t x limit p places) (append_at t x limit path) items.space items.stride 0 cell (gathered_by g) s u₁ (rooms_lent next) ≡
+        append_turns (loop_at t x limit p places) (append_at t x limit path) items.space items.stride left cell (gathered_by g) s u (rooms_lent now) →
         AppendsLoop t x limit p path items places s₀ u₀ old next s g u₁ cell 0
     appends-over e =
         record {

@@ -9,7 +9,7 @@ ghost use Rattle.eval_outcomes.specs.Gives.{Gives};
 ghost use Rattle.eval_shapes.specs.Comprehensions.{PathIn, loop_at, append_at};
 
 use crate::operands::{items_list, operand};
-use eval_comprehension::append_result::{Collected, collected_list};
+use eval_comprehension::append_result::Runs;
 use eval_comprehension::append_turn::gather_items;
 use eval_logic::conditions::{Asked, asks};
 use eval_shallow::shallow::reach_at;
@@ -43,7 +43,7 @@ pub fn appends(
     let guard_slots = reach_at(table, lent.literal, guard);
     let list_slots = single_at(table, lent.literal, path.list);
     let mut inner = scope;
-    let mut collected = Collected::nothing();
+    let mut collected = Runs::nothing();
     let mut spent = used;
     let mut cell = items.first as usize;
     let mut left = items.count as usize;
@@ -102,5 +102,5 @@ pub fn appends(
             }
         }
     }
-    collected_list(lent, &collected, spent)
+    collected.list(lent, spent)
 }

@@ -4,6 +4,16 @@ ghost use Rattle.std.specs.Prelude.{◌≡◌, [], ◌∷◌};
 ghost use Rattle.text.specs.Utf8.{◌to◌, inside};
 ghost use Rattle.text.specs.Sequence.{second_of, sized, sequence_of};
 
+// The first byte of a sequence of two, of three and of four bytes is at least this, and at most the last of these. A byte above the last begins no
+// sequence, and neither does one from 0x80 on that is below the first.
+pub const TWO: u8 = 0xC2;
+
+pub const THREE: u8 = 0xE0;
+
+pub const FOUR: u8 = 0xF0;
+
+pub const LAST: u8 = 0xF4;
+
 // Whether a byte continues a code point that an earlier byte begins.
 #[tactic(auto, using(crate::proofs::Table::ranges))]
 pub fn continues(byte: u8) -> bool
@@ -67,9 +77,9 @@ pub fn sequence(text: &[u8]) -> Option<usize>
     let (first, rest) = text.split_first()?;
     match *first {
         0x00..=0x7F => Some(1),
-        0xC2..=0xDF => of_two(rest),
-        0xE0..=0xEF => of_three(*first, rest),
-        0xF0..=0xF4 => of_four(*first, rest),
+        TWO..=0xDF => of_two(rest),
+        THREE..=0xEF => of_three(*first, rest),
+        FOUR..=LAST => of_four(*first, rest),
         _ => None,
     }
 }

@@ -14,7 +14,7 @@ use Rattle.table_layout.specs.Layout.{after}
 use Rattle.table_check.specs.Records.{expr_of, elements_of, pairs_of, Sound, SoundPart}
 use Rattle.machine.specs.Machine.{machine, elements, entries}
 use Rattle.machine.specs.Comprehension.{turns, append_turns, nothing_gathered}
-use Rattle.eval_comprehension.specs.AppendResult.{gathered_in}
+use Rattle.eval_comprehension.specs.AppendResult.{gathered_by}
 use Rattle.eval_shapes.specs.declared.Shape.TheVariants as Shape
 use Rattle.eval_shapes.specs.Leaves.{unmarked_at, leaf_step}
 use Rattle.eval_shapes.specs.Comprehensions.{loop_at, append_at, path_of, path_seen}
@@ -23,6 +23,8 @@ use Rattle.eval_shapes.proofs.ShapeLaws.{leaf-byte, shape-byte}
 use Rattle.eval_shapes.proofs.Operands.{fixed-at}
 use Rattle.eval_shapes.proofs.Rows.{list_at, map_at, element-next, entry_next}
 use Rattle.eval_shapes.proofs.ComprehensionLaws.{comprehension-at}
+use Rattle.eval_shallow.specs.Shallow.{reach_of}
+use Rattle.eval_shallow.specs.SingleLists.{single_of}
 use Rattle.eval_shallow.proofs.Stops.{stays-here, stays, stays-on, stays-given}
 use Rattle.eval_shallow.proofs.SlotLaws.{leaf-here}
 use Rattle.eval_shallow.proofs.FixedOperands.{after-step, stops_first, joins-both, second_at}
@@ -33,7 +35,7 @@ use Rattle.eval_record.proofs.Evals.{leaf-is, none_is, map-full, map_is}
 use Rattle.eval_record.proofs.Lists.{list-begins}
 use Rattle.eval_record.proofs.Maps.{map-begins, entered-count, no-entry, key-ends, value-stops, entry-ends, entry-again}
 use Rattle.eval_record.proofs.Turns.{held-is, result-is, no-turn, turn-ends, turn-fails, step-ends, step-holds, step-binds, turns-begin, turns-again, turns-over}
-use Rattle.eval_record.proofs.Appends.{Guarded, no-append, append-ends, append-fails, guard-ends, guard-fails, list-ends, list-again, literal-does, run-added, appends-begin, appends-again, appends-over, came-unguarded, came-guarded, there-is, there-is-none}
+use Rattle.eval_record.proofs.Appends.{Guarded, no-append, append-ends, append-fails, guard-ends, guard-fails, list-ends, list-again, literal-does, run-added, appends-begin, appends-again, appends-over, came-unguarded, came-guarded, there-is, there-is-none, guard-within}
 use Rattle.eval_record.proofs.Comprehends.{init-stops, range-stops, no-range, turns-are, appends-are, condition-sound, step-sound, result-sound, accumulator-small, item-small, operands-smaller, literal-asked}
 use Rattle.eval_record.proofs.+records.Goals as goal
 use Rattle.eval_record.proofs.+records.Goals.{appending::appends-Joined-is_some, appending::appends-then-is_some, appending::appends-else-is_some}
@@ -426,6 +428,21 @@ guard-came t c =
           came-unguarded c.args.table.now c.args.lent.now.literal.now c.args.limit c.args.at c.args.path.guard (stored c.loop-left.inner c.args.places.item c.cell_at.result) c.in-Holds.more c.loop-left.lent (there-is-none c.args.path.guard c.is_some.ensures w.if-is_some.false) w.lent-is w.passes-is
     ]
 
+pub appending::appends-operand-test-requires : goal.appending::appends-operand-test-requires
+appending::appends-operand-test-requires t c =
+    let same = c.loop-left.invariant.stays.same_literal in
+    let within = guard-within c.args.table.now c.args.lent.now.literal.now c.args.places.step c.args.path.guard c.args.path.list c.requires.2 c.unwrap_or-guard.ensures in
+    let slots = on-literal (λ z. c.reach_at-guard_slots.result ≡ reach_of (expr_of c.args.table.now z c.unwrap_or-guard.result)) same c.reach_at-guard_slots.ensures.0 in
+    (omega (arith, within.2, c.requires.3), (on-literal (λ z. Sound c.args.table.now z c.unwrap_or-guard.result) same within.0, slots, c.reach_at-guard_slots.ensures.1))
+
+pub appending::appends-items_list-gathers-requires : goal.appending::appends-items_list-gathers-requires
+appending::appends-items_list-gathers-requires t c =
+    let guard = guard-came t (goal.at.appending::appends-items_list-gathers-requires t c).Joined-is_some in
+    let same = (stays-on c.loop-left.invariant.stays guard.stays).same_literal in
+    let within = guard-within c.args.table.now c.args.lent.now.literal.now c.args.places.step c.args.path.guard c.args.path.list c.requires.2 c.unwrap_or-guard.ensures in
+    let slots = on-literal (λ z. c.single_at-list_slots.result ≡ single_of (expr_of c.args.table.now z c.args.path.list)) same c.single_at-list_slots.ensures.0 in
+    (omega (arith, within.3, c.requires.3), (on-literal (λ z. Sound c.args.table.now z c.args.path.list) same within.1, slots, c.single_at-list_slots.ensures.1))
+
 pub appending::appends-loop-left-init : goal.appending::appends-loop-left-init
 appending::appends-loop-left-init t c =
     appends-begin c.args.table.now c.args.lent.now.literal.now c.args.limit c.args.at c.args.path c.args.items c.args.places c.args.scope c.args.used c.args.lent.now (omega arith) (omega arith) c.nothing-collected.result c.nothing-collected.ensures
@@ -433,31 +450,31 @@ appending::appends-loop-left-init t c =
 pub appending::appends-returns-in-Ends : goal.appending::appends-returns-in-Ends
 appending::appends-returns-in-Ends t c =
     let test = literal-does c.args.table.now c.args.lent.now.literal.now c.args.limit c.args.places.condition c.requires.0 c.requires.1 absent.value c.loop-left.spent (c.leaf-test.ensures ∙ ap (λ y. leaf_step c.args.table.now c.args.limit (expr_of c.args.table.now y c.args.places.condition) absent.value c.loop-left.spent) c.loop-left.invariant.stays.same_literal) c.loop-left.inner (rooms_lent c.loop-left.lent) in
-    stays-given c.loop-left.invariant.stays (append-ends (loop_at c.args.table.now c.args.lent.now.literal.now c.args.limit c.args.at c.args.places) (append_at c.args.table.now c.args.lent.now.literal.now c.args.limit c.args.path) c.args.items.space c.args.items.stride c.loop-left.left c.loop-left.cell c.loop-left-test.true (gathered_in c.loop-left.collected) c.loop-left.inner c.loop-left.spent (rooms_lent c.loop-left.lent) test c.asks.ensures c.in-Ends.is ∙ c.loop-left.invariant.same)
+    stays-given c.loop-left.invariant.stays (append-ends (loop_at c.args.table.now c.args.lent.now.literal.now c.args.limit c.args.at c.args.places) (append_at c.args.table.now c.args.lent.now.literal.now c.args.limit c.args.path) c.args.items.space c.args.items.stride c.loop-left.left c.loop-left.cell c.loop-left-test.true (gathered_by c.loop-left.collected) c.loop-left.inner c.loop-left.spent (rooms_lent c.loop-left.lent) test c.asks.ensures c.in-Ends.is ∙ c.loop-left.invariant.same)
 
 pub appending::appends-loop-left-preserved-in-Fails : goal.appending::appends-loop-left-preserved-in-Fails
 appending::appends-loop-left-preserved-in-Fails t c =
     let test = literal-does c.args.table.now c.args.lent.now.literal.now c.args.limit c.args.places.condition c.requires.0 c.requires.1 absent.value c.loop-left.spent (c.leaf-test.ensures ∙ ap (λ y. leaf_step c.args.table.now c.args.limit (expr_of c.args.table.now y c.args.places.condition) absent.value c.loop-left.spent) c.loop-left.invariant.stays.same_literal) c.loop-left.inner (rooms_lent c.loop-left.lent) in
-    appends-over c.args.table.now c.args.lent.now.literal.now c.args.limit c.args.at c.args.path c.args.items c.args.places c.args.scope c.args.used c.args.lent.now c.loop-left.invariant stays-here (append-fails (loop_at c.args.table.now c.args.lent.now.literal.now c.args.limit c.args.at c.args.places) (append_at c.args.table.now c.args.lent.now.literal.now c.args.limit c.args.path) c.args.items.space c.args.items.stride c.loop-left.left c.loop-left.cell c.loop-left-test.true (gathered_in c.loop-left.collected) c.loop-left.inner c.loop-left.spent (rooms_lent c.loop-left.lent) test c.asks.ensures c.in-Fails.is)
+    appends-over c.args.table.now c.args.lent.now.literal.now c.args.limit c.args.at c.args.path c.args.items c.args.places c.args.scope c.args.used c.args.lent.now c.loop-left.invariant stays-here (append-fails (loop_at c.args.table.now c.args.lent.now.literal.now c.args.limit c.args.at c.args.places) (append_at c.args.table.now c.args.lent.now.literal.now c.args.limit c.args.path) c.args.items.space c.args.items.stride c.loop-left.left c.loop-left.cell c.loop-left-test.true (gathered_by c.loop-left.collected) c.loop-left.inner c.loop-left.spent (rooms_lent c.loop-left.lent) test c.asks.ensures c.in-Fails.is)
 
 pub appending::appends-returns-in-Ends-passes : goal.appending::appends-returns-in-Ends-passes
 appending::appends-returns-in-Ends-passes t c =
     let test = literal-does c.args.table.now c.args.lent.now.literal.now c.args.limit c.args.places.condition c.requires.0 c.requires.1 absent.value c.loop-left.spent (c.leaf-test.ensures ∙ ap (λ y. leaf_step c.args.table.now c.args.limit (expr_of c.args.table.now y c.args.places.condition) absent.value c.loop-left.spent) c.loop-left.invariant.stays.same_literal) c.loop-left.inner (rooms_lent c.loop-left.lent) in
     let guard = guard-came t (goal.at.appending::appends-returns-in-Ends-passes t c).Joined-is_some in
-    stays-given (stays-on c.loop-left.invariant.stays guard.stays) (guard-ends (loop_at c.args.table.now c.args.lent.now.literal.now c.args.limit c.args.at c.args.places) (append_at c.args.table.now c.args.lent.now.literal.now c.args.limit c.args.path) c.args.items.space c.args.items.stride c.loop-left.left c.loop-left.cell c.loop-left-test.true (gathered_in c.loop-left.collected) c.loop-left.inner c.loop-left.spent (rooms_lent c.loop-left.lent) test c.asks.ensures c.in-Holds.is (c.cell_at.ensures ∙ ap (λ r. cell_at r c.args.items.space c.loop-left.cell) c.view.ensures) guard.passed c.in-Ends-passes.is ∙ c.loop-left.invariant.same)
+    stays-given (stays-on c.loop-left.invariant.stays guard.stays) (guard-ends (loop_at c.args.table.now c.args.lent.now.literal.now c.args.limit c.args.at c.args.places) (append_at c.args.table.now c.args.lent.now.literal.now c.args.limit c.args.path) c.args.items.space c.args.items.stride c.loop-left.left c.loop-left.cell c.loop-left-test.true (gathered_by c.loop-left.collected) c.loop-left.inner c.loop-left.spent (rooms_lent c.loop-left.lent) test c.asks.ensures c.in-Holds.is (c.cell_at.ensures ∙ ap (λ r. cell_at r c.args.items.space c.loop-left.cell) c.view.ensures) guard.passed c.in-Ends-passes.is ∙ c.loop-left.invariant.same)
 
 pub appending::appends-loop-left-preserved-in-Fails-passes : goal.appending::appends-loop-left-preserved-in-Fails-passes
 appending::appends-loop-left-preserved-in-Fails-passes t c =
     let test = literal-does c.args.table.now c.args.lent.now.literal.now c.args.limit c.args.places.condition c.requires.0 c.requires.1 absent.value c.loop-left.spent (c.leaf-test.ensures ∙ ap (λ y. leaf_step c.args.table.now c.args.limit (expr_of c.args.table.now y c.args.places.condition) absent.value c.loop-left.spent) c.loop-left.invariant.stays.same_literal) c.loop-left.inner (rooms_lent c.loop-left.lent) in
     let guard = guard-came t (goal.at.appending::appends-loop-left-preserved-in-Fails-passes t c).Joined-is_some in
-    appends-again c.args.table.now c.args.lent.now.literal.now c.args.limit c.args.at c.args.path c.args.items c.args.places c.args.scope c.args.used c.args.lent.now c.loop-left.invariant guard.stays c.loop-left-test.true (omega arith) c.loop-left.collected (omega arith, omega arith) (guard-fails (loop_at c.args.table.now c.args.lent.now.literal.now c.args.limit c.args.at c.args.places) (append_at c.args.table.now c.args.lent.now.literal.now c.args.limit c.args.path) c.args.items.space c.args.items.stride c.loop-left.left c.loop-left.cell c.loop-left-test.true (gathered_in c.loop-left.collected) c.loop-left.inner c.loop-left.spent (rooms_lent c.loop-left.lent) test c.asks.ensures c.in-Holds.is (c.cell_at.ensures ∙ ap (λ r. cell_at r c.args.items.space c.loop-left.cell) c.view.ensures) guard.passed c.in-Fails-passes.is)
+    appends-again c.args.table.now c.args.lent.now.literal.now c.args.limit c.args.at c.args.path c.args.items c.args.places c.args.scope c.args.used c.args.lent.now c.loop-left.invariant guard.stays c.loop-left-test.true (omega arith) c.loop-left.collected (omega arith, omega arith) (guard-fails (loop_at c.args.table.now c.args.lent.now.literal.now c.args.limit c.args.at c.args.places) (append_at c.args.table.now c.args.lent.now.literal.now c.args.limit c.args.path) c.args.items.space c.args.items.stride c.loop-left.left c.loop-left.cell c.loop-left-test.true (gathered_by c.loop-left.collected) c.loop-left.inner c.loop-left.spent (rooms_lent c.loop-left.lent) test c.asks.ensures c.in-Holds.is (c.cell_at.ensures ∙ ap (λ r. cell_at r c.args.items.space c.loop-left.cell) c.view.ensures) guard.passed c.in-Fails-passes.is)
 
 pub appending::appends-returns-in-Err : goal.appending::appends-returns-in-Err
 appending::appends-returns-in-Err t c =
     let test = literal-does c.args.table.now c.args.lent.now.literal.now c.args.limit c.args.places.condition c.requires.0 c.requires.1 absent.value c.loop-left.spent (c.leaf-test.ensures ∙ ap (λ y. leaf_step c.args.table.now c.args.limit (expr_of c.args.table.now y c.args.places.condition) absent.value c.loop-left.spent) c.loop-left.invariant.stays.same_literal) c.loop-left.inner (rooms_lent c.loop-left.lent) in
     let guard = guard-came t (goal.at.appending::appends-returns-in-Err t c).Joined-is_some in
     let listed = of-literal c.args.table.now c.args.limit c.args.path.list (stored c.loop-left.inner c.args.places.item c.cell_at.result) c.in-Holds-passes.after (stays-on c.loop-left.invariant.stays guard.stays).same_literal c.items_list-gathers.ensures in
-    stays-given (stays-on (stays-on c.loop-left.invariant.stays guard.stays) (stays-on (stays c.items_list-gathers.ensures) (stays c.gather_items.ensures))) (list-ends (loop_at c.args.table.now c.args.lent.now.literal.now c.args.limit c.args.at c.args.places) (append_at c.args.table.now c.args.lent.now.literal.now c.args.limit c.args.path) c.args.items.space c.args.items.stride c.loop-left.left c.loop-left.cell c.loop-left-test.true (gathered_in c.loop-left.collected) c.loop-left.inner c.loop-left.spent (rooms_lent c.loop-left.lent) test c.asks.ensures c.in-Holds.is (c.cell_at.ensures ∙ ap (λ r. cell_at r c.args.items.space c.loop-left.cell) c.view.ensures) guard.passed c.in-Holds-passes.is listed c.gather_items.ensures c.in-Err.is ∙ c.loop-left.invariant.same)
+    stays-given (stays-on (stays-on c.loop-left.invariant.stays guard.stays) (stays-on (stays c.items_list-gathers.ensures) (stays c.gather_items.ensures))) (list-ends (loop_at c.args.table.now c.args.lent.now.literal.now c.args.limit c.args.at c.args.places) (append_at c.args.table.now c.args.lent.now.literal.now c.args.limit c.args.path) c.args.items.space c.args.items.stride c.loop-left.left c.loop-left.cell c.loop-left-test.true (gathered_by c.loop-left.collected) c.loop-left.inner c.loop-left.spent (rooms_lent c.loop-left.lent) test c.asks.ensures c.in-Holds.is (c.cell_at.ensures ∙ ap (λ r. cell_at r c.args.items.space c.loop-left.cell) c.view.ensures) guard.passed c.in-Holds-passes.is listed c.gather_items.ensures c.in-Err.is ∙ c.loop-left.invariant.same)
 
 pub appending::appends-loop-left-preserved : goal.appending::appends-loop-left-preserved
 appending::appends-loop-left-preserved t c =
@@ -466,8 +483,8 @@ appending::appends-loop-left-preserved t c =
     let listed = of-literal c.args.table.now c.args.limit c.args.path.list (stored c.loop-left.inner c.args.places.item c.cell_at.result) c.in-Holds-passes.after (stays-on c.loop-left.invariant.stays guard.stays).same_literal c.items_list-gathers.ensures in
     let added = run-added c.loop-left.collected c.add.new.self _ c.in-Ok.turn.run.length _ c.add.ensures (omega arith) in
     appends-again c.args.table.now c.args.lent.now.literal.now c.args.limit c.args.at c.args.path c.args.items c.args.places c.args.scope c.args.used c.args.lent.now c.loop-left.invariant (stays-on guard.stays (stays-on (stays c.items_list-gathers.ensures) (stays c.gather_items.ensures))) c.loop-left-test.true (omega arith) c.add.new.self added
-    (list-again (loop_at c.args.table.now c.args.lent.now.literal.now c.args.limit c.args.at c.args.places) (append_at c.args.table.now c.args.lent.now.literal.now c.args.limit c.args.path) c.args.items.space c.args.items.stride c.loop-left.left c.loop-left.cell c.loop-left-test.true (gathered_in c.loop-left.collected) c.loop-left.inner c.loop-left.spent (rooms_lent c.loop-left.lent) test c.asks.ensures c.in-Holds.is (c.cell_at.ensures ∙ ap (λ r. cell_at r c.args.items.space c.loop-left.cell) c.view.ensures) guard.passed c.in-Holds-passes.is listed c.gather_items.ensures c.in-Ok.is c.add.ensures)
+    (list-again (loop_at c.args.table.now c.args.lent.now.literal.now c.args.limit c.args.at c.args.places) (append_at c.args.table.now c.args.lent.now.literal.now c.args.limit c.args.path) c.args.items.space c.args.items.stride c.loop-left.left c.loop-left.cell c.loop-left-test.true (gathered_by c.loop-left.collected) c.loop-left.inner c.loop-left.spent (rooms_lent c.loop-left.lent) test c.asks.ensures c.in-Holds.is (c.cell_at.ensures ∙ ap (λ r. cell_at r c.args.items.space c.loop-left.cell) c.view.ensures) guard.passed c.in-Holds-passes.is listed c.gather_items.ensures c.in-Ok.is c.add.ensures)
 
 pub appending::appends-returns : goal.appending::appends-returns
 appending::appends-returns t c =
-    stays-given (stays-on c.loop-left.invariant.stays (stays c.collected_list.ensures)) (c.collected_list.ensures.gives ∙ (sym (no-append (loop_at c.args.table.now c.args.lent.now.literal.now c.args.limit c.args.at c.args.places) (append_at c.args.table.now c.args.lent.now.literal.now c.args.limit c.args.path) c.args.items.space c.args.items.stride c.loop-left.left c.loop-left.cell (omega (arith, c.loop-left-test.false)) (gathered_in c.loop-left.collected) c.loop-left.inner c.loop-left.spent (rooms_lent c.loop-left.lent)) ∙ c.loop-left.invariant.same))
+    stays-given (stays-on c.loop-left.invariant.stays (stays c.list.ensures)) (c.list.ensures.gives ∙ (sym (no-append (loop_at c.args.table.now c.args.lent.now.literal.now c.args.limit c.args.at c.args.places) (append_at c.args.table.now c.args.lent.now.literal.now c.args.limit c.args.path) c.args.items.space c.args.items.stride c.loop-left.left c.loop-left.cell (omega (arith, c.loop-left-test.false)) (gathered_by c.loop-left.collected) c.loop-left.inner c.loop-left.spent (rooms_lent c.loop-left.lent)) ∙ c.loop-left.invariant.same))
