@@ -13,17 +13,11 @@ loop-index-preserved c = record {
   same_binding_text = c.copy_cells.ensures.same_binding_text ∙ c.loop-index.invariant.same_binding_text;
   same_cells = c.copy_cells.ensures.same_cells ∙ c.loop-index.invariant.same_cells;
   same_text = c.copy_cells.ensures.same_text ∙ c.loop-index.invariant.same_text;
-<<<<<<< HEAD
   cells_long = c.copy_cells.ensures.cells_long ∙ c.loop-index.invariant.cells_long;
   text_long = c.copy_cells.ensures.text_long ∙ c.loop-index.invariant.text_long;
-  room = omega (arith, c.loop-index.invariant.room, c.loop-index-test.true, c.run_at-run.type_inv);
-  left = ap (copies c.args.collected.now (c.loop-index.index + 1) (c.loop-index.place + c.run_at-run.result.length)) c.copy_cells.ensures.rooms_after
-      ∙ copies-on c.args.collected.now c.loop-index.index c.loop-index.place (rooms_lent c.loop-index.lent) c.run_at-run.result c.loop-index-test.true c.run_at-run.ensures
-=======
   room = omega (arith, c.loop-index.invariant.room, c.loop-index-test.true, c.number_at-length.type_inv);
   left = ap (copies c.args.firsts.now c.args.counts.now c.args.runs (c.loop-index.index + 1) (c.loop-index.place + c.number_at-length.result)) c.copy_cells.ensures.rooms_after
       ∙ copies-on c.args.firsts.now c.args.counts.now c.args.runs c.loop-index.index c.loop-index.place (rooms_lent c.loop-index.lent) c.loop-index-test.true c.number_at-first.ensures c.number_at-length.ensures
->>>>>>> a5/main
       ∙ c.loop-index.invariant.left;
 }
 
@@ -34,13 +28,8 @@ returns c = record {
   same_binding_text = c.loop-index.invariant.same_binding_text;
   same_cells = c.loop-index.invariant.same_cells;
   same_text = c.loop-index.invariant.same_text;
-<<<<<<< HEAD
   cells_long = c.loop-index.invariant.cells_long;
   text_long = c.loop-index.invariant.text_long;
-  rooms_after = copies-none c.args.collected.now c.loop-index.index c.loop-index.place (rooms_lent c.loop-index.lent) c.loop-index-test.false
-      ∙ c.loop-index.invariant.left ∙ copies-all c.args.collected.now c.args.to (rooms_lent c.args.lent.now);
-=======
   rooms_after = copies-none c.args.firsts.now c.args.counts.now c.args.runs c.loop-index.index c.loop-index.place (rooms_lent c.loop-index.lent) c.loop-index-test.false
       ∙ c.loop-index.invariant.left ∙ copies-all c.args.firsts.now c.args.counts.now c.args.runs c.args.to (rooms_lent c.args.lent.now);
->>>>>>> a5/main
 }

@@ -13,13 +13,8 @@ invariant-loop-index l = record {
   same_binding_text : l.lent.binding_text.now ≡ l.initial.lent.binding_text.now;
   same_cells : l.lent.cells.ghost_name ≡ l.initial.lent.cells.ghost_name;
   same_text : l.lent.text.ghost_name ≡ l.initial.lent.text.ghost_name;
-<<<<<<< HEAD
   cells_long : Lists.length l.lent.cells.now ≡ Lists.length l.initial.lent.cells.now;
   text_long : Lists.length l.lent.text.now ≡ Lists.length l.initial.lent.text.now;
-  room : l.place + (l.collected.runs - l.index) * 65535 < 281474976710656;
-  left : copies l.collected l.index l.place (rooms_lent l.lent) ≡ copies l.collected 0 l.to (rooms_lent l.initial.lent);
-=======
   room : l.place + (l.runs - l.index) * 65535 < 281474976710656;
   left : copies l.firsts l.counts l.runs l.index l.place (rooms_lent l.lent) ≡ copies l.firsts l.counts l.runs 0 l.to (rooms_lent l.initial.lent);
->>>>>>> a5/main
 }
