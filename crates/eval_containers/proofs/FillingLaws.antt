@@ -1,6 +1,6 @@
 -- List and Map records in the making: what the code does a step at a time is what the machine does. Assumes nothing.
--- Each step has two laws: one for any rooms before it and after it (`begun-any` and its like), and one for what is lent, `old` before it and `new`
--- after it.
+-- A step that writes has two laws: one for any rooms before it and after it (`begun-any` and its like), and one for what is lent, `old` before it and
+-- `new` after it.
 use Prim.Native.Nat.{ℕ, ◌+◌, ◌*◌, ◌≤◌, max}
 use mathlib.Core.Path.{◌≡◌, refl, sym, ap, ◌∙◌}
 use mathlib.Core.Bool.{Bool, true, false}

@@ -10,34 +10,39 @@ use lib.Dec.{eqb, ltb}
 use lib.ListN.{get_or}
 use Rattle.rooms.specs.declared.value.Value.{Value}
 use Rattle.rooms.specs.declared.value.CellSpace.{CellSpace}
+use Rattle.rooms.specs.declared.value.Row.{Row}
+use Rattle.rooms.specs.declared.value.Parts.{Parts}
 use Rattle.rooms.specs.declared.scope.Scope.{Scope}
 use Rattle.rooms.specs.declared.memory.Lent.{Lent}
-use Rattle.rooms.specs.Rooms.{Rooms, cell_at}
+use Rattle.rooms.specs.Rooms.{Rooms, words_of, cell_at, with_words}
+use Rattle.rooms.specs.Cells.{cell_in}
+use Rattle.rooms.specs.Value.{parts_of, nesting_of}
+use Rattle.rooms_taking.specs.Taking.{cell_room, taken_of, cells_taken, copied}
 use Rattle.rooms.specs.Memory.{rooms_lent}
 use Rattle.rooms.specs.Scope.{stored, slot_of}
 use Rattle.table_check.specs.Records.{expr_of, Sound}
 use Rattle.machine.specs.declared.outcome.Used.{Used}
 use Rattle.machine.specs.declared.outcome.Limit.TheVariants as Limit
 use Rattle.machine.specs.declared.outcome.Outcome.{Outcome}
-use Rattle.machine.specs.Outcomes.{Res, Does, stepped}
+use Rattle.machine.specs.Outcomes.{Res, Does, with_cells, with_value, on_taken, stepped}
 use Rattle.machine.specs.Machine.{machine}
 use Rattle.eval_shapes.specs.Leaves.{slot_in, leaf_step}
 use Rattle.eval_shapes.proofs.LeafLaws.{literal-gives, leaf-machine}
 use Rattle.machine.specs.declared.items.Items.{Items}
-use Rattle.machine.specs.Comprehension.{Loop, AppendStep, Gathered, asks, add_run, gathered, guarded, append_items, append_turns, nothing_gathered}
+use Rattle.machine.specs.Comprehension as Machine
+use Rattle.machine.specs.Comprehension.{Loop, AppendStep, Gathered, Gathering, asks, add_run, gathered, guarded, append_items, append_turns, nothing_gathered}
 use Rattle.eval_logic.specs.declared.conditions.Asked.{Asked}
 use Rattle.eval_logic.specs.Conditions.{asked_of, on_asked}
 use Rattle.eval_comprehension.specs.declared.append_result.Collected.{Collected}
 use Rattle.eval_outcomes.specs.Gives.{Gives, Stays}
 use Rattle.eval_comprehension.specs.declared.append_turn.Turn.{Turn}
 use Rattle.eval_comprehension.specs.AppendResult.{gathered_in}
-use Rattle.eval_comprehension.specs.AppendTurn.{gather_of, on_gather}
-use Rattle.eval_comprehension.proofs.AppendTurnLaws.{items_as}
+use Rattle.eval_comprehension.specs.AppendTurn.{gather_to, gather_parts, gather_of, on_gather}
 use Rattle.eval_shapes.specs.declared.comprehensions.Places.{Places}
 use Rattle.eval_shapes.specs.declared.comprehensions.Appending.{Appending}
 use Rattle.eval_shapes.specs.Comprehensions.{loop_at, items_seen, append_at}
 use Rattle.eval_shallow.proofs.Stops.{Is, stays-here, stays-on, after-operand}
-use Rattle.eval_record.proofs.Turns.{asked}
+use Rattle.eval_record.proofs.Turns.{asked, item-is}
 
 -- ---- a guard
 
@@ -87,6 +92,36 @@ literal-does t x limit p sound h v u e s r =
     ap (λ (o : Outcome). (o, r)) (e ∙ ap (λ (o : Outcome). cond (ltb u.steps limit) o (Outcome.Exhausted Limit.Steps u))
     (literal-gives t x p sound h v (stepped u) ∙ sym (literal-gives t x p sound h (slot_of s (slot_in (expr_of t x p))) (stepped u)))) ∙
     sym (leaf-machine t x p sound (omega (arith, h)) limit s u r)
+
+-- ---- what an items list gave, gathered
+
+module _ (g : Gathered) (rest : Gathering) where
+  abbrev on_both : Result Turn Outcome × Rooms → Res
+  on_both y = on_gather y.0 g y.1 rest
+
+  by-taken : (ro : Row) (d : ℕ) (u : Used) (q : Rooms) (k : Option ℕ) →
+      on_taken k
+      (λ end. rest (add_run (eqb ro.length 0) g u.cells ro.length d) (with_cells u end) (with_words q (copied q.binding_cells ro.space q.cells ro.first u.cells ro.length)))
+      (Outcome.Exhausted Limit.Cells u, q) ≡
+      on_both (gather_to k ro d u q)
+  by-taken ro d u q (Some end) = refl
+  by-taken ro d u q None = refl
+
+  by_parts : (v : Value) (u : Used) (r : Rooms) (p : Parts) → Machine.gather_parts v g p u r rest ≡ on_both (gather_parts v p u r)
+  by_parts v u r (Parts.Elements ro) =
+      by-taken ro (nesting_of v) u (with_words r (cells_taken r.cells u.cells ro.length)) (taken_of (cell_room r.cells) u.cells ro.length)
+  by_parts v u r (Parts.Entries ro) = refl
+  by_parts v u r (Parts.Present s a) = refl
+  by_parts v u r Parts.Nothing = refl
+
+  by-items : (o : Outcome) (r : Rooms) → with_value o r (λ v u q. Machine.gather_parts v g (parts_of v) u q rest) ≡ on_both (gather_of o r)
+  by-items (Outcome.Value v u) r = by_parts v u r (parts_of v)
+  by-items (Outcome.Error e p u) r = refl
+  by-items (Outcome.Exhausted y u) r = refl
+
+  items-given : (o : Outcome) (r : Rooms) {a : Result Turn Outcome} {q : Rooms} → ◌≡◌ {A = Result Turn Outcome × Rooms} (a, q) (gather_of o r) →
+      with_value o r (λ v u q. Machine.gather_parts v g (parts_of v) u q rest) ≡ on_gather a g q rest
+  items-given o r e = by-items o r ∙ ap on_both (sym e)
 
 module _ (c : Loop) (path : AppendStep) (space : CellSpace) (stride : ℕ) where
   pub no-append : (n at : ℕ) → n ≡ 0 → (g : Gathered) (s : Scope) (u : Used) (r : Rooms) → append_turns c path space stride n at g s u r ≡ gathered g u r
@@ -143,21 +178,71 @@ module _ (c : Loop) (path : AppendStep) (space : CellSpace) (stride : ℕ) where
         pub guard-fails : {y : Used} → b ≡ Asked.Fails y → onward scope g y z' ≡ all
         guard-fails way = ap (λ b. on_asked b z' (λ y q. append_items path g scope y q (λ k y' q'. onward scope k y' q')) (λ y q. onward scope g y q)) (sym way) ∙ this-guard
 
-        module _ {y : Used} (way : b ≡ Asked.Holds y) {o'' : Outcome} {old : Lent} (items : Is o'' (rooms_lent old) (path.items scope y z'))
-            {k : Result Turn Outcome} {new : Lent} (made : Gives k old new (λ r. gather_of o'' r)) where
-          this-list : on_gather k g (rooms_lent new) (λ k y' q'. onward scope k y' q') ≡ all
+        -- in any rooms
+        module _ {y : Used} (way : b ≡ Asked.Holds y) {o'' : Outcome} {z'' : Rooms} (items : Is o'' z'' (path.items scope y z'))
+            {k : Result Turn Outcome} {q'' : Rooms} (made : ◌≡◌ {A = Result Turn Outcome × Rooms} (k, q'') (gather_of o'' z'')) where
+          this-list : on_gather k g q'' (λ k y' q'. onward scope k y' q') ≡ all
           this-list =
-              sym (items_as g (λ k y' q'. onward scope k y' q') o'' made) ∙
+              sym (items-given g (λ k y' q'. onward scope k y' q') o'' z'' made) ∙
               (sym (after-operand (path.items scope y z') items _) ∙
               (ap (λ b. on_asked b z' (λ y q. append_items path g scope y q (λ k y' q'. onward scope k y' q')) (λ y q. onward scope g y q)) (sym way) ∙ this-guard))
 
+          pub list-ends-any : {e : Outcome} → k ≡ Err e → Is e q'' all
+          list-ends-any last = ap (λ k. on_gather k g q'' (λ k y' q'. onward scope k y' q')) (sym last) ∙ this-list
+
+          pub list-again-any : {turn : Turn} → k ≡ Ok turn → {g' : Gathered} → g' ≡ add_run (eqb turn.run.length 0) g turn.run.first turn.run.length turn.nesting →
+              onward scope g' turn.used q'' ≡ all
+          list-again-any {turn} last run =
+              ap (λ g'. onward scope g' turn.used q'') run ∙ (ap (λ k. on_gather k g q'' (λ k y' q'. onward scope k y' q')) (sym last) ∙ this-list)
+
+        -- in what is lent
+        module _ {y : Used} (way : b ≡ Asked.Holds y) {o'' : Outcome} {old : Lent} (items : Is o'' (rooms_lent old) (path.items scope y z'))
+            {k : Result Turn Outcome} {new : Lent} (made : Gives k old new (λ r. gather_of o'' r)) where
           pub list-ends : {e : Outcome} → k ≡ Err e → Is e (rooms_lent new) all
-          list-ends last = ap (λ k. on_gather k g (rooms_lent new) (λ k y' q'. onward scope k y' q')) (sym last) ∙ this-list
+          list-ends last = list-ends-any way items made.gives last
 
           pub list-again : {turn : Turn} → k ≡ Ok turn → {g' : Gathered} → g' ≡ add_run (eqb turn.run.length 0) g turn.run.first turn.run.length turn.nesting →
               onward scope g' turn.used (rooms_lent new) ≡ all
-          list-again {turn} last run =
-              ap (λ g'. onward scope g' turn.used (rooms_lent new)) run ∙ (ap (λ k. on_gather k g (rooms_lent new) (λ k y' q'. onward scope k y' q')) (sym last) ∙ this-list)
+          list-again last run = list-again-any way items made.gives last run
+
+-- ---- turns that go on, wherever the operands stand that this path does not use
+
+module _ (t x : List ℕ) (limit p : ℕ) (run : Appending) (space : CellSpace) (stride item condition : ℕ) where
+  abbrev path : AppendStep
+  path = append_at t x limit run
+
+  -- the turns from here do what those from there do
+  abbrev pub Same : (n at : ℕ) → Gathered → Scope → Used → Rooms → (n at : ℕ) → Gathered → Scope → Used → Rooms → Type 0
+  Same n at g s u r m q k e w z =
+      (places : Places) → places.item ≡ item → places.condition ≡ condition →
+      append_turns (loop_at t x limit p places) (append_at t x limit run) space stride n at g s u r ≡
+      append_turns (loop_at t x limit p places) (append_at t x limit run) space stride m q k e w z
+
+  pub none-again : (n at : ℕ) → 0 < n → (g : Gathered) (s : Scope) (u : Used) (r : Rooms) {o : Outcome} {z : Rooms} →
+      Is o z (machine t limit (expr_of t x condition) s u r) → {a : Asked} → a ≡ asked_of p o → {w : Used} → a ≡ Asked.Fails w → Same 0 at g s w z n at g s u r
+  none-again n at h g s u r test asking is places e f =
+      let k = rw (sym f) at test in
+      append-fails (loop_at t x limit p places) path space stride n at h g s u r k asking is
+
+  module _ (n at : ℕ) (h : 0 < n) (g : Gathered) (s : Scope) (u : Used) (r : Rooms) {o : Outcome} {z : Rooms}
+      (test : Is o z (machine t limit (expr_of t x condition) s u r)) {a : Asked} (asking : a ≡ asked_of p o) {w : Used} (is : a ≡ Asked.Holds w)
+      {v : Value} (cell : v ≡ cell_in (words_of z.binding_cells z.cells space) at)
+      {b : Asked} {z' : Rooms} (passed : Passed p (items_seen t x limit run.guard) (stored s item v) w z b z') where
+    pub fails-again : {y : Used} → b ≡ Asked.Fails y → Same (n - 1) (at + stride) g (stored s item v) y z' n at g s u r
+    fails-again way places e f =
+        let k = rw (sym f) at test in
+        let l = rw (sym e) at passed in
+        rw (sym e) (guard-fails (loop_at t x limit p places) path space stride n at h g s u r k asking is (item-is z space at cell) l way)
+
+    pub gathers-again : {y : Used} → b ≡ Asked.Holds y → {o'' : Outcome} {z'' : Rooms} → Is o'' z'' (machine t limit (expr_of t x run.list) (stored s item v) y z') →
+        {k : Result Turn Outcome} {q'' : Rooms} → ◌≡◌ {A = Result Turn Outcome × Rooms} (k, q'') (gather_of o'' z'') →
+        {turn : Turn} → k ≡ Ok turn → {g' : Gathered} → g' ≡ add_run (eqb turn.run.length 0) g turn.run.first turn.run.length turn.nesting →
+        Same (n - 1) (at + stride) g' (stored s item v) turn.used q'' n at g s u r
+    gathers-again way items made last added places e f =
+        let k = rw (sym f) at test in
+        let l = rw (sym e) at passed in
+        let i = rw (sym e) at items in
+        rw (sym e) (list-again-any (loop_at t x limit p places) path space stride n at h g s u r k asking is (item-is z space at cell) l way i made last added)
 
 -- a run adds at most itself and its elements
 run-adds : (b : Bool) (g : Gathered) (a n d : ℕ) → ((add_run b g a n d).runs ≤ g.runs + 1) × ((add_run b g a n d).count ≤ g.count + n)
