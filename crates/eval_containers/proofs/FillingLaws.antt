@@ -1,9 +1,9 @@
 -- List and Map records in the making: what the code does a step at a time is what the machine does. Assumes nothing.
--- In each law `old` is what was lent before the step, and `new` after it.
+-- A step that writes has two laws: one for any rooms before it and after it (`begun-any` and its like), and one for what is lent, `old` before it and
+-- `new` after it.
 use Prim.Native.Nat.{ℕ, ◌+◌, ◌*◌, ◌≤◌, max}
 use mathlib.Core.Path.{◌≡◌, refl, sym, ap, ◌∙◌}
 use mathlib.Core.Bool.{Bool, true, false}
-use mathlib.Core.List.{List}
 use Rattle.std.specs.Prelude.{Option, None, Some, Result}
 use native.Mathlib.Omega.{arith}
 use Rattle.rooms.specs.declared.value.Value.{Value}
@@ -41,26 +41,31 @@ module _ (n : ℕ) (u : Used) (q : Rooms) (k : Used → Rooms → Res) where
   by-taken (Some end) = refl
   by-taken None = refl
 
+pub begun-any : (n count : ℕ) (u : Used) (r : Rooms) (k : Used → Rooms → Res) {g : Option Begun} {q : Rooms} →
+    ◌≡◌ {A = Option Begun × Rooms} (g, q) (begun_of n count u r) → taking count u r k ≡ on_begun g u q k
+begun-any n count u r k e =
+    let f : Option Begun × Rooms → Res = λ y. on_begun y.0 u y.1 k in
+    by-taken n u (with_words r (cells_taken r.cells u.cells count)) k (taken_of (cell_room r.cells) u.cells count) ∙ ap f (sym e)
+
 pub begun : (n count : ℕ) (u : Used) (k : Used → Rooms → Res) {old new : Lent} {g : Option Begun} → Gives g old new (λ r. begun_of n count u r) →
     taking count u (rooms_lent old) k ≡ on_begun g u (rooms_lent new) k
-begun n count u k {old} e =
-    let w : List ℕ = old.cells.now in
-    let f : Option Begun × Rooms → Res = λ y. on_begun y.0 u y.1 k in
-    by-taken n u (with_words (rooms_lent old) (cells_taken w u.cells count)) k (taken_of (cell_room w) u.cells count) ∙ ap f (sym e.gives)
+begun n count u k {old} e = begun-any n count u (rooms_lent old) k e.gives
 
 -- which cells they are, and that the room has them
 abbrev pub Within : (n count : ℕ) → Used → Begun → Type 0
 Within n count u g = (g.first ≡ u.cells) × (g.parts ≡ n) × (u.cells + count ≤ 4096)
 
-by-begun : (n count : ℕ) (u : Used) (w : List ℕ) (g : Begun) (t : Option ℕ) → t ≡ taken_of (cell_room w) u.cells count →
+by-begun : (n count : ℕ) (u : Used) (r : Rooms) (g : Begun) (t : Option ℕ) → t ≡ taken_of (cell_room r.cells) u.cells count →
     Some g ≡ begun_to t n u → Within n count u g
-by-begun n count u w g (Some end) h e = (cc, cc, cells-within w u.cells count end h)
-by-begun n count u w g None h e = let a : ◌≡◌ {A = ℕ} 0 1 = cc in absurd (omega arith)
+by-begun n count u r g (Some end) h e = (cc, cc, cells-within r.cells u.cells count end h)
+by-begun n count u r g None h e = let a : ◌≡◌ {A = ℕ} 0 1 = cc in absurd (omega arith)
+
+pub begun-within-any : (n count : ℕ) (u : Used) (r : Rooms) {g : Begun} {q : Rooms} → ◌≡◌ {A = Option Begun × Rooms} (Some g, q) (begun_of n count u r) →
+    Within n count u g
+begun-within-any n count u r {g} e = by-begun n count u r g (taken_of (cell_room r.cells) u.cells count) refl (ap (λ y. y.0) e)
 
 pub begun-within : (n count : ℕ) (u : Used) {g : Begun} {old new : Lent} → Gives (Some g) old new (λ r. begun_of n count u r) → Within n count u g
-begun-within n count u {g} {old} e =
-    let w : List ℕ = old.cells.now in
-    by-begun n count u w g (taken_of (cell_room w) u.cells count) refl (ap (λ y. y.0) e.gives)
+begun-within n count u {g} {old} e = begun-within-any n count u (rooms_lent old) e.gives
 
 -- ---- an element
 
@@ -70,12 +75,16 @@ module _ (base : ℕ) (u : Used) (r : Rooms) (next : Filling) where
   by_part g None = refl
   by_part g (Some v) = refl
 
+pub added-any : (base : ℕ) (u : Used) (r : Rooms) (next : Filling) (g : Ready) (o : Option Value) {h : Ready} {q : Rooms} →
+    ◌≡◌ {A = Ready × Rooms} (h, q) (added_of base g o r) → add_element base g.count g.deep o u r next ≡ next h.count h.deep u q
+added-any base u r next g o e =
+    let f : Ready × Rooms → Res = λ y. next y.0.count y.0.deep u y.1 in
+    by_part base u r next g o ∙ ap f (sym e)
+
 pub added : (base : ℕ) (u : Used) (next : Filling) (g : Ready) (marked : Bool) (v : Value) {h : Ready} {old new : Lent} →
     Gives h old new (λ r. added_of base g (part_in r marked v) r) →
     add_element base g.count g.deep (part_in (rooms_lent old) marked v) u (rooms_lent old) next ≡ next h.count h.deep u (rooms_lent new)
-added base u next g marked v {h} {old} e =
-    let f : Ready × Rooms → Res = λ y. next y.0.count y.0.deep u y.1 in
-    by_part base u (rooms_lent old) next g (part_in (rooms_lent old) marked v) ∙ ap f (sym e.gives)
+added base u next g marked v {h} {old} e = added-any base u (rooms_lent old) next g (part_in (rooms_lent old) marked v) e.gives
 
 -- ---- an entry
 
@@ -106,9 +115,13 @@ module _ (limit p base : ℕ) (key : Value) (u : Used) (next : Filling) (g : Rea
   by_value r None = refl
   by_value r (Some v) = by-found p base key v u r next g (find_in limit r key Cells.Evaluation base g.count u.steps)
 
+  pub entered-any : (r : Rooms) (o : Option Value) {e : Result Entered Outcome} {q : Rooms} →
+      ◌≡◌ {A = Result Entered Outcome × Rooms} (e, q) (entered_of limit p base g key o u r) → add_entry limit p base g.count g.deep key o u r next ≡ on_entry e q next
+  entered-any r o h =
+      let f : Result Entered Outcome × Rooms → Res = λ y. on_entry y.0 y.1 next in
+      by_value r o ∙ ap f (sym h)
+
   pub entered : (marked : Bool) (v : Value) {e : Result Entered Outcome} {old new : Lent} →
       Gives e old new (λ r. entered_of limit p base g key (part_in r marked v) u r) →
       add_entry limit p base g.count g.deep key (part_in (rooms_lent old) marked v) u (rooms_lent old) next ≡ on_entry e (rooms_lent new) next
-  entered marked v {e} {old} h =
-      let f : Result Entered Outcome × Rooms → Res = λ y. on_entry y.0 y.1 next in
-      by_value (rooms_lent old) (part_in (rooms_lent old) marked v) ∙ ap f (sym h.gives)
+  entered marked v {e} {old} h = entered-any (rooms_lent old) (part_in (rooms_lent old) marked v) h.gives

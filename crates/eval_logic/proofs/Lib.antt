@@ -1,2 +1,3 @@
--- For those who call: what a condition decides is what the machine does. Assumes nothing.
+-- For those who call: what a condition decides is what the machine does (`ConditionLaws`), and which left errors stay (`LeftErrors`). Assume nothing.
 pub mod ConditionLaws
+pub mod LeftErrors

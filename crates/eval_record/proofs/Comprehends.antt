@@ -1,6 +1,6 @@
 -- A comprehension up to its loop: init, range, what it goes over and which loop is run, over what the calls for them ensure. Assumes nothing.
 use Prim.Native.Nat.{ℕ, ◌+◌, ◌<◌}
-use mathlib.Core.Path.{◌≡◌, refl, sym, ◌∙◌, ap}
+use mathlib.Core.Path.{◌≡◌, refl, sym, ◌∙◌, ap, subst}
 use mathlib.Core.Bool.{Bool, true, false, cond, ◌&&◌}
 use mathlib.Core.List.{List}
 use Rattle.std.specs.Prelude.{Option, None, Some}
@@ -26,7 +26,7 @@ use Rattle.machine.specs.Comprehension.{AppendStep, items_parts, on_items, empty
 use Rattle.machine.specs.Machine.{body, machine, append_step}
 use Rattle.eval_shapes.specs.declared.comprehensions.Appending.{Appending}
 use Rattle.eval_shapes.specs.declared.comprehensions.Places.{Places}
-use Rattle.eval_shapes.specs.Comprehensions.{places_at, loop_at, path_of, path_seen, append_at}
+use Rattle.eval_shapes.specs.Comprehensions.{places_at, loop_at, path_of, path_seen, append_at, PathIn}
 use Rattle.eval_shapes.proofs.SeenOfRecords.{literal-seen}
 use Rattle.eval_shapes.proofs.ComprehensionLaws.{ComprehensionAt, open_path, turns-taken, appends-taken}
 use Rattle.eval_shallow.proofs.Stops.{Is, Stops, stops-there, goes_on}
@@ -112,6 +112,14 @@ module _ (t x : List ℕ) (limit p : ℕ) (at : ComprehensionAt t x p) {over sec
 
 -- ---- what the loops ask
 
+-- of the append path that is run in the record at p: of its condition, its guard, which may be its list, and its list
+pub record Run (t x : List ℕ) (p condition guard list : ℕ) : Type 0 where
+  pub literal : get_or t condition 0 < 7
+  pub guard-sound : Sound t x guard
+  pub list-sound : Sound t x list
+  pub guard-smaller : word_at t (guard + 1) < word_at t (p + 1)
+  pub list-smaller : word_at t (list + 1) < word_at t (p + 1)
+
 module _ (t x : List ℕ) (p : ℕ) (at : ComprehensionAt t x p) {places : Places} (e : places ≡ places_at t p) where
   pub condition-sound : Sound t x places.condition
   condition-sound = rw e at.condition
@@ -135,3 +143,26 @@ module _ (t x : List ℕ) (p : ℕ) (at : ComprehensionAt t x p) {places : Place
   pub literal-asked : (start : Value) (path : Option Appending) → ((limit : ℕ) → path_seen t x limit path ≡ path_of t x limit places start) →
       {f : Appending} → path ≡ Some f → get_or t places.condition 0 < 7
   literal-asked start path path-is f = literal-condition t x 0 places start condition-sound (sym (path-is 0) ∙ ap (λ f. path_seen t x 0 f) f)
+
+  module _ (start : Value) (path : Option Appending) (path-is : (limit : ℕ) → path_seen t x limit path ≡ path_of t x limit places start) (inside : PathIn t x places.step path) where
+    pub plain-run : {list : ℕ} → path ≡ Some (record { guard = None; list = list }) → Run t x p places.condition list list
+    plain-run f =
+        let i = subst (λ f. PathIn t x places.step f) f inside in
+        record {
+          literal = literal-asked start path path-is f;
+          guard-sound = i.0;
+          list-sound = i.0;
+          guard-smaller = omega (arith, i.1, operands-smaller);
+          list-smaller = omega (arith, i.1, operands-smaller);
+        }
+
+    pub guarded-run : {guard list : ℕ} → path ≡ Some (record { guard = Some guard; list = list }) → Run t x p places.condition guard list
+    guarded-run f =
+        let i = subst (λ f. PathIn t x places.step f) f inside in
+        record {
+          literal = literal-asked start path path-is f;
+          guard-sound = i.0;
+          list-sound = i.1;
+          guard-smaller = omega (arith, i.2, operands-smaller);
+          list-smaller = omega (arith, i.2, operands-smaller);
+        }

@@ -6,12 +6,18 @@ use mathlib.Core.List.{List}
 use Rattle.std.specs.Prelude.{Option, None, Some}
 use native.Mathlib.Numerals.{sub-one}
 use native.Mathlib.Omega.{arith}
+use lib.ListN.{get_or}
+use Rattle.table_layout.specs.Layout.{word_at}
+use Rattle.table_layout.proofs.KindLaws.{head-table}
+use Rattle.table_check.specs.Records.{Sound}
+use Rattle.table_check.proofs.AcceptedRecordLaws.{sound-here}
 use Rattle.meaning.specs.Expr.{LogicalFold}
 use Rattle.rooms.specs.declared.value.Value.{Value}
 use Rattle.rooms.specs.declared.value.CellSpace.{CellSpace}
 use Rattle.rooms.specs.declared.scope.Scope.{Scope}
 use Rattle.rooms.specs.declared.memory.Lent.{Lent}
-use Rattle.rooms.specs.Rooms.{Rooms, cell_at}
+use Rattle.rooms.specs.Rooms.{Rooms, words_of, cell_at}
+use Rattle.rooms.specs.Cells.{cell_in}
 use Rattle.rooms.specs.Memory.{rooms_lent}
 use Rattle.rooms.specs.Scope.{stored}
 use Rattle.machine.specs.declared.outcome.Used.{Used}
@@ -36,6 +42,13 @@ use Rattle.eval_shallow.proofs.Stops.{Is, stays-here, stays-on}
 pub asked : (m : Res) (p : ℕ) {o : Outcome} {z : Rooms} → Is o z m → {a : Asked} → a ≡ asked_of p o → (holds fails : Used → Rooms → Res) →
     on_asked a z holds fails ≡ asks p m holds fails
 asked m p {o} {z} e {a} f holds fails = sym (asked-as p holds fails (o, z) a f) ∙ ap (λ (m : Res). asks p m holds fails) e
+
+-- ---- an item
+
+-- what the code read from its cell
+pub item-is : (r : Rooms) (space : CellSpace) (at : ℕ) {v : Value} → v ≡ cell_in (words_of r.binding_cells r.cells space) at → v ≡ cell_at r space at
+unfolding cell_at
+item-is r space at e = e
 
 -- ---- the end
 
@@ -119,6 +132,10 @@ pub record TurnsLoop (t x : List ℕ) (limit p : ℕ) (items : Items) (places : 
   pub below : cell + left * 65536 ≤ 65536 * 65536
   pub same : from_turn (loop_at t x limit p places) items.space items.stride left cell held s u (rooms_lent now) ≡
       from_turn (loop_at t x limit p places) items.space items.stride items.count items.first None s₀ u₀ (rooms_lent old)
+
+-- a record has an extent
+pub extent-least : (t x : List ℕ) (q : ℕ) → Sound t x q → 3 ≤ word_at t (q + 1)
+extent-least t x q s = let h = sound-here t x q s in let f = head-table (get_or t q 0) h.known in omega (arith, f.0, f.1, h.least)
 
 module _ (t x : List ℕ) (limit p : ℕ) (items : Items) (places : Places) (s₀ : Scope) (u₀ : Used) (old : Lent) where
   pub turns-begin : items.first < 65536 → items.count < 65536 →

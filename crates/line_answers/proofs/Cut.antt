@@ -101,6 +101,9 @@ module _ (k : ℕ) (c : ℕ) (dots : List ℕ) (s out : List ℕ) where
 
 -- ---- with the text that says that it goes on
 
+pub prefix : (n : ℕ) (l : List ℕ) → n ≤ length l → n ≡ length (take n l)
+prefix n l h = sym (length-take-le n l h)
+
 pub cut_full : (k : ℕ) (s out : List ℕ) (r : Page) → length out ≤ k → r ≡ puts s (0, out) → r ≡ puts (shortened k s) (0, out)
 unfolding shortened
 cut_full k s out r m e = e ∙ full k 32 (46 ∷ 46 ∷ 46 ∷ []) s out (leb (length s) k) refl m

@@ -39,6 +39,10 @@ nan-of b e = is-nan (of_bits binary64 b) (sym (nan_bits_is binary64 b) ∙ nan_i
 pub nan-back : of_bits binary64 arithmetic_nan ≡ nan
 nan-back = nan-of arithmetic_nan refl
 
+pub zero-over-zero : div binary64 (of_bits binary64 0) (of_bits binary64 0) ≡ nan
+unfolding div of_bits
+zero-over-zero = refl
+
 pub differs : (x : Float) → ne x x ≡ true → x ≡ nan
 differs x e = differs_from_itself x (subst T (sym e) tt)
 

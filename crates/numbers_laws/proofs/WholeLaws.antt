@@ -4,12 +4,17 @@ use mathlib.Core.Bool.{Bool, true, false, true≢false}
 use Prim.Native.Nat.{ℕ, suc, ◌+◌, ◌*◌, ◌^◌, ◌<◌}
 use native.Mathlib.Nat.{mul-lt-mul_of_pos_right, zero-mul}
 use native.Mathlib.Omega.{arith}
-use lib.IntN.{ℤ, pos, negsuc}
+use lib.IntN.{ℤ, pos, negsuc, nat_abs}
 use lib.Pow.{pow_pos}
+use lib.Signed.{lt_z}
+use mir.Syntax.{w64}
+use mir.Val.{SFits, to_z, of_z}
+use mir.ValLaws.{to_z-of_z}
+use borrow.Author.Tests.{le-ltb}
 use Rattle.std.specs.Prelude.{Some}
 use Rattle.std.specs.declared.cmp.Ordering.{Ordering}
 use Rattle.std.specs.declared.cmp.Ordering.TheVariants.{Less, Equal, Greater}
-use Rattle.numbers.specs.Order.{signed_order, order_of, whole_point, int_point, uint_point, is_equal}
+use Rattle.numbers.specs.Order.{signed_order, order_of, whole_point, below_zero, int_point, uint_point, is_equal}
 use Rattle.numbers_laws.proofs.OrderLaws.{order-swap}
 use Rattle.numbers_laws.proofs.SignedOrder.{SaysSigned, signed-says, signed_is, signed-map}
 
@@ -60,6 +65,18 @@ int-only (negsuc a) (negsuc b) e = ap negsuc (same a b (equal-says true (suc a) 
   where
     same : (a b : ℕ) → suc b ≡ suc a → a ≡ b
     same a b h = omega arith
+
+-- ---- an Int as the code hands it on: whether it is below zero, and its size
+
+pub int-below : (z : ℤ) → SFits w64 z → lt_z (to_z w64 (of_z w64 z)) (pos 0) ≡ below_zero z
+int-below z k = ap (λ (x : ℤ). lt_z x (pos 0)) (to_z-of_z w64 z k) ∙ go z
+  where
+    go : (z : ℤ) → lt_z z (pos 0) ≡ below_zero z
+    go (pos n) = le-ltb n 0 (omega arith)
+    go (negsuc n) = refl
+
+pub int-size : (z : ℤ) (n : ℕ) → SFits w64 z → n ≡ nat_abs (to_z w64 (of_z w64 z)) → n ≡ nat_abs z
+int-size z n k e = e ∙ ap nat_abs (to_z-of_z w64 z k)
 
 -- what compares two kinds
 pub ruleset kinds = (whole-order, order-swap)

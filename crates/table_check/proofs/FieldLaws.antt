@@ -6,14 +6,19 @@ use Rattle.std.specs.Prelude.{None, Some}
 use Prim.Native.Nat.{ℕ, zero, suc, ◌+◌, ◌-◌, ◌<◌, ◌≤◌}
 use native.Mathlib.Omega.{arith}
 use lib.Dec.{leb, ltb, leb-suc-suc}
-use lib.ListN.{length, take, drop}
+use lib.ListN.{length, get_or, take, drop}
 use Rattle.std.specs.Prelude.{slice_get}
 use borrow.Author.Tests.{le-leb, lt-leb, leb-true, ltb-true}
 use Rattle.text.specs.Utf8.{well_formed}
-use Rattle.meaning.specs.Kinds.{numbered, flags, name_of, unaries, binaries, functions}
-use Rattle.meaning.specs.Table.{span, utf8}
+use Rattle.meaning.specs.Kinds.{numbered, flags, name_of, kinds, unaries, binaries, functions}
+use Rattle.meaning.specs.Table.{span, utf8, word_bytes}
+use Rattle.meaning.specs.Heads.{field_bytes, fields_bytes, numbers_at}
 use Rattle.meaning.specs.Limits.{names}
-use Rattle.table_check.specs.Fits.{is_some}
+use Rattle.table_layout.specs.Layout.{row_of, word_at, fields_at}
+use Rattle.table_layout.proofs.WordLaws.{byte_is}
+use Rattle.table_layout.proofs.KindLaws.{every-kind}
+use Rattle.table_check.specs.Shapes.{numbers_of}
+use Rattle.table_check.specs.Fits.{is_some, fields_fit}
 
 some-cond : {A : Type 0} (b : Bool) (a : A) → is_some (cond b (Some a) None) ≡ b
 some-cond true a = refl
@@ -26,7 +31,7 @@ some_at (x ∷ l) (suc i) = some_at l i ∙ sym (leb-suc-suc (suc i) (length l))
 
 -- ---- numbers
 
-numbered_is : {A : Type 0} (l : List A) (n : ℕ) → is_some (numbered l n) ≡ (leb 1 n && leb n (length l))
+pub numbered_is : {A : Type 0} (l : List A) (n : ℕ) → is_some (numbered l n) ≡ (leb 1 n && leb n (length l))
 unfolding numbered
 numbered_is l zero = refl
 numbered_is l (suc n) = rw (le-leb 1 (suc n) (omega arith)) (some_at l n)
@@ -67,6 +72,9 @@ module _ (x : List ℕ) (o n : ℕ) where
   utf8_inside h =
       let e : o + n - o ≡ n = omega arith in rw (le-leb (o + n) (length x) h, e) (sym (some-cond (well_formed (take n (drop o x))) (take n (drop o x))))
 
+pub spans-same : (x : List ℕ) {a b o n : ℕ} → a ≡ o → b ≡ n → is_some (utf8 (span x a b)) ≡ is_some (utf8 (span x o n))
+spans-same x e f = rw (e, f)
+
 -- ---- what right fields give a caller
 
 pub span-inside : (x : List ℕ) (o n : ℕ) → is_some (span x o n) ≡ true → o + n ≤ length x
@@ -83,3 +91,63 @@ text-inside x o n e = let f = both_of (leb (o + n) (length x)) (take n (drop o x
 
 pub name_below : (n : ℕ) → is_some (name_of n) ≡ true → n < names
 name_below n e = ltb-true _ _ (sym (name_is n) ∙ e)
+
+-- ---- the fields of each kind that has some
+
+module _ (x t : List ℕ) (p : ℕ) where
+  pub bool-fits : leb (get_or t (p + fields_at) 0) 1 ≡ fields_fit x (row_of 1).kind (numbers_of t p 1)
+  unfolding row_of kinds fields_fit numbers_of numbers_at field_bytes fields_bytes word_at
+  bool-fits = rw (byte_is t (p + fields_at), flag_is)
+
+  pub string-fits : {a b : ℕ} → a ≡ word_at t (p + fields_at) → b ≡ word_at t (p + fields_at + word_bytes) → is_some (utf8 (span x a b)) ≡ fields_fit x (row_of 5).kind (numbers_of t p 5)
+  unfolding row_of kinds fields_fit numbers_of numbers_at field_bytes fields_bytes word_at
+  string-fits = λ e f. rw (e, f)
+
+  pub bytes-fits : {a b : ℕ} → a ≡ word_at t (p + fields_at) → b ≡ word_at t (p + fields_at + word_bytes) → is_some (span x a b) ≡ fields_fit x (row_of 6).kind (numbers_of t p 6)
+  unfolding row_of kinds fields_fit numbers_of numbers_at field_bytes fields_bytes word_at
+  bytes-fits = λ e f. rw (e, f)
+
+  pub name-fits : ltb (get_or t (p + fields_at) 0) 128 ≡ fields_fit x (row_of 7).kind (numbers_of t p 7)
+  unfolding row_of kinds fields_fit numbers_of numbers_at field_bytes fields_bytes word_at
+  name-fits = rw (byte_is t (p + fields_at), name_is)
+
+  pub unary-fits : (leb 1 (get_or t (p + fields_at) 0) && leb (get_or t (p + fields_at) 0) 3) ≡ fields_fit x (row_of 8).kind (numbers_of t p 8)
+  unfolding row_of kinds fields_fit numbers_of numbers_at field_bytes fields_bytes word_at unaries
+  unary-fits = rw (byte_is t (p + fields_at)) (sym (numbered_is unaries (get_or t (p + fields_at) 0)))
+
+  pub binary-fits : (leb 1 (get_or t (p + fields_at) 0) && leb (get_or t (p + fields_at) 0) 17) ≡ fields_fit x (row_of 9).kind (numbers_of t p 9)
+  unfolding row_of kinds fields_fit numbers_of numbers_at field_bytes fields_bytes word_at binaries
+  binary-fits = rw (byte_is t (p + fields_at)) (sym (numbered_is binaries (get_or t (p + fields_at) 0)))
+
+  pub select-is : (is_some (slice_get flags (get_or t (p + fields_at) 0)) && is_some (utf8 (span x (word_at t (p + fields_at + 1)) (word_at t (p + fields_at + 1 + word_bytes))))) ≡ fields_fit x
+      (row_of 11).kind (numbers_of t p 11)
+  unfolding row_of kinds fields_fit numbers_of numbers_at field_bytes fields_bytes word_at
+  select-is = rw (byte_is t (p + fields_at))
+
+  names-fit : (ltb (get_or t (p + fields_at) 0) 128 && ltb (get_or t (p + fields_at + 1) 0) 128) ≡ fields_fit x (row_of 15).kind (numbers_of t p 15)
+  unfolding row_of kinds fields_fit numbers_of numbers_at field_bytes fields_bytes word_at
+  names-fit = rw (byte_is t (p + fields_at), byte_is t (p + fields_at + 1), name_is (get_or t (p + fields_at) 0), name_is (get_or t (p + fields_at + 1) 0))
+
+  pub names-second : ltb (get_or t (p + fields_at) 0) 128 ≡ true → ltb (get_or t (p + fields_at + 1) 0) 128 ≡ fields_fit x (row_of 15).kind (numbers_of t p 15)
+  names-second e = rw e at names-fit
+
+  pub names-first : ltb (get_or t (p + fields_at) 0) 128 ≡ false → ltb (get_or t (p + fields_at) 0) 128 ≡ fields_fit x (row_of 15).kind (numbers_of t p 15)
+  names-first e = e ∙ (rw e at names-fit)
+
+  pub function-fits : (leb 1 (get_or t (p + fields_at) 0) && leb (get_or t (p + fields_at) 0) 6) ≡ fields_fit x (row_of 16).kind (numbers_of t p 16)
+  unfolding row_of kinds fields_fit numbers_of numbers_at field_bytes fields_bytes word_at functions
+  function-fits = rw (byte_is t (p + fields_at)) (sym (numbered_is functions (get_or t (p + fields_at) 0)))
+
+-- ---- kinds without fields that could be wrong
+
+pub no_fields : (x t : List ℕ) (p k : ℕ) → k < 17 → (k ≡ 1 → ⊥) → (k ≡ 5 → ⊥) → (k ≡ 6 → ⊥) → (k ≡ 7 → ⊥) → (k ≡ 8 → ⊥) → (k ≡ 9 → ⊥) → (k ≡ 11 → ⊥) →
+    (k ≡ 15 → ⊥) → (k ≡ 16 → ⊥) → true ≡ fields_fit x (row_of k).kind (numbers_of t p k)
+unfolding row_of kinds fields_fit
+no_fields x t p =
+    every-kind
+    (λ k. (k ≡ 1 → ⊥) → (k ≡ 5 → ⊥) → (k ≡ 6 → ⊥) → (k ≡ 7 → ⊥) → (k ≡ 8 → ⊥) → (k ≡ 9 → ⊥) → (k ≡ 11 → ⊥) → (k ≡ 15 → ⊥) → (k ≡ 16 → ⊥) →
+    true ≡ fields_fit x (row_of k).kind (numbers_of t p k)) (λ a b c d e f g h i. refl) (λ a b c d e f g h i. absurd (a refl)) (λ a b c d e f g h i. refl)
+    (λ a b c d e f g h i. refl) (λ a b c d e f g h i. refl) (λ a b c d e f g h i. absurd (b refl)) (λ a b c d e f g h i. absurd (c refl))
+    (λ a b c d e f g h i. absurd (d refl)) (λ a b c d e f g h i. absurd (e refl)) (λ a b c d e f g h i. absurd (f refl)) (λ a b c d e f g h i. refl)
+    (λ a b c d e f g h i. absurd (g refl)) (λ a b c d e f g h i. refl) (λ a b c d e f g h i. refl) (λ a b c d e f g h i. refl)
+    (λ a b c d e f g h i. absurd (h refl)) (λ a b c d e f g h i. absurd (i refl))

@@ -1,10 +1,10 @@
 -- The order of texts is a total order, in which a text comes before those that it begins, and `equal_of` decides whether two
 -- texts are the same bytes. Both are what std compares slices of bytes by.
-use Rattle.std.proofs.Common.{◌≡◌, ◌↔◌, ℕ, List, [], ◌∷◌, ◌++◌, ◌&&◌, true, eqb, nat_eq, refl, sym, ◌∙◌, ap}
+use Rattle.std.proofs.Common.{◌≡◌, ◌↔◌, ℕ, ◌<◌, List, [], ◌∷◌, ◌++◌, ◌&&◌, true, eqb, nat_eq, refl, sym, ◌∙◌, ap}
 use Rattle.std.specs.Cmp.{nat_cmp_is}
 use Rattle.std.specs.Cmp.Lexicographic.{slice_cmp, pointwise, nat_list_cmp_total, bytes_decides}
 use Rattle.std.specs.Ordering.{nat_cmp, ordering_then, ordering_reverse}
-use Rattle.std.specs.declared.cmp.Ordering.TheVariants.{Less, Equal}
+use Rattle.std.specs.declared.cmp.Ordering.TheVariants.{Less, Equal, Greater}
 use Rattle.std.proofs.lemmas.Map.Lookups.{exact_bytes}
 use Rattle.text.specs.Bytes.{order_of, equal_of}
 
@@ -23,12 +23,27 @@ pointwise_equal [] (y ∷ ys) = refl
 pointwise_equal (x ∷ xs) [] = refl
 pointwise_equal (x ∷ xs) (y ∷ ys) = ap (λ t. eqb x y && t) (pointwise_equal xs ys)
 
+-- ---- the first bytes
+-- Where the first bytes differ they decide, and where they are the same the rest does.
+module _ (x y : ℕ) (xs ys : List ℕ) where
+  pub first-less : x < y → order_of (x ∷ xs) (y ∷ ys) ≡ Less
+  unfolding order_of
+  first-less h = rw (← nat_cmp_is x y Less h)
+
+  pub first-greater : y < x → order_of (x ∷ xs) (y ∷ ys) ≡ Greater
+  unfolding order_of
+  first-greater h = rw (← nat_cmp_is x y Greater h)
+
+  pub first-same : x ≡ y → order_of (x ∷ xs) (y ∷ ys) ≡ order_of xs ys
+  unfolding order_of
+  first-same e = rw (← nat_cmp_is x y Equal e)
+
 -- ---- the order of texts
 -- A text is equal to itself.
 pub order_same : (xs : List ℕ) → order_of xs xs ≡ Equal
 unfolding order_of
 order_same [] = refl
-order_same (x ∷ xs) = rw (← nat_cmp_is x x Equal refl) (order_same xs)
+order_same (x ∷ xs) = first-same x x xs xs refl ∙ order_same xs
 
 -- Two texts are equal in the order exactly if they are the same bytes.
 pub order-equal : (xs ys : List ℕ) → (order_of xs ys ≡ Equal) ↔ (xs ≡ ys)
@@ -46,7 +61,7 @@ order-transitive xs ys zs p q = sym (by_bytes xs zs) ∙ nat_list_cmp_total.tran
 pub order-prefix : (xs : List ℕ) (y : ℕ) (ys : List ℕ) → order_of xs (xs ++ y ∷ ys) ≡ Less
 unfolding order_of
 order-prefix [] y ys = refl
-order-prefix (x ∷ xs) y ys = rw (← nat_cmp_is x x Equal refl) (order-prefix xs y ys)
+order-prefix (x ∷ xs) y ys = first-same x x xs (xs ++ y ∷ ys) refl ∙ order-prefix xs y ys
 
 -- ---- the decision of equality
 -- The decision says true exactly if the two texts are the same bytes.

@@ -1,0 +1,2 @@
+-- A Bool beside true and beside false. Assumes nothing.
+pub mod Bools

@@ -1,0 +1,2 @@
+-- An index that falls on an element. Assumes nothing.
+pub mod Places
