@@ -12,7 +12,7 @@ use Rattle.rooms.specs.declared.value.Value.{Value}
 use Rattle.rooms.specs.declared.value.CellSpace.{CellSpace}
 use Rattle.rooms.specs.declared.scope.Scope.{Scope}
 use Rattle.rooms.specs.declared.memory.Lent.{Lent}
-use Rattle.rooms.specs.Rooms.{Rooms, words_of, cell_at, with_words}
+use Rattle.rooms.specs.Rooms.{Rooms, words_of, cell_at}
 use Rattle.rooms.specs.Cells.{cell_in}
 use Rattle.rooms.specs.Memory.{rooms_lent}
 use Rattle.rooms.specs.Scope.{stored, slot_of}
@@ -21,13 +21,13 @@ use Rattle.table_check.specs.Records.{expr_of, Sound}
 use Rattle.machine.specs.declared.outcome.Used.{Used}
 use Rattle.machine.specs.declared.outcome.Limit.TheVariants as Limit
 use Rattle.machine.specs.declared.outcome.Outcome.{Outcome}
-use Rattle.machine.specs.Outcomes.{Res, Does, with_cells, with_value, on_taken, stepped}
+use Rattle.machine.specs.Outcomes.{Res, Does, stepped}
 use Rattle.machine.specs.Machine.{machine}
 use Rattle.eval_shapes.specs.Leaves.{slot_in, leaf_step}
 use Rattle.eval_shapes.proofs.LeafLaws.{literal-gives, leaf-machine}
 use Rattle.machine.specs.declared.items.Items.{Items}
 use Rattle.machine.specs.Comprehension as Machine
-use Rattle.machine.specs.Comprehension.{Loop, AppendStep, Gathered, Gathering, asks, add_run, gathered, guarded, append_items, append_turns, nothing_gathered}
+use Rattle.machine.specs.Comprehension.{Loop, AppendStep, Gathered, asks, add_run, gathered, guarded, append_items, append_turns, nothing_gathered}
 use Rattle.eval_logic.specs.declared.conditions.Asked.{Asked}
 use Rattle.eval_logic.specs.Conditions.{asked_of, on_asked}
 use Rattle.eval_comprehension.specs.declared.append_result.Runs.{Runs}
@@ -96,6 +96,88 @@ literal-does t x limit p sound h v u e s r =
     ap (λ (o : Outcome). (o, r)) (e ∙ ap (λ (o : Outcome). cond (ltb u.steps limit) o (Outcome.Exhausted Limit.Steps u))
     (literal-gives t x p sound h v (stepped u) ∙ sym (literal-gives t x p sound h (slot_of s (slot_in (expr_of t x p))) (stepped u)))) ∙
     sym (leaf-machine t x p sound (omega (arith, h)) limit s u r)
+
+module _ (c : Loop) (path : AppendStep) (space : CellSpace) (stride : ℕ) where
+  pub no-append : (n at : ℕ) → n ≡ 0 → (g : Gathered) (s : Scope) (u : Used) (r : Rooms) → append_turns c path space stride n at g s u r ≡ gathered g u r
+  unfolding append_turns
+  no-append n at e g s u r = rw e
+
+  module _ (n at : ℕ) (h : 0 < n) (g : Gathered) (s : Scope) (u : Used) (r : Rooms) where
+    abbrev all : Res
+    all = append_turns c path space stride n at g s u r
+
+    abbrev onward : Scope → Gathered → Used → Rooms → Res
+    onward t k w q = append_turns c path space stride (n - 1) (at + stride) k t w q
+
+    abbrev in_turn : Scope → Used → Rooms → Res
+    in_turn t w q = guarded c.place path.guard t w q (λ z o. append_items path g t z o (λ k z' o'. onward t k z' o')) (λ z o. onward t g z o)
+
+    abbrev in_item : Used → Rooms → Res
+    in_item w q = in_turn (stored s c.item (cell_at q space at)) w q
+
+    some-append : (n : ℕ) → 0 < n → append_turns c path space stride n at g s u r ≡
+        asks c.place (c.condition s u r)
+        (λ w q. let t : Scope = stored s c.item (cell_at q space at) in
+        guarded c.place path.guard t w q
+        (λ z o. append_items path g t z o (λ k z' o'. append_turns c path space stride (n - 1) (at + stride) k t z' o'))
+        (λ z o. append_turns c path space stride (n - 1) (at + stride) g t z o))
+        (λ w q. gathered g w q)
+    unfolding append_turns
+    some-append zero h = absurd (omega arith)
+    some-append (suc n) h = rw sub-one
+
+    module _ {o : Outcome} {z : Rooms} (test : Is o z (c.condition s u r)) {a : Asked} (asking : a ≡ asked_of c.place o) where
+      this-turn : on_asked a z in_item (λ w q. gathered g w q) ≡ all
+      this-turn = asked (c.condition s u r) c.place test asking in_item (λ w q. gathered g w q) ∙ sym (some-append n h)
+
+      pub append-ends : {e : Outcome} → a ≡ Asked.Ends e → Is e z all
+      append-ends is = ap (λ a. on_asked a z in_item (λ w q. gathered g w q)) (sym is) ∙ this-turn
+
+      -- no turn is left then
+      pub append-fails : {w : Used} → a ≡ Asked.Fails w → append_turns c path space stride 0 at g s w z ≡ all
+      append-fails {w} is = no-append 0 at refl g s w z ∙ (ap (λ a. on_asked a z in_item (λ w q. gathered g w q)) (sym is) ∙ this-turn)
+
+      module _ {w : Used} (is : a ≡ Asked.Holds w) {v : Value} (cell : v ≡ cell_at z space at)
+          {b : Asked} {z' : Rooms} (passed : Passed c.place path.guard (stored s c.item v) w z b z') where
+        abbrev scope : Scope
+        scope = stored s c.item v
+
+        this-guard : on_asked b z' (λ y q. append_items path g scope y q (λ k y' q'. onward scope k y' q')) (λ y q. onward scope g y q) ≡ all
+        this-guard =
+            passed.is _ _ ∙ (ap (λ (v : Value). in_turn (stored s c.item v) w z) cell ∙ (ap (λ a. on_asked a z in_item (λ w q. gathered g w q)) (sym is) ∙ this-turn))
+
+        pub guard-ends : {e : Outcome} → b ≡ Asked.Ends e → Is e z' all
+        guard-ends way = ap (λ b. on_asked b z' (λ y q. append_items path g scope y q (λ k y' q'. onward scope k y' q')) (λ y q. onward scope g y q)) (sym way) ∙ this-guard
+
+        pub guard-fails : {y : Used} → b ≡ Asked.Fails y → onward scope g y z' ≡ all
+        guard-fails way = ap (λ b. on_asked b z' (λ y q. append_items path g scope y q (λ k y' q'. onward scope k y' q')) (λ y q. onward scope g y q)) (sym way) ∙ this-guard
+
+        -- in any rooms
+        module _ {y : Used} (way : b ≡ Asked.Holds y) {o'' : Outcome} {z'' : Rooms} (items : Is o'' z'' (path.items scope y z'))
+            {k : Result Turn Outcome} {q'' : Rooms} (made : ◌≡◌ {A = Result Turn Outcome × Rooms} (k, q'') (gather_of o'' z'')) where
+          this-list : on_gather k g q'' (λ k y' q'. onward scope k y' q') ≡ all
+          this-list =
+              sym (items_in g (λ k y' q'. onward scope k y' q') o'' z'' made) ∙
+              (sym (after-operand (path.items scope y z') items _) ∙
+              (ap (λ b. on_asked b z' (λ y q. append_items path g scope y q (λ k y' q'. onward scope k y' q')) (λ y q. onward scope g y q)) (sym way) ∙ this-guard))
+
+          pub list-ends-any : {e : Outcome} → k ≡ Err e → Is e q'' all
+          list-ends-any last = ap (λ k. on_gather k g q'' (λ k y' q'. onward scope k y' q')) (sym last) ∙ this-list
+
+          pub list-again-any : {turn : Turn} → k ≡ Ok turn → {g' : Gathered} → g' ≡ add_run (eqb turn.run.length 0) g turn.run.first turn.run.length turn.nesting →
+              onward scope g' turn.used q'' ≡ all
+          list-again-any {turn} last run =
+              ap (λ g'. onward scope g' turn.used q'') run ∙ (ap (λ k. on_gather k g q'' (λ k y' q'. onward scope k y' q')) (sym last) ∙ this-list)
+
+        -- in what is lent
+        module _ {y : Used} (way : b ≡ Asked.Holds y) {o'' : Outcome} {old : Lent} (items : Is o'' (rooms_lent old) (path.items scope y z'))
+            {k : Result Turn Outcome} {new : Lent} (made : Gives k old new (λ r. gather_of o'' r)) where
+          pub list-ends : {e : Outcome} → k ≡ Err e → Is e (rooms_lent new) all
+          list-ends last = list-ends-any way items made.gives last
+
+          pub list-again : {turn : Turn} → k ≡ Ok turn → {g' : Gathered} → g' ≡ add_run (eqb turn.run.length 0) g turn.run.first turn.run.length turn.nesting →
+              onward scope g' turn.used (rooms_lent new) ≡ all
+          list-again last run = list-again-any way items made.gives last run
 
 -- ---- turns that go on, wherever the operands stand that this path does not use
 
