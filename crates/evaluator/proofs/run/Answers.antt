@@ -1,4 +1,5 @@
 -- `run` meets its contract. Assumes nothing.
+use Rattle.std.proofs.Common.{rules}
 use Rattle.rooms.specs.Memory.{rooms_lent}
 use Rattle.table_check.specs.Records.{expr_of}
 use Rattle.evaluator.proofs.Running.{run-answers}
@@ -11,7 +12,7 @@ returns c = record {
   same_binding_text = c.eval-outcome.ensures.same_binding_text;
   same_cells = c.eval-outcome.ensures.same_cells;
   same_text = c.eval-outcome.ensures.same_text;
-  cells_long = c.eval-outcome.ensures.cells_long;
-  text_long = c.eval-outcome.ensures.text_long;
+  cells_long = search rules;
+  text_long = search rules;
   gives = run-answers c.args.table.now c.step_limit-limit.result c.args.steps (expr_of c.args.table.now c.args.lent.now.literal.now 0) c.args.scope _ _ _ _ _ _ _ (rooms_lent c.args.lent.now) c.eval-outcome.result c.answered.result c.step_limit-limit.ensures c.eval-outcome.ensures.gives c.answered.ensures;
 }
