@@ -14,7 +14,6 @@ pub struct Words<'a> {
 
 impl<'a> Words<'a> {
     // The next word; an empty one where none is left.
-    #[tactic(auto, using(program_words::proofs::ReadingSteps::read_behind))]
     pub fn next_word(&mut self) -> &'a [u8]
         ensures { ReadOff self.old.left.now result.now self.new.left.now }
     {

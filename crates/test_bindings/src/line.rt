@@ -16,10 +16,8 @@ impl<'a> Words<'a> {
         ensures { ReadOff self.old.left.now result.now self.new.left.now }
     {
         let (word, rest) = self.left.split_at(find(self.left, 0, b' '));
-        self.left = match rest {
-            [] => rest,
-            [_, left @ ..] => left,
-        };
+        // behind the space, if there is one
+        self.left = &rest[rest.len().min(1)..];
         word
     }
 }
