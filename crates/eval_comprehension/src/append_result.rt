@@ -116,7 +116,8 @@ pub fn collected_list(
     Outcome::Value(Value::List(collected.nesting, row), with_cells(used, end))
 }
 
-// As many runs as there can be: where each stands, how many cells it has, and what was collected of them.
+// As many runs as there can be: where each stands, how many cells it has, and how much was collected.
+// Two arrays, since `add_run` and `collected_list` take two slices, each of any length.
 #[derive(Drop)]
 pub struct Runs {
     pub firsts: [u16; MOST_RUNS],
