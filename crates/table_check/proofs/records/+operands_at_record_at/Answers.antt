@@ -15,8 +15,8 @@ operands_at-loop-read-preserved t c =
 
 pub operands_at-returns-in_err-at : goal.operands_at-returns-in_err-at
 operands_at-returns-in_err-at t c =
-    let p = err_from_is_err_and c.from_residual.result c.from_residual.ensures.1 in
-    rw (p.1, p.2)
+    let o = err_from_is_err_and c.from_residual.result c.from_residual.ensures.1 in
+    rw (o.1, o.2)
     (operands-stop (read_of c.args.table.now c.args.text.now c.args.levels) c.args.place c.args.marks c.args.end (c.args.count - c.loop-read.read) c.loop-read.at
     (omega arith) (rw c.may_mark.ensures at (sym c.record_at.ensures ∙ c.in_err-at.was)) ∙ c.loop-read.invariant)
 
