@@ -27,7 +27,12 @@ pub fn select(
     let Outcome::Value(container, used) = operand else {
         return operand;
     };
-    select_field(lent, limit, test, container, field, at, used)
+    // A look-up writes cells alone, and is lent them apart.
+    let inputs = lent.inputs();
+    let text = &mut *lent.text;
+    select_field(
+        &inputs, lent.cells, text, limit, test, container, field, at, used,
+    )
 }
 
 fn call_value(
@@ -41,7 +46,7 @@ fn call_value(
 {
     match function {
         Function::Size => size(&lent.view(), argument, at, used),
-        Function::Of => present(lent, argument, used),
+        Function::Of => present(lent.cells, argument, used),
         Function::HasValue => has_value(argument, at, used),
         Function::Value => value(&lent.view(), argument, at, used),
     }

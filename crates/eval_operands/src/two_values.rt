@@ -1,4 +1,5 @@
 // A binary operator whose right operand is a value. Logic decides from what the left operand came to, any other operator from two values.
+ghost use Rattle.machine.specs.Selection.{index, opt_select};
 ghost use Rattle.machine.specs.Machine.{values_out, right_of};
 ghost use Rattle.eval_outcomes.specs.Gives.{Gives};
 ghost use Rattle.eval_outcomes.specs.Seen.{binary_seen};
@@ -12,6 +13,40 @@ use eval_selection::indexing::{index, optional_select};
 use machine::outcome::{Outcome, Used};
 use rooms::memory::Lent;
 use rooms::value::Value;
+
+// A look-up writes cells alone, and is lent them apart.
+fn indexed(
+    lent: &mut Lent,
+    limit: usize,
+    optional: bool,
+    container: Value,
+    probe: Value,
+    at: usize,
+    used: Used,
+) -> Outcome
+    ensures { Gives result lent.old lent.new (λ r. index limit at optional container probe used r) }
+{
+    let inputs = lent.inputs();
+    let text = &mut *lent.text;
+    index(
+        &inputs, lent.cells, text, limit, optional, container, probe, at, used,
+    )
+}
+
+fn optionally_selected(
+    lent: &mut Lent,
+    limit: usize,
+    container: Value,
+    field: Value,
+    at: usize,
+    used: Used,
+) -> Outcome
+    ensures { Gives result lent.old lent.new (λ r. opt_select limit at container field used r) }
+{
+    let inputs = lent.inputs();
+    let text = &mut *lent.text;
+    optional_select(&inputs, lent.cells, text, limit, container, field, at, used)
+}
 
 // Both operands are values, and the operator is none of logic.
 fn values(
@@ -28,9 +63,9 @@ fn values(
     match operator {
         Binary::Equals => equals(&lent.view(), limit, true, left, right, used),
         Binary::NotEquals => equals(&lent.view(), limit, false, left, right, used),
-        Binary::Index => index(lent, limit, false, left, right, at, used),
-        Binary::OptionalIndex => index(lent, limit, true, left, right, at, used),
-        Binary::OptionalSelect => optional_select(lent, limit, left, right, at, used),
+        Binary::Index => indexed(lent, limit, false, left, right, at, used),
+        Binary::OptionalIndex => indexed(lent, limit, true, left, right, at, used),
+        Binary::OptionalSelect => optionally_selected(lent, limit, left, right, at, used),
         Binary::Arithmetic(operation) => arithmetic(lent, operation, left, right, at, used),
         Binary::Order(comparison) => compare(&lent.view(), comparison, left, right, at, used),
         Binary::In => is_in(&lent.view(), limit, left, right, at, used),

@@ -1,8 +1,9 @@
 -- A function's result and the memory at its exit, as one equation with what the machine does on the memory at its entry.
-use Rattle.std.specs.Prelude.{◌≡◌, length}
+use Rattle.std.specs.Prelude.{◌≡◌, ℕ, List, length}
 use Rattle.rooms.specs.declared.memory.Lent.{Lent}
-use Rattle.rooms.specs.Rooms.{Rooms}
-use Rattle.rooms.specs.Memory.{rooms_lent}
+use Rattle.rooms.specs.declared.memory.Inputs.{Inputs}
+use Rattle.rooms.specs.Rooms.{Rooms, with_words}
+use Rattle.rooms.specs.Memory.{rooms_lent, rooms_with}
 
 -- the references stay those that were lent; a result is mostly an outcome, then `A × Rooms` is `Res`
 pub record Gives {A : Type 0} (result : A) (old new : Lent) (does : Rooms → A × Rooms) : Type 0 where
@@ -24,3 +25,11 @@ pub record Stays (old new : Lent) : Type 0 where
   pub same_text : new.text.ghost_name ≡ old.text.ghost_name
   pub cells_long : length new.cells.now ≡ length old.cells.now
   pub text_long : length new.text.now ≡ length old.text.now
+
+-- the same of what writes the evaluation's cells alone, and is lent its text shared
+abbrev pub GivesCells : {A : Type 0} → A → Inputs → (text old new : List ℕ) → (Rooms → A × Rooms) → Type 0
+GivesCells {A} result i text old new does = ◌≡◌ {A = A × Rooms} (result, rooms_with i new text) (does (rooms_with i old text))
+
+-- and of what is lent nothing but these cells, whatever else a run has
+abbrev pub GivesCellsAlone : {A : Type 0} → A → (old new : List ℕ) → (Rooms → A × Rooms) → Type 0
+GivesCellsAlone {A} result old new does = (r : Rooms) → ◌≡◌ {A = A × Rooms} (result, with_words r new) (does (with_words r old))

@@ -1,19 +1,44 @@
 // The entries of a Map record.
-ghost use Rattle.std.specs.Prelude.{◌≡◌, ◌+◌, get_or};
+ghost use Rattle.std.specs.Prelude.{◌≡◌, ◌<◌, ◌+◌, get_or};
 ghost use Rattle.meaning.specs.Kinds.{map_kind};
 ghost use Rattle.table_layout.specs.Layout.{word_at};
 ghost use Rattle.table_check.specs.Records.{Sound, kind_byte, pairs_of};
+ghost use Rattle.machine.specs.Views.{part_in};
 ghost use Rattle.machine.specs.Machine.{entries};
 ghost use Rattle.eval_outcomes.specs.Gives.{Gives};
+ghost use Rattle.eval_containers.specs.Filling.{entered_of};
 
 use crate::operands::part;
-use eval_containers::entries::add_entry;
+use eval_containers::entries::{Entered, add_entry};
 use eval_containers::{Begun, Container, Ready, key_of, whole_of};
 use eval_shapes::leaves::{is_marked, unmarked};
-use machine::outcome::Outcome;
+use machine::outcome::{Outcome, Used};
 use rooms::memory::Lent;
 use rooms::scope::Scope;
+use rooms::value::Value;
 use table_layout::outline::{end_at, first_operand};
+
+// An entry writes cells alone, and is lent them apart.
+fn enter(
+    lent: &mut Lent,
+    limit: usize,
+    first: u16,
+    ready: Ready,
+    key: Value,
+    marked: bool,
+    v: Value,
+    at: usize,
+    used: Used,
+) -> Result<Entered, Outcome>
+    requires { ready.count < 65536 }
+    ensures { Gives result lent.old lent.new (λ r. entered_of limit at first ready key (part_in r marked v) used r) }
+{
+    let inputs = lent.inputs();
+    let text = &mut *lent.text;
+    add_entry(
+        &inputs, lent.cells, text, limit, first, ready, key, marked, v, at, used,
+    )
+}
 
 // The entries of a Map record, into the cells that were taken for them: key, value, key, value.
 #[cycle(records)]
@@ -45,7 +70,7 @@ pub fn map_parts(
         let Outcome::Value(v, more) = two else {
             return two;
         };
-        let entered = match add_entry(
+        let entered = match enter(
             lent,
             limit,
             begun.first,

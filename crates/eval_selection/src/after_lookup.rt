@@ -2,21 +2,20 @@
 ghost use Rattle.std.specs.Prelude.{◌≡◌};
 ghost use Rattle.rooms.specs.Rooms.{Rooms};
 ghost use Rattle.machine.specs.Selection.{optionally, tells, perhaps, select_in_container, select_in_map};
-ghost use Rattle.eval_outcomes.specs.Gives.{Gives};
+ghost use Rattle.eval_outcomes.specs.Gives.{GivesCellsAlone};
 ghost use Rattle.eval_selection.specs.Untouched.{InMap};
 
 use eval_functions::optional_of::present;
 use eval_outcomes::outcomes::truth_out;
 use machine::outcome::Outcome;
-use rooms::memory::Lent;
 use rooms::value::Value;
 
 // A present Optional, or none for any error; exhaustion stays what it is.
-pub fn optionally(lent: &mut Lent, found: Outcome) -> Outcome
-    ensures { Gives result lent.old lent.new (λ r. optionally found r) }
+pub fn optionally(cells: &mut [u64], found: Outcome) -> Outcome
+    ensures { GivesCellsAlone result cells.old cells.new (λ r. optionally found r) }
 {
     match found {
-        Outcome::Value(value, used) => present(lent, value, used),
+        Outcome::Value(value, used) => present(cells, value, used),
         Outcome::Error(_, _, used) => Outcome::Value(Value::OptionalNone, used),
         Outcome::Exhausted(limit, used) => Outcome::Exhausted(limit, used),
     }
@@ -33,23 +32,23 @@ fn tells(found: Outcome) -> Outcome
     }
 }
 
-pub fn perhaps(lent: &mut Lent, optional: bool, found: Outcome) -> Outcome
-    ensures { Gives result lent.old lent.new (λ r. perhaps optional found r) }
+pub fn perhaps(cells: &mut [u64], optional: bool, found: Outcome) -> Outcome
+    ensures { GivesCellsAlone result cells.old cells.new (λ r. perhaps optional found r) }
 {
     if optional {
-        optionally(lent, found)
+        optionally(cells, found)
     } else {
         found
     }
 }
 
-pub fn select_in_container(lent: &mut Lent, test: bool, found: Outcome) -> Outcome
-    ensures { Gives result lent.old lent.new (λ r. select_in_container test found r) }
+pub fn select_in_container(cells: &mut [u64], test: bool, found: Outcome) -> Outcome
+    ensures { GivesCellsAlone result cells.old cells.new (λ r. select_in_container test found r) }
 {
     if test {
         tells(found)
     } else {
-        optionally(lent, found)
+        optionally(cells, found)
     }
 }
 

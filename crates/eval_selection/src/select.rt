@@ -3,13 +3,13 @@ ghost use Rattle.std.specs.Prelude.{◌≡◌};
 ghost use Rattle.rooms.specs.Value.{parts_of};
 ghost use Rattle.machine.specs.Views.{optional_in};
 ghost use Rattle.machine.specs.Selection.{select_in_none, select_in_present, select_plain, select_field};
-ghost use Rattle.eval_outcomes.specs.Gives.{Gives};
+ghost use Rattle.eval_outcomes.specs.Gives.{GivesCells};
 
 use crate::after_lookup::{select_in_container, select_in_map};
 use crate::lookups::look_up;
 use eval_outcomes::outcomes::{Optional, no_overload, optional_of, truth_out};
 use machine::outcome::{Error, Outcome, Used};
-use rooms::memory::Lent;
+use rooms::memory::Inputs;
 use rooms::value::{Parts, Value, parts_of};
 use rooms_cells::cell_at;
 
@@ -25,7 +25,9 @@ fn select_in_none(test: bool, used: Used) -> Outcome
 
 // In what a present Optional holds: a List or a Map is looked up, anything else has no such key.
 fn select_in_present(
-    lent: &mut Lent,
+    inputs: &Inputs,
+    cells: &mut [u64],
+    text: &[u8],
     limit: usize,
     test: bool,
     container: Value,
@@ -33,12 +35,12 @@ fn select_in_present(
     at: usize,
     used: Used,
 ) -> Outcome
-    ensures { Gives result lent.old lent.new (λ r. select_in_present limit at test field container (parts_of container) used r) }
+    ensures { GivesCells result inputs.now text.now cells.old cells.new (λ r. select_in_present limit at test field container (parts_of container) used r) }
 {
     match parts_of(container) {
         Parts::Elements(_) | Parts::Entries(_) => {
-            let found = look_up(&lent.view(), limit, container, field, at, used);
-            select_in_container(lent, test, found)
+            let found = look_up(&inputs.view(cells, text), limit, container, field, at, used);
+            select_in_container(cells, test, found)
         }
         _ => Outcome::Error(Error::NoSuchKey, at, used),
     }
@@ -56,7 +58,9 @@ fn select_plain(test: bool, value: Value, at: usize, used: Used) -> Outcome
 
 // `e.field` and, if `test`, has(e.field).
 pub fn select_field(
-    lent: &mut Lent,
+    inputs: &Inputs,
+    cells: &mut [u64],
+    text: &[u8],
     limit: usize,
     test: bool,
     container: Value,
@@ -64,17 +68,17 @@ pub fn select_field(
     at: usize,
     used: Used,
 ) -> Outcome
-    ensures { Gives result lent.old lent.new (λ r. select_field limit at test field container used r) }
+    ensures { GivesCells result inputs.now text.now cells.old cells.new (λ r. select_field limit at test field container used r) }
 {
     match parts_of(container) {
         Parts::Elements(_) => no_overload(at, used),
         Parts::Entries(_) => {
-            let found = look_up(&lent.view(), limit, container, field, at, used);
+            let found = look_up(&inputs.view(cells, text), limit, container, field, at, used);
             select_in_map(test, found)
         }
         Parts::Present(space, cell) => {
-            let part = cell_at(&lent.view(), space, cell as usize);
-            select_in_present(lent, limit, test, part, field, at, used)
+            let part = cell_at(&inputs.view(cells, text), space, cell as usize);
+            select_in_present(inputs, cells, text, limit, test, part, field, at, used)
         }
         Parts::Nothing => select_plain(test, container, at, used),
     }

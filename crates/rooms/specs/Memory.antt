@@ -2,6 +2,7 @@
 use Rattle.std.specs.Prelude.{ℕ, List, ◌≡◌, length}
 use Rattle.rooms.specs.declared.memory.View.{View}
 use Rattle.rooms.specs.declared.memory.Lent.{Lent}
+use Rattle.rooms.specs.declared.memory.Inputs.{Inputs}
 use Rattle.rooms.specs.declared.value.Span.{Span}
 use Rattle.rooms.specs.Rooms.{Rooms, rooms, span_in}
 
@@ -10,6 +11,10 @@ rooms_seen v = rooms v.literal.now v.binding_cells.now v.binding_text.now v.cell
 
 abbrev pub rooms_lent : Lent → Rooms
 rooms_lent m = rooms m.literal.now m.binding_cells.now m.binding_text.now m.cells.now m.text.now
+
+-- with cells and a text of the evaluation
+abbrev pub rooms_with : Inputs → (cells text : List ℕ) → Rooms
+rooms_with i w t = rooms i.literal.now i.binding_cells.now i.binding_text.now w t
 
 -- the bytes of a span
 abbrev pub spanned : Rooms → Span → List ℕ

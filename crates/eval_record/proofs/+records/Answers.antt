@@ -242,14 +242,14 @@ map_records::map_parts-returns-in_default t c =
     let valued = of-literal c.args.table.now c.args.limit c.unmarked-element.result c.args.scope c.in-Ok.key.used between.same_literal c.part-two.ensures ∙ ap (λ (n : ℕ). machine c.args.table.now c.args.limit (expr_of c.args.table.now c.args.lent.now.literal.now n) c.args.scope c.in-Ok.key.used (rooms_lent c.part-one.new.lent)) u2 in
     stays-given (stays-on between (stays c.part-two.ensures)) (value-stops c.args.table.now c.args.lent.now.literal.now c.args.limit c.args.at c.args.begun.first c.args.scope c.loop-left.left c.loop-left.place c.loop-left-test.true f.sound c.loop-left.ready c.loop-left.spent (rooms_lent c.loop-left.lent) keyed c.key_of.ensures c.in-Ok.is valued (opened c.in_default.in_default-own.keys2) ∙ c.loop-left.invariant.same)
 
-pub map_records::map_parts-returns-in-Err-add_entry : goal.map_records::map_parts-returns-in-Err-add_entry
-map_records::map_parts-returns-in-Err-add_entry t c =
+pub map_records::map_parts-returns-in-Err-enter : goal.map_records::map_parts-returns-in-Err-enter
+map_records::map_parts-returns-in-Err-enter t c =
     let f = entry_next c.args.table.now c.args.lent.now.literal.now c.args.at c.loop-left.left c.loop-left.place c.loop-left-test.true c.loop-left.invariant.row in
     let keyed = of-literal c.args.table.now c.args.limit c.loop-left.place c.args.scope c.loop-left.spent c.loop-left.invariant.stays.same_literal c.part-one.ensures in
     let u2 : c.unmarked-element.result ≡ unmarked_at c.args.table.now (after c.args.table.now c.loop-left.place) = c.unmarked-element.ensures ∙ ap (λ (n : ℕ). unmarked_at c.args.table.now n) c.end_at-second.ensures in
     let between = stays-on c.loop-left.invariant.stays (stays c.part-one.ensures) in
     let valued = of-literal c.args.table.now c.args.limit c.unmarked-element.result c.args.scope c.in-Ok.key.used between.same_literal c.part-two.ensures ∙ ap (λ (n : ℕ). machine c.args.table.now c.args.limit (expr_of c.args.table.now c.args.lent.now.literal.now n) c.args.scope c.in-Ok.key.used (rooms_lent c.part-one.new.lent)) u2 in
-    stays-given (stays-on between (stays-on (stays c.part-two.ensures) (stays c.add_entry.ensures))) (entry-ends c.args.table.now c.args.lent.now.literal.now c.args.limit c.args.at c.args.begun.first c.args.scope c.loop-left.left c.loop-left.place c.loop-left-test.true f.sound c.loop-left.ready c.loop-left.spent (rooms_lent c.loop-left.lent) keyed c.key_of.ensures c.in-Ok.is valued c.in-Value.is (c.is_marked-marked.ensures ∙ ap (λ (n : ℕ). eqb (get_or c.args.table.now n 0) 14) c.end_at-second.ensures) c.add_entry.ensures c.in-Err-add_entry.is ∙ c.loop-left.invariant.same)
+    stays-given (stays-on between (stays-on (stays c.part-two.ensures) (stays c.enter.ensures))) (entry-ends c.args.table.now c.args.lent.now.literal.now c.args.limit c.args.at c.args.begun.first c.args.scope c.loop-left.left c.loop-left.place c.loop-left-test.true f.sound c.loop-left.ready c.loop-left.spent (rooms_lent c.loop-left.lent) keyed c.key_of.ensures c.in-Ok.is valued c.in-Value.is (c.is_marked-marked.ensures ∙ ap (λ (n : ℕ). eqb (get_or c.args.table.now n 0) 14) c.end_at-second.ensures) c.enter.ensures c.in-Err-enter.is ∙ c.loop-left.invariant.same)
 
 pub map_records::map_parts-end_at-place-requires : goal.map_records::map_parts-end_at-place-requires
 map_records::map_parts-end_at-place-requires t c =
@@ -263,12 +263,12 @@ map_records::map_parts-loop-left-preserved t c =
     let u2 : c.unmarked-element.result ≡ unmarked_at c.args.table.now (after c.args.table.now c.loop-left.place) = c.unmarked-element.ensures ∙ ap (λ (n : ℕ). unmarked_at c.args.table.now n) c.end_at-second.ensures in
     let between = stays-on c.loop-left.invariant.stays (stays c.part-one.ensures) in
     let valued = of-literal c.args.table.now c.args.limit c.unmarked-element.result c.args.scope c.in-Ok.key.used between.same_literal c.part-two.ensures ∙ ap (λ (n : ℕ). machine c.args.table.now c.args.limit (expr_of c.args.table.now c.args.lent.now.literal.now n) c.args.scope c.in-Ok.key.used (rooms_lent c.part-one.new.lent)) u2 in
-    let n = entered-count c.args.limit c.args.at c.args.begun.first c.loop-left.ready c.in-Ok.key.value c.is_marked-marked.result c.in-Value.v c.in-Value.more c.add_entry.ensures c.in-Ok-add_entry.is in
+    let n = entered-count c.args.limit c.args.at c.args.begun.first c.loop-left.ready c.in-Ok.key.value c.is_marked-marked.result c.in-Value.v c.in-Value.more c.enter.ensures c.in-Ok-enter.is in
     rw (c.end_at-place.ensures, c.end_at-second.ensures) (record {
       row = f.rest;
-      stays = stays-on between (stays-on (stays c.part-two.ensures) (stays c.add_entry.ensures));
+      stays = stays-on between (stays-on (stays c.part-two.ensures) (stays c.enter.ensures));
       room = omega (arith, n, c.loop-left.invariant.room, c.loop-left-test.true);
-      same = entry-again c.args.table.now c.args.lent.now.literal.now c.args.limit c.args.at c.args.begun.first c.args.scope c.loop-left.left c.loop-left.place c.loop-left-test.true f.sound c.loop-left.ready c.loop-left.spent (rooms_lent c.loop-left.lent) keyed c.key_of.ensures c.in-Ok.is valued c.in-Value.is (c.is_marked-marked.ensures ∙ ap (λ (n : ℕ). eqb (get_or c.args.table.now n 0) 14) c.end_at-second.ensures) c.add_entry.ensures c.in-Ok-add_entry.is ∙ c.loop-left.invariant.same;
+      same = entry-again c.args.table.now c.args.lent.now.literal.now c.args.limit c.args.at c.args.begun.first c.args.scope c.loop-left.left c.loop-left.place c.loop-left-test.true f.sound c.loop-left.ready c.loop-left.spent (rooms_lent c.loop-left.lent) keyed c.key_of.ensures c.in-Ok.is valued c.in-Value.is (c.is_marked-marked.ensures ∙ ap (λ (n : ℕ). eqb (get_or c.args.table.now n 0) 14) c.end_at-second.ensures) c.enter.ensures c.in-Ok-enter.is ∙ c.loop-left.invariant.same;
     })
 
 pub map_records::map_parts-returns : goal.map_records::map_parts-returns

@@ -5,4 +5,4 @@ use Rattle.eval_outcomes.proofs.Taking.{cells-within}
 use Rattle.eval_functions.proofs.optional_of.present.Goals as goal
 
 pub overflow_cast-result : goal.overflow_cast-result
-overflow_cast-result c = record { fits = omega (arith, cells-within c.args.lent.now.cells.now c.args.used.cells 1 _ (sym c.in-Some.is ∙ c.take_cells.ensures.0)) }
+overflow_cast-result c = record { fits = omega (arith, cells-within c.args.cells.now c.args.used.cells 1 _ (sym c.in-Some.is ∙ c.take_cells.ensures.0)) }
