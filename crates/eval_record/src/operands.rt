@@ -1,5 +1,4 @@
 // An operand that is a literal or a name, or near those, is evaluated with its slots alone, and any other by `eval`.
-// All are inlined: as calls of their own they would have a copy of the scope each on the stack, one more for every level of a rule.
 ghost use Rattle.std.specs.Prelude.{◌≡◌, Some};
 ghost use Rattle.table_check.specs.Records.{Sound, expr_of};
 ghost use Rattle.machine.specs.Machine.{machine};
@@ -36,7 +35,6 @@ fn slots_in(scope: &Scope, slots: Pair<Pair<usize>>) -> Pair<Pair<Slot>>
 
 // `slots` are those of the record, if it is within reach.
 #[cycle(records)]
-#[inline(always)]
 pub fn operand(
     table: &[u8],
     lent: &mut Lent,
@@ -57,7 +55,6 @@ pub fn operand(
 
 // An items list; `slots` are those of its element, if it has one alone and that is within reach.
 #[cycle(records)]
-#[inline(always)]
 pub fn items_list(
     table: &[u8],
     lent: &mut Lent,
@@ -78,7 +75,6 @@ pub fn items_list(
 
 // A literal or a name with its slot, and any other record by `eval`.
 #[cycle(records)]
-#[inline(always)]
 pub fn part(
     table: &[u8],
     lent: &mut Lent,
