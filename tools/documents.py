@@ -8,7 +8,8 @@
 - docs/PROOFS.md names each edit under crates/*/must-fail in a row of its crate, and no edit that is not there; the functions that such a row names
   are there; a contract that callers outside use has two edits or more, and each public function of the crates that are theirs has a row there.
 - A path of a file that begins at the root or in a crate, and a link, lead to something. A path of code in backticks (`crate::module::function`)
-  leads to an item, also in the way of a rule in docs/NEWCOMERS.md. This is not asked of docs/CHANGES.md, docs/PORT.md and docs/DESIGN-PASS.md, which name what is gone.
+  leads to an item, also in the way of a rule in docs/NEWCOMERS.md. This is not asked of docs/CHANGES.md, docs/PORT.md,
+  docs/DESIGN-PASS.md and docs/LOOK-BACK.md, which name what is gone.
 - A name in backticks of docs/PROOFS.md occurs in the sources, and in the file that stands in brackets behind it.
 - docs/DECISIONS.md lists each public function of a library that has a `requires`, and no other.
 Says what is wrong, a line each, and ends with 1; ends with 0 otherwise.
@@ -24,7 +25,7 @@ from pathlib import Path
 ROOT = Path(__file__).resolve().parent.parent
 CRATES = ROOT / "crates"
 README, PROOFS, NEWCOMERS, DECISIONS = ROOT / "README.md", *(ROOT / "docs" / f"{name}.md" for name in ("PROOFS", "NEWCOMERS", "DECISIONS"))
-PAGES = [page for page in (README, *sorted((ROOT / "docs").glob("*.md"))) if page.name not in ("CHANGES.md", "PORT.md", "DESIGN-PASS.md")]
+PAGES = [page for page in (README, *sorted((ROOT / "docs").glob("*.md"))) if page.name not in ("CHANGES.md", "PORT.md", "DESIGN-PASS.md", "LOOK-BACK.md")]
 SMALL = 60  # lines of code
 ITEM = r"\b(?:fn|struct|enum|const|mod|impl)"
 # what callers outside use, whole crates or modules, but for functions that only crates here call
