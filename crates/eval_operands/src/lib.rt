@@ -13,7 +13,7 @@ ghost use Rattle.std.specs.Prelude.{◌≡◌, ◌+◌, ◌≤◌, length};
 ghost use Rattle.meaning.specs.Kinds.{select_kind};
 ghost use Rattle.table_check.specs.Records.{Sound, expr_of, head_of_kind};
 ghost use Rattle.machine.specs.Literals.{field_value};
-ghost use Rattle.eval_outcomes.specs.Gives.{Gives};
+ghost use Rattle.eval_outcomes.specs.Gives.{Gives, GivesCells};
 ghost use Rattle.eval_shapes.specs.Shapes.{shape_of, next_of};
 
 use crate::left_operand::after_left;
@@ -22,7 +22,7 @@ use crate::unary::unary;
 use eval_shapes::Shape;
 use eval_shapes::next::{Fixed, Next, after_condition, after_default};
 use machine::outcome::Outcome;
-use rooms::memory::Lent;
+use rooms::memory::{Inputs, Lent};
 use rooms::value::{Span, TextSpace, Value};
 use table_layout::fields::field_at;
 use table_layout::outline::{end_at, first_operand};
@@ -39,16 +39,19 @@ fn field_value(table: &[u8], at: usize) -> Value
     })
 }
 
+// What follows the operand that is begun first, from what that one came to.
 pub fn after_first(
     table: &[u8],
-    lent: &mut Lent,
+    inputs: &Inputs,
+    cells: &mut [u64],
+    text: &[u8],
     limit: usize,
     at: usize,
     fixed: Fixed,
     first: Outcome,
 ) -> Next
-    requires { Sound table.now lent.old.literal.now at × (shape_of (expr_of table.now lent.old.literal.now at) ≡ Shape.Operands fixed) }
-    ensures { Gives result lent.old lent.new (λ r. next_of table.now limit at fixed first r) }
+    requires { Sound table.now inputs.now.literal.now at × (shape_of (expr_of table.now inputs.now.literal.now at) ≡ Shape.Operands fixed) }
+    ensures { GivesCells result inputs.now text.now cells.old cells.new (λ r. next_of table.now limit at fixed first r) }
 {
     match fixed {
         Fixed::Unary(operator) => Next::Stop(unary(operator, first, at)),
@@ -61,14 +64,33 @@ pub fn after_first(
             after_condition(first, at, second, end_at(table, second))
         }
         Fixed::Select(test) => Next::Stop(select(
-            lent,
+            inputs,
+            cells,
+            text,
             limit,
             test,
             first,
             field_value(table, at),
             at,
         )),
-        Fixed::Call(function) => Next::Stop(call(lent, function, first, at)),
+        Fixed::Call(function) => Next::Stop(call(inputs, cells, text, function, first, at)),
         Fixed::OrValue => after_default(first, first_operand(table, at)),
     }
+}
+
+// The same of all that is lent to a run: what follows writes cells alone, and is lent them apart.
+pub fn next_after(
+    table: &[u8],
+    lent: &mut Lent,
+    limit: usize,
+    at: usize,
+    fixed: Fixed,
+    first: Outcome,
+) -> Next
+    requires { Sound table.now lent.old.literal.now at × (shape_of (expr_of table.now lent.old.literal.now at) ≡ Shape.Operands fixed) }
+    ensures { Gives result lent.old lent.new (λ r. next_of table.now limit at fixed first r) }
+{
+    let inputs = lent.inputs();
+    let text = &mut *lent.text;
+    after_first(table, &inputs, lent.cells, text, limit, at, fixed, first)
 }

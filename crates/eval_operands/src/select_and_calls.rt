@@ -2,7 +2,7 @@
 ghost use Rattle.machine.specs.Outcomes.{with_value};
 ghost use Rattle.machine.specs.Selection.{select_field};
 ghost use Rattle.machine.specs.Calls.{called};
-ghost use Rattle.eval_outcomes.specs.Gives.{Gives};
+ghost use Rattle.eval_outcomes.specs.Gives.{GivesCells};
 ghost use Rattle.eval_outcomes.specs.Seen.{function_seen};
 
 use eval_functions::optional_of::present;
@@ -11,52 +11,58 @@ use eval_functions::size::size;
 use eval_outcomes::operators::Function;
 use eval_selection::select::select_field;
 use machine::outcome::{Outcome, Used};
-use rooms::memory::Lent;
+use rooms::memory::Inputs;
 use rooms::value::Value;
 
 pub fn select(
-    lent: &mut Lent,
+    inputs: &Inputs,
+    cells: &mut [u64],
+    text: &[u8],
     limit: usize,
     test: bool,
     operand: Outcome,
     field: Value,
     at: usize,
 ) -> Outcome
-    ensures { Gives result lent.old lent.new (λ r. with_value operand r (λ v u q. select_field limit at test field v u q)) }
+    ensures { GivesCells result inputs.now text.now cells.old cells.new (λ r. with_value operand r (λ v u q. select_field limit at test field v u q)) }
 {
     let Outcome::Value(container, used) = operand else {
         return operand;
     };
-    // A look-up writes cells alone, and is lent them apart.
-    let inputs = lent.inputs();
-    let text = &mut *lent.text;
-    select_field(
-        &inputs, lent.cells, text, limit, test, container, field, at, used,
-    )
+    select_field(inputs, cells, text, limit, test, container, field, at, used)
 }
 
 fn call_value(
-    lent: &mut Lent,
+    inputs: &Inputs,
+    cells: &mut [u64],
+    text: &[u8],
     function: Function,
     argument: Value,
     at: usize,
     used: Used,
 ) -> Outcome
-    ensures { Gives result lent.old lent.new (λ r. called at (function_seen function) argument used r) }
+    ensures { GivesCells result inputs.now text.now cells.old cells.new (λ r. called at (function_seen function) argument used r) }
 {
     match function {
-        Function::Size => size(&lent.view(), argument, at, used),
-        Function::Of => present(lent.cells, argument, used),
+        Function::Size => size(&inputs.view(cells, text), argument, at, used),
+        Function::Of => present(cells, argument, used),
         Function::HasValue => has_value(argument, at, used),
-        Function::Value => value(&lent.view(), argument, at, used),
+        Function::Value => value(&inputs.view(cells, text), argument, at, used),
     }
 }
 
-pub fn call(lent: &mut Lent, function: Function, argument: Outcome, at: usize) -> Outcome
-    ensures { Gives result lent.old lent.new (λ r. with_value argument r (λ v u q. called at (function_seen function) v u q)) }
+pub fn call(
+    inputs: &Inputs,
+    cells: &mut [u64],
+    text: &[u8],
+    function: Function,
+    argument: Outcome,
+    at: usize,
+) -> Outcome
+    ensures { GivesCells result inputs.now text.now cells.old cells.new (λ r. with_value argument r (λ v u q. called at (function_seen function) v u q)) }
 {
     let Outcome::Value(value, used) = argument else {
         return argument;
     };
-    call_value(lent, function, value, at, used)
+    call_value(inputs, cells, text, function, value, at, used)
 }

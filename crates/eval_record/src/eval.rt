@@ -8,8 +8,8 @@ use crate::list_records::list_parts;
 use crate::map_records::map_parts;
 use crate::operands::operand;
 use eval_containers::begin;
-use eval_operands::after_first;
 use eval_operands::both_operands::after_both;
+use eval_operands::next_after;
 use eval_outcomes::outcomes::{out_of_cells, out_of_steps, stepped};
 use eval_shallow::shallow::reach_at;
 use eval_shapes::leaves::{leaf_value, slot_at};
@@ -63,7 +63,7 @@ pub fn eval(
             let one = begun_first(table, lent.literal, at, fixed);
             let slots = reach_at(table, lent.literal, one);
             let left = operand(table, lent, limit, one, slots, &scope, stepped);
-            match after_first(table, lent, limit, at, fixed, left) {
+            match next_after(table, lent, limit, at, fixed, left) {
                 Next::Stop(outcome) => outcome,
                 Next::At(two, more) => {
                     let slots = reach_at(table, lent.literal, two);

@@ -5,8 +5,8 @@ ghost use Rattle.eval_outcomes.specs.Gives.{Gives, Stays};
 ghost use Rattle.eval_shallow.specs.Slots.{flat_of, small_of, IsPair, PairHolds};
 
 use crate::slots::Pair;
-use eval_operands::after_first;
 use eval_operands::both_operands::after_both;
+use eval_operands::next_after;
 use eval_outcomes::outcomes::{out_of_steps, stepped};
 use eval_shapes::leaves::{is_leaf, leaf};
 use eval_shapes::next::Next;
@@ -36,7 +36,7 @@ pub fn flat(
         Shape::Operands(fixed) => {
             let one = begun_first(table, literal, at, fixed);
             let left = leaf(table, literal, limit, one, slots.first, begun);
-            match after_first(table, lent, limit, at, fixed, left) {
+            match next_after(table, lent, limit, at, fixed, left) {
                 Next::Stop(outcome) => outcome,
                 Next::At(two, more) => {
                     let right = leaf(table, literal, limit, two, slots.second, more);

@@ -6,8 +6,8 @@ ghost use Rattle.eval_shallow.specs.Slots.{near_of, IsQuad, QuadHolds};
 
 use crate::one_level::small;
 use crate::slots::Pair;
-use eval_operands::after_first;
 use eval_operands::both_operands::after_both;
+use eval_operands::next_after;
 use eval_outcomes::outcomes::{out_of_steps, stepped};
 use eval_shapes::next::Next;
 use eval_shapes::{Shape, begun_first, shape_at};
@@ -36,7 +36,7 @@ pub fn near(
         Shape::Operands(fixed) => {
             let one = begun_first(table, literal, at, fixed);
             let left = small(table, lent, limit, one, slots.first, begun);
-            match after_first(table, lent, limit, at, fixed, left) {
+            match next_after(table, lent, limit, at, fixed, left) {
                 Next::Stop(outcome) => outcome,
                 Next::At(two, more) => {
                     let right = small(table, lent, limit, two, slots.second, more);

@@ -119,31 +119,31 @@ eval::eval-operand-left-requires t c =
 pub eval::eval-reach_at-slots-requires-in-At : goal.eval::eval-reach_at-slots-requires-in-At
 eval::eval-reach_at-slots-requires-in-At t c =
     let x = fixed-at c.args.table.now c.args.lent.now.literal.now c.args.at c.requires c.in-Operands.fixed (sym c.shape_at.ensures ∙ c.in-Operands.is) in
-    let q = second_at c.args.table.now c.args.lent.now.literal.now c.args.limit c.args.at x c.operand-left.result (rooms_lent c.operand-left.new.lent) c.after_first.ensures.gives c.in-At.is in
-    let between = stays-on (stays c.operand-left.ensures) (stays c.after_first.ensures) in
+    let q = second_at c.args.table.now c.args.lent.now.literal.now c.args.limit c.args.at x c.operand-left.result (rooms_lent c.operand-left.new.lent) c.next_after.ensures.gives c.in-At.is in
+    let between = stays-on (stays c.operand-left.ensures) (stays c.next_after.ensures) in
     on-literal (λ z. Sound c.args.table.now z c.in-At.two) between.same_literal q.0
 
 pub eval::eval-operand-right-requires : goal.eval::eval-operand-right-requires
 eval::eval-operand-right-requires t c =
     let x = fixed-at c.args.table.now c.args.lent.now.literal.now c.args.at c.requires c.in-Operands.fixed (sym c.shape_at.ensures ∙ c.in-Operands.is) in
-    let q = second_at c.args.table.now c.args.lent.now.literal.now c.args.limit c.args.at x c.operand-left.result (rooms_lent c.operand-left.new.lent) c.after_first.ensures.gives c.in-At.is in
-    let between = stays-on (stays c.operand-left.ensures) (stays c.after_first.ensures) in
+    let q = second_at c.args.table.now c.args.lent.now.literal.now c.args.limit c.args.at x c.operand-left.result (rooms_lent c.operand-left.new.lent) c.next_after.ensures.gives c.in-At.is in
+    let between = stays-on (stays c.operand-left.ensures) (stays c.next_after.ensures) in
     (omega (arith, q.1), (on-literal (λ z. Sound c.args.table.now z c.in-At.two) between.same_literal q.0, c.reach_at-slots-in-At.ensures.0, c.reach_at-slots-in-At.ensures.1))
 
 pub eval::eval-returns-in-Stop : goal.eval::eval-returns-in-Stop
 eval::eval-returns-in-Stop t c =
     let x = fixed-at c.args.table.now c.args.lent.now.literal.now c.args.at c.requires c.in-Operands.fixed (sym c.shape_at.ensures ∙ c.in-Operands.is) in
     let left = c.operand-left.ensures.gives ∙ ap (λ (n : ℕ). machine c.args.table.now c.args.limit (expr_of c.args.table.now c.args.lent.now.literal.now n) c.args.scope c.stepped-stepped.result (rooms_lent c.args.lent.now)) c.begun_first-one.ensures in
-    let between = stays-on (stays c.operand-left.ensures) (stays c.after_first.ensures) in
-    stays-given between (after-step c.args.table.now c.args.lent.now.literal.now c.args.limit c.args.at c.args.scope c.args.used (rooms_lent c.args.lent.now) c.if-limit-used.false c.stepped-stepped.ensures (stops_first c.args.table.now c.args.lent.now.literal.now c.args.limit c.args.at c.args.scope c.stepped-stepped.result (rooms_lent c.args.lent.now) x left c.after_first.ensures.gives c.in-Stop.is))
+    let between = stays-on (stays c.operand-left.ensures) (stays c.next_after.ensures) in
+    stays-given between (after-step c.args.table.now c.args.lent.now.literal.now c.args.limit c.args.at c.args.scope c.args.used (rooms_lent c.args.lent.now) c.if-limit-used.false c.stepped-stepped.ensures (stops_first c.args.table.now c.args.lent.now.literal.now c.args.limit c.args.at c.args.scope c.stepped-stepped.result (rooms_lent c.args.lent.now) x left c.next_after.ensures.gives c.in-Stop.is))
 
 pub eval::eval-returns-in-At : goal.eval::eval-returns-in-At
 eval::eval-returns-in-At t c =
     let x = fixed-at c.args.table.now c.args.lent.now.literal.now c.args.at c.requires c.in-Operands.fixed (sym c.shape_at.ensures ∙ c.in-Operands.is) in
     let left = c.operand-left.ensures.gives ∙ ap (λ (n : ℕ). machine c.args.table.now c.args.limit (expr_of c.args.table.now c.args.lent.now.literal.now n) c.args.scope c.stepped-stepped.result (rooms_lent c.args.lent.now)) c.begun_first-one.ensures in
-    let between = stays-on (stays c.operand-left.ensures) (stays c.after_first.ensures) in
+    let between = stays-on (stays c.operand-left.ensures) (stays c.next_after.ensures) in
     let right = of-literal c.args.table.now c.args.limit c.in-At.two c.args.scope c.in-At.more between.same_literal c.operand-right.ensures in
-    stays-given (stays-on between (stays-on (stays c.operand-right.ensures) (stays c.after_both.ensures))) (after-step c.args.table.now c.args.lent.now.literal.now c.args.limit c.args.at c.args.scope c.args.used (rooms_lent c.args.lent.now) c.if-limit-used.false c.stepped-stepped.ensures (joins-both c.args.table.now c.args.lent.now.literal.now c.args.limit c.args.at c.args.scope c.stepped-stepped.result (rooms_lent c.args.lent.now) x left c.after_first.ensures.gives c.in-At.is right c.after_both.ensures.gives))
+    stays-given (stays-on between (stays-on (stays c.operand-right.ensures) (stays c.after_both.ensures))) (after-step c.args.table.now c.args.lent.now.literal.now c.args.limit c.args.at c.args.scope c.args.used (rooms_lent c.args.lent.now) c.if-limit-used.false c.stepped-stepped.ensures (joins-both c.args.table.now c.args.lent.now.literal.now c.args.limit c.args.at c.args.scope c.stepped-stepped.result (rooms_lent c.args.lent.now) x left c.next_after.ensures.gives c.in-At.is right c.after_both.ensures.gives))
 
 -- ---- `list_parts`: the elements of a List, one after the other
 

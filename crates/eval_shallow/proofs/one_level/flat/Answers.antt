@@ -28,35 +28,35 @@ leaf-left-requires c =
     let shape = sym c.shape_at.ensures ∙ c.in-Operands.is in
     first_leaf c.args.table.now c.args.lent.now.literal.now c.args.limit c.args.at c.requires.0 shape c.requires.1 c.begun_first-one.ensures
 
-pub after_first-requires : goal.after_first-requires
-after_first-requires c = (c.requires.0, sym c.shape_at.ensures ∙ c.in-Operands.is)
+pub next_after-requires : goal.next_after-requires
+next_after-requires c = (c.requires.0, sym c.shape_at.ensures ∙ c.in-Operands.is)
 
 pub leaf-right-requires : goal.leaf-right-requires
 leaf-right-requires c =
     let shape = sym c.shape_at.ensures ∙ c.in-Operands.is in
-    next-leaf c.args.table.now c.args.lent.now.literal.now c.args.limit c.args.at c.requires.0 shape c.requires.1 c.leaf-left.result (rooms_lent c.args.lent.now) c.after_first.ensures.gives c.in-At.is
+    next-leaf c.args.table.now c.args.lent.now.literal.now c.args.limit c.args.at c.requires.0 shape c.requires.1 c.leaf-left.result (rooms_lent c.args.lent.now) c.next_after.ensures.gives c.in-At.is
 
 pub returns-in-Stop : goal.returns-in-Stop
 returns-in-Stop c =
     let shape = sym c.shape_at.ensures ∙ c.in-Operands.is in
     let operands = fixed-at c.args.table.now c.args.lent.now.literal.now c.args.at c.requires.0 c.in-Operands.fixed shape in
-    let same = stays c.after_first.ensures in (
+    let same = stays c.next_after.ensures in (
       same,
       λ s h.
           let first = first_does c.args.table.now c.args.lent.now.literal.now c.args.limit c.args.at c.requires.0 shape c.requires.1 s c.args.slots h c.begun_first-one.ensures c.stepped-begun.result c.leaf-left.ensures (rooms_lent c.args.lent.now) in
-          stays-given same (after-step c.args.table.now c.args.lent.now.literal.now c.args.limit c.args.at s c.args.used (rooms_lent c.args.lent.now) c.if-limit-used.false c.stepped-begun.ensures (stops_first c.args.table.now c.args.lent.now.literal.now c.args.limit c.args.at s c.stepped-begun.result (rooms_lent c.args.lent.now) operands first c.after_first.ensures.gives c.in-Stop.is)),
+          stays-given same (after-step c.args.table.now c.args.lent.now.literal.now c.args.limit c.args.at s c.args.used (rooms_lent c.args.lent.now) c.if-limit-used.false c.stepped-begun.ensures (stops_first c.args.table.now c.args.lent.now.literal.now c.args.limit c.args.at s c.stepped-begun.result (rooms_lent c.args.lent.now) operands first c.next_after.ensures.gives c.in-Stop.is)),
     )
 
 pub returns-in-At : goal.returns-in-At
 returns-in-At c =
     let shape = sym c.shape_at.ensures ∙ c.in-Operands.is in
     let operands = fixed-at c.args.table.now c.args.lent.now.literal.now c.args.at c.requires.0 c.in-Operands.fixed shape in
-    let same = stays-on (stays c.after_first.ensures) (stays c.after_both.ensures) in (
+    let same = stays-on (stays c.next_after.ensures) (stays c.after_both.ensures) in (
       same,
       λ s h.
           let first = first_does c.args.table.now c.args.lent.now.literal.now c.args.limit c.args.at c.requires.0 shape c.requires.1 s c.args.slots h c.begun_first-one.ensures c.stepped-begun.result c.leaf-left.ensures (rooms_lent c.args.lent.now) in
-          let second = next-does c.args.table.now c.args.lent.now.literal.now c.args.limit c.args.at c.requires.0 shape c.requires.1 s c.args.slots h c.leaf-left.result (rooms_lent c.args.lent.now) c.after_first.ensures.gives c.in-At.is c.leaf-right.ensures _ in
-          stays-given same (after-step c.args.table.now c.args.lent.now.literal.now c.args.limit c.args.at s c.args.used (rooms_lent c.args.lent.now) c.if-limit-used.false c.stepped-begun.ensures (joins-both c.args.table.now c.args.lent.now.literal.now c.args.limit c.args.at s c.stepped-begun.result (rooms_lent c.args.lent.now) operands first c.after_first.ensures.gives c.in-At.is second c.after_both.ensures.gives)),
+          let second = next-does c.args.table.now c.args.lent.now.literal.now c.args.limit c.args.at c.requires.0 shape c.requires.1 s c.args.slots h c.leaf-left.result (rooms_lent c.args.lent.now) c.next_after.ensures.gives c.in-At.is c.leaf-right.ensures _ in
+          stays-given same (after-step c.args.table.now c.args.lent.now.literal.now c.args.limit c.args.at s c.args.used (rooms_lent c.args.lent.now) c.if-limit-used.false c.stepped-begun.ensures (joins-both c.args.table.now c.args.lent.now.literal.now c.args.limit c.args.at s c.stepped-begun.result (rooms_lent c.args.lent.now) operands first c.next_after.ensures.gives c.in-At.is second c.after_both.ensures.gives)),
     )
 
 pub returns-in_default : goal.returns-in_default

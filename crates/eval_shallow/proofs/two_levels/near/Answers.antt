@@ -28,37 +28,37 @@ small-left-requires c =
     let shape = sym c.shape_at.ensures ∙ c.in-Operands.is in
     first_small c.args.table.now c.args.lent.now.literal.now c.args.limit c.args.at c.requires.0 shape c.requires.1 c.begun_first-one.ensures
 
-pub after_first-requires : goal.after_first-requires
-after_first-requires c = rw c.small-left.ensures.0.same_literal (c.requires.0, sym c.shape_at.ensures ∙ c.in-Operands.is)
+pub next_after-requires : goal.next_after-requires
+next_after-requires c = rw c.small-left.ensures.0.same_literal (c.requires.0, sym c.shape_at.ensures ∙ c.in-Operands.is)
 
 pub small-right-requires : goal.small-right-requires
 small-right-requires c =
     let shape = sym c.shape_at.ensures ∙ c.in-Operands.is in
-    let same = stays-on c.small-left.ensures.0 (stays c.after_first.ensures) in
-    rw same.same_literal (next_small c.args.table.now c.args.lent.now.literal.now c.args.limit c.args.at c.requires.0 shape c.requires.1 c.small-left.result (rooms_lent c.small-left.new.lent) c.after_first.ensures.gives c.in-At.is)
+    let same = stays-on c.small-left.ensures.0 (stays c.next_after.ensures) in
+    rw same.same_literal (next_small c.args.table.now c.args.lent.now.literal.now c.args.limit c.args.at c.requires.0 shape c.requires.1 c.small-left.result (rooms_lent c.small-left.new.lent) c.next_after.ensures.gives c.in-At.is)
 
 pub returns-in-Stop : goal.returns-in-Stop
 returns-in-Stop c =
     let shape = sym c.shape_at.ensures ∙ c.in-Operands.is in
     let operands = fixed-at c.args.table.now c.args.lent.now.literal.now c.args.at c.requires.0 c.in-Operands.fixed shape in
-    let same = stays-on c.small-left.ensures.0 (stays c.after_first.ensures) in (
+    let same = stays-on c.small-left.ensures.0 (stays c.next_after.ensures) in (
       same,
       λ s h.
           let first = first-near c.args.table.now c.args.lent.now.literal.now c.args.limit c.args.at c.requires.0 shape s c.args.slots h c.begun_first-one.ensures c.stepped-begun.result (rooms_lent c.args.lent.now) (λ s h. (c.small-left.ensures.1 s h).gives) in
-          stays-given same (after-step c.args.table.now c.args.lent.now.literal.now c.args.limit c.args.at s c.args.used (rooms_lent c.args.lent.now) c.if-limit-used.false c.stepped-begun.ensures (stops_first c.args.table.now c.args.lent.now.literal.now c.args.limit c.args.at s c.stepped-begun.result (rooms_lent c.args.lent.now) operands first c.after_first.ensures.gives c.in-Stop.is)),
+          stays-given same (after-step c.args.table.now c.args.lent.now.literal.now c.args.limit c.args.at s c.args.used (rooms_lent c.args.lent.now) c.if-limit-used.false c.stepped-begun.ensures (stops_first c.args.table.now c.args.lent.now.literal.now c.args.limit c.args.at s c.stepped-begun.result (rooms_lent c.args.lent.now) operands first c.next_after.ensures.gives c.in-Stop.is)),
     )
 
 pub returns-in-At : goal.returns-in-At
 returns-in-At c =
     let shape = sym c.shape_at.ensures ∙ c.in-Operands.is in
     let operands = fixed-at c.args.table.now c.args.lent.now.literal.now c.args.at c.requires.0 c.in-Operands.fixed shape in
-    let between = stays-on c.small-left.ensures.0 (stays c.after_first.ensures) in
+    let between = stays-on c.small-left.ensures.0 (stays c.next_after.ensures) in
     let same = stays-on between (stays-on c.small-right.ensures.0 (stays c.after_both.ensures)) in (
       same,
       λ s h.
           let first = first-near c.args.table.now c.args.lent.now.literal.now c.args.limit c.args.at c.requires.0 shape s c.args.slots h c.begun_first-one.ensures c.stepped-begun.result (rooms_lent c.args.lent.now) (λ s h. (c.small-left.ensures.1 s h).gives) in
-          let second = next-near c.args.table.now c.args.lent.now.literal.now c.args.limit c.args.at c.requires.0 shape s c.args.slots h c.small-left.result (rooms_lent c.small-left.new.lent) c.after_first.ensures.gives c.in-At.is _ between.same_literal (λ s h. (c.small-right.ensures.1 s h).gives) in
-          stays-given same (after-step c.args.table.now c.args.lent.now.literal.now c.args.limit c.args.at s c.args.used (rooms_lent c.args.lent.now) c.if-limit-used.false c.stepped-begun.ensures (joins-both c.args.table.now c.args.lent.now.literal.now c.args.limit c.args.at s c.stepped-begun.result (rooms_lent c.args.lent.now) operands first c.after_first.ensures.gives c.in-At.is second c.after_both.ensures.gives)),
+          let second = next-near c.args.table.now c.args.lent.now.literal.now c.args.limit c.args.at c.requires.0 shape s c.args.slots h c.small-left.result (rooms_lent c.small-left.new.lent) c.next_after.ensures.gives c.in-At.is _ between.same_literal (λ s h. (c.small-right.ensures.1 s h).gives) in
+          stays-given same (after-step c.args.table.now c.args.lent.now.literal.now c.args.limit c.args.at s c.args.used (rooms_lent c.args.lent.now) c.if-limit-used.false c.stepped-begun.ensures (joins-both c.args.table.now c.args.lent.now.literal.now c.args.limit c.args.at s c.stepped-begun.result (rooms_lent c.args.lent.now) operands first c.next_after.ensures.gives c.in-At.is second c.after_both.ensures.gives)),
     )
 
 pub returns-in_default : goal.returns-in_default

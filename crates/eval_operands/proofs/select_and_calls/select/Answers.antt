@@ -1,6 +1,0 @@
--- `select_and_calls::select` meets its contract. Assumes nothing.
-use Rattle.std.proofs.Common.{rules}
-use Rattle.eval_operands.proofs.select_and_calls.select.Goals as goal
-
-pub returns : goal.returns
-returns c = search (rules, c.inputs-inputs.ensures c.select_field.new.cells c.args.lent.now.text.now, c.inputs-inputs.ensures c.args.lent.now.cells.now c.args.lent.now.text.now)
