@@ -1,7 +1,7 @@
 // What a line of `replay` spells and binds: here the binding room that stands between two lines, taken anew, bound in and emptied.
 #![tactic(auto)]
 
-ghost use Rattle.std.specs.Prelude.{◌≡◌};
+ghost use Rattle.replay_lines.specs.Leaves.{Leaves};
 
 use crate::line::Words;
 use bindings_sound::Bindings;
@@ -85,7 +85,7 @@ impl Bench {
 
     // `bind NAME TEXTHEX TABLEHEX`. What an evaluation writes stays as it is.
     pub fn bind(&mut self, words: &mut Words, memory: &mut Memory) -> Option<Result<(), Refusal>>
-        ensures { (memory.new.cells.now ≡ memory.old.cells.now) × (memory.new.text.now ≡ memory.old.text.now) × (memory.new.out.now ≡ memory.old.out.now) }
+        ensures { Leaves memory.old memory.new }
     {
         self.bring(
             words,
