@@ -26,8 +26,8 @@ pub struct Bindings {
 }
 
 // The first bad cell, if there is one. A cell may refer only to later ones.
-fn first_bad(room: Room) -> Option<usize>
-    ensures { result ≡ first_bad room.entry.cells.now room.entry.text.now room.entry.used room.entry.bytes 0 room.entry.used }
+fn first_bad(room: &Room) -> Option<usize>
+    ensures { result ≡ first_bad room.now.cells.now room.now.text.now room.now.used room.now.bytes 0 room.now.used }
 {
     for at in 0..room.used {
         if !room.value_fits(at + 1, read_cell(room.cells, at)) {
@@ -37,8 +37,8 @@ fn first_bad(room: Room) -> Option<usize>
     None
 }
 
-fn slots_fit(room: Room, scope: Scope) -> bool
-    ensures { result ≡ slots_fit room.entry.cells.now room.entry.text.now room.entry.used room.entry.bytes scope 0 names }
+fn slots_fit(room: &Room, scope: Scope) -> bool
+    ensures { result ≡ slots_fit room.now.cells.now room.now.text.now room.now.used room.now.bytes scope 0 names }
 {
     for slot in &scope.slots {
         if !room.slot_fits(slot.value) {
@@ -60,8 +60,8 @@ pub fn sound(cells: &[u64], text: &[u8], bindings: Bindings) -> Result<(), usize
         used: bindings.cells.min(cell_room(cells)),
         bytes: bindings.bytes.min(text_room(text)),
     };
-    let fit = slots_fit(room, bindings.scope);
-    if let Some(bad) = first_bad(room) {
+    let fit = slots_fit(&room, bindings.scope);
+    if let Some(bad) = first_bad(&room) {
         return Err(bad);
     }
     if room.used < bindings.cells {

@@ -30,7 +30,9 @@ fn repeated(cells: &[u64], text: &[u8], key: Value, first: usize, count: usize) 
     false
 }
 
-// Whether each of `length` entries, the first at cell `first`, has a key that is unlike the keys behind it.
+// Whether each of `length` entries, the first at cell `first`, has a key that is unlike the keys behind it. (Not inlined, so that
+// `value_fits`, which is, stays small.)
+#[inline(never)]
 pub fn keys_fit(cells: &[u64], text: &[u8], first: u16, length: u16) -> bool
     ensures { result ≡ keys_fit cells.now text.now first length }
 {

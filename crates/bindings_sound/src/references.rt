@@ -26,7 +26,7 @@ impl Room<'_> {
     // A container that states `nesting` and refers to `count` cells from `first` on. `least` is the first cell that it may refer to.
     // No container nests 0 deep: that is seen without a look at its cells.
     pub fn row_fits(
-        self,
+        &self,
         least: usize,
         nesting: u8,
         space: CellSpace,
@@ -34,7 +34,7 @@ impl Room<'_> {
         count: usize,
     ) -> bool
         requires { count < 131072 }
-        ensures { result ≡ row_fits self.entry.cells.now self.entry.used least nesting space first count }
+        ensures { result ≡ row_fits self.now.cells.now self.now.used least nesting space first count }
     {
         let from = first as usize;
         matches!(space, CellSpace::Binding)
@@ -46,14 +46,14 @@ impl Room<'_> {
     }
 
     // A span of the text.
-    pub fn span_fits(self, space: TextSpace, first: u16, length: u16) -> bool
-        ensures { result ≡ span_fits self.entry.bytes space first length }
+    pub fn span_fits(&self, space: TextSpace, first: u16, length: u16) -> bool
+        ensures { result ≡ span_fits self.now.bytes space first length }
     {
         matches!(space, TextSpace::Binding) && first as usize + length as usize <= self.bytes
     }
 
-    pub fn string_fits(self, space: TextSpace, first: u16, length: u16) -> bool
-        ensures { result ≡ string_fits self.entry.text.now self.entry.bytes space first length }
+    pub fn string_fits(&self, space: TextSpace, first: u16, length: u16) -> bool
+        ensures { result ≡ string_fits self.now.text.now self.now.bytes space first length }
     {
         self.span_fits(space, first, length)
             && text::utf8::well_formed(part(self.text, first as usize, length as usize))

@@ -16,16 +16,17 @@ pub fn is_absent(v: Value) -> bool
 }
 
 impl Room<'_> {
-    fn map_fits(self, least: usize, nesting: u8, space: CellSpace, first: u16, length: u16) -> bool
-        ensures { result ≡ map_fits self.entry.cells.now self.entry.text.now self.entry.used least nesting space first length }
+    fn map_fits(&self, least: usize, nesting: u8, space: CellSpace, first: u16, length: u16) -> bool
+        ensures { result ≡ map_fits self.now.cells.now self.now.text.now self.now.used least nesting space first length }
     {
         self.row_fits(least, nesting, space, first, 2 * (length as usize))
             && keys_fit(self.cells, self.text, first, length)
     }
 
-    // Whether a binding can have written this.
-    pub fn value_fits(self, least: usize, v: Value) -> bool
-        ensures { result ≡ value_fits self.entry.cells.now self.entry.text.now self.entry.used self.entry.bytes least v }
+    // Whether a binding can have written this. (Inlined into the loops over cells and slots: there a call of its own can be seen in the time.)
+    #[inline(always)]
+    pub fn value_fits(&self, least: usize, v: Value) -> bool
+        ensures { result ≡ value_fits self.now.cells.now self.now.text.now self.now.used self.now.bytes least v }
     {
         match v {
             Value::String(span) => self.string_fits(span.space, span.first, span.length),
@@ -42,8 +43,8 @@ impl Room<'_> {
     }
 
     // A slot may be absent, and may refer to any cell.
-    pub fn slot_fits(self, v: Value) -> bool
-        ensures { result ≡ slot_fits self.entry.cells.now self.entry.text.now self.entry.used self.entry.bytes v }
+    pub fn slot_fits(&self, v: Value) -> bool
+        ensures { result ≡ slot_fits self.now.cells.now self.now.text.now self.now.used self.now.bytes v }
     {
         is_absent(v) || self.value_fits(0, v)
     }
